@@ -1,5 +1,6 @@
 pub mod Product
 mod WrittenWords
+pub mod RowEffects
 pub mod Texts
 pub mod Runs
 pub mod Reached

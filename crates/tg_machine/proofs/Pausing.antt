@@ -1,26 +1,10 @@
 -- How steps without a service go on, and what they leave of a call.
-use Rattle.std.proofs.Common.{◌≡◌, ◌<◌, ◌+◌, ℕ, zero, suc, List, Option, Ok, arith, sym, ap, ◌∙◌, subst}
-use Rattle.tg_base.specs.State.{MachineState, go}
-use Rattle.tg_base.specs.Services.{Step, Goes, Ends, Reads, Writes}
-use Rattle.tg_base.specs.Words.{add}
-use Rattle.tg_isa.specs.declared.mips.Mips.{Mips}
-use Rattle.tg_isa.specs.Effects.{effect, fetch, performed, step}
-use Rattle.tg_machine.specs.Moves.{IsDone}
+use Rattle.std.proofs.Common.{◌≡◌, ◌<◌, ◌+◌, ℕ, zero, suc, List, Option, arith, sym, subst}
+use Rattle.tg_base.specs.State.{MachineState}
+use Rattle.tg_base.specs.Services.{Step, Goes}
+use Rattle.tg_isa.specs.Effects.{step}
 use Rattle.tg_machine.specs.Pauses.{RunsTo}
 use Rattle.tg_machine.proofs.Reached.{Reached, reached_goes}
-
--- what goes on without a read or a write
-goes : {T : Type 0} (done : T) (new : MachineState) (d : Step) → IsDone d (Ok done) new → d ≡ Goes new
-goes done new (Goes s) h = ap Goes (sym h)
-goes done new (Ends e) h = absurd h
-goes done new (Reads s) h = absurd h
-goes done new (Writes bytes s) h = absurd h
-
--- a step whose instruction was fetched and executed
-pub step_done : {T : Type 0} (done : T) (mid after new : MachineState) (place : ℕ) (one : Mips) → Ok one ≡ fetch mid → place ≡ mid.place →
-    after ≡ go mid (add place 4) → IsDone (effect one after) (Ok done) new → step mid ≡ Goes new
-step_done done mid after new place one f p a d =
-    ap (performed mid) (sym f) ∙ ap (λ n. effect one (go mid (add n 4))) (sym p) ∙ ap (effect one) (sym a) ∙ goes done new (effect one after) d
 
 -- one step more
 pub runs_more : (n : ℕ) (s mid t : MachineState) → RunsTo n s mid → step mid ≡ Goes t → RunsTo (n + 1) s t

@@ -1,8 +1,8 @@
 -- What the fields of a core keep.
 use Rattle.std.specs.Prelude.{◌%◌, ◌≤◌, ◌≡◌, length, vec_capacity, map}
 use Rattle.tg_base.specs.State.{MachineState, most_words, most_bytes, most_room}
-use Rattle.tg_isa.specs.Table.{decode_of}
 use Rattle.tg_machine.specs.declared.cores.Core.TheInside.{Inside}
+use Rattle.tg_machine.specs.Rows.{row_of}
 
 -- the state that the fields are
 abbrev pub state_of : Inside → MachineState
@@ -18,7 +18,7 @@ state_of m = record {
   stack = m.stack;
 }
 
--- the sizes of the regions, in whole words, with the heap's memory taken, and each word decoded
+-- the sizes of the regions, in whole words, with the heap's memory taken, and the row of each word
 pub record IsLaidOut (m : Inside) : Type 0 where
   pub code_fits : length m.code.items ≤ most_words
   pub statics_fit : length m.statics.items ≤ most_bytes
@@ -29,4 +29,4 @@ pub record IsLaidOut (m : Inside) : Type 0 where
   pub room_held : m.room ≤ vec_capacity m.heap
   pub stack_fits : length m.stack ≤ most_room
   pub stack_whole : length m.stack % 4 ≡ 0
-  pub decoded : m.rows.items ≡ map decode_of m.code.items
+  pub rows_are : m.rows.items ≡ map row_of m.code.items

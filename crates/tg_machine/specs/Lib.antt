@@ -1,6 +1,7 @@
 pub mod Machines
 pub mod Inside
 pub mod Ran
+pub mod Rows
 pub mod Layout
 pub mod Moves
 pub mod Pauses

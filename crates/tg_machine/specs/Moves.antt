@@ -6,7 +6,7 @@ use Rattle.tg_base.specs.declared.ends.RunEnd.{RunEnd}
 use Rattle.tg_base.specs.declared.ends.RunEnd.TheVariants.{StepLimit, ReadFault, WriteFault}
 use Rattle.tg_base.specs.Causes.{Rose}
 use Rattle.tg_base.specs.Writes.{TakesFront}
-use Rattle.tg_base.specs.State.{MachineState, load_byte, stack_top}
+use Rattle.tg_base.specs.State.{MachineState, go, load_byte, stack_top}
 use Rattle.tg_base.specs.Services.{Step, Goes, Ends, Reads, Writes, answered, text_at}
 use Rattle.tg_machine.specs.Ran.{saturating_sum}
 
@@ -26,6 +26,16 @@ IsDone (Ends e) (Ok done) new = ⊥
 IsDone (Ends e) (Err f) new = (f ≡ e) × IsOwn f
 IsDone (Reads s) result new = ⊥
 IsDone (Writes bytes s) result new = ⊥
+
+-- a row that neither reads nor writes left this state but for its place, which was answered, or
+-- ended so
+abbrev pub GoesOn : Step → Result ℕ RunEnd → MachineState → Type 0
+GoesOn (Goes s) (Ok place) new = go new place ≡ s
+GoesOn (Goes s) (Err f) new = ⊥
+GoesOn (Ends e) (Ok place) new = ⊥
+GoesOn (Ends e) (Err f) new = (f ≡ e) × IsOwn f
+GoesOn (Reads s) result new = ⊥
+GoesOn (Writes bytes s) result new = ⊥
 
 -- a source answered its next byte, or None at its end
 abbrev pub Answers : Option (List ℕ) → Option (List ℕ) → Option ℕ → Type 0

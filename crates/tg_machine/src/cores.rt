@@ -1,18 +1,19 @@
-ghost use Rattle.std.specs.Prelude.{◌≡◌, ◌<◌, ◌≤◌, ◌%◌, IfErr, IfOk};
+ghost use Rattle.std.specs.Prelude.{◌≡◌, ◌<◌, ◌≤◌, ◌%◌, IfErr, IfOk, Err, None};
 ghost use Rattle.tg_base.specs.Services.{take_heap};
 ghost use Rattle.tg_base.specs.State as state;
 ghost use Rattle.tg_base.specs.Words.{product_high, product_low};
 ghost use Rattle.tg_isa.specs.Effects as effects;
 ghost use Rattle.tg_machine.specs.Moves.{IsDone, IsOwn};
+ghost use Rattle.tg_machine.specs.Rows.{address, row_at};
 
+use crate::rows::Row;
 use crate::stacks::Stack;
-use crate::words::{extend, offset, product, remainder, set_word, word_at};
+use crate::words::{offset, product, remainder, set_word, word_at};
 use std::marker::Model;
 use tg_base::{CODE_BASE, HEAP_BASE, RunEnd, STACK_REACH, STACK_TOP, STATICS_BASE, quot};
-use tg_isa::{Bits, Mips, Reg};
+use tg_isa::Reg;
 
-/// A program in memory with its registers. Each word of code stands beside its instruction, decoded
-/// once.
+/// A program in memory with its registers. Each word of code stands beside its row, worked out once.
 #[derive(Drop)]
 pub struct Core {
     pub(crate) registers: [u32; 32],
@@ -20,7 +21,7 @@ pub struct Core {
     pub(crate) lo: u32,
     pub(crate) place: u32,
     pub(crate) code: Vec<u32>,
-    pub(crate) rows: Vec<Option<Mips>>,
+    pub(crate) rows: Vec<Row>,
     pub(crate) statics: Vec<u8>,
     pub(crate) heap: Vec<u8>,
     pub(crate) room: u32,
@@ -165,27 +166,35 @@ impl Core {
         Err(self.fault(address))
     }
 
-    /// The instruction at the place. Place 0 ends the run with exit code 0; so does a place without
-    /// a word of the table, by its address or its word.
+    /// The row at a place, where it is that of a word of the code.
     #[inline(always)]
-    pub fn fetch(&self) -> Result<Mips, RunEnd>
-        ensures value { result ≡ effects.fetch self.now }
-        ensures own { IfErr result IsOwn }
+    pub(crate) fn row_at(&self, place: u32) -> Option<Row>
+        ensures { result ≡ row_at self.now.code place }
     {
-        let place = self.place;
+        // The two lowest bits go to the front: a place between two words is beyond all code.
+        let above = place.wrapping_sub(CODE_BASE);
+        let index = (above / 4 + above % 4 * 1073741824) as usize;
+        if index < self.rows.len() {
+            Some(self.rows[index])
+        } else {
+            None
+        }
+    }
+
+    /// How a run ends at a place outside the code. Place 0 ends it with exit code 0.
+    #[inline(never)]
+    pub(crate) fn outside(&self, place: u32) -> RunEnd
+        requires { row_at self.now.code place ≡ None }
+        ensures value { Err result ≡ effects.fetch (state.go self.now place) }
+        ensures own { IsOwn result }
+    {
         if place == 0 {
-            return Err(RunEnd::Exit(0));
+            return RunEnd::Exit(0);
         }
         if place % 4 != 0 {
-            return Err(RunEnd::Unaligned(place));
+            return RunEnd::Unaligned(place);
         }
-        match offset(place, CODE_BASE, 4 * self.code.len()) {
-            Some(at) => match self.rows[at / 4] {
-                Some(one) => Ok(one),
-                None => Err(RunEnd::BadWord(self.code[at / 4])),
-            },
-            None => Err(RunEnd::BadAddress(place)),
-        }
+        RunEnd::BadAddress(place)
     }
 
     /// The value of lo.
@@ -202,22 +211,6 @@ impl Core {
         ensures { result ≡ self.now.hi }
     {
         self.hi
-    }
-
-    /// The place of the next instruction.
-    #[inline(always)]
-    pub fn place(&self) -> u32
-        ensures { result ≡ self.now.place }
-    {
-        self.place
-    }
-
-    /// Goes on at a place.
-    #[inline(always)]
-    pub fn go(&mut self, place: u32)
-        ensures { self.new ≡ state.go self.old place }
-    {
-        self.place = place;
     }
 
     /// Puts the signed product of two words into hi and lo.
@@ -244,10 +237,10 @@ impl Core {
 
     /// The address of a load or a store.
     #[inline(always)]
-    pub fn address(&self, base: Reg, number: Bits<16>) -> u32
-        ensures { result ≡ effects.address self.now base number }
+    pub fn address(&self, base: Reg, word: u32) -> u32
+        ensures { result ≡ address self.now base word }
     {
-        self.register(base).wrapping_add(extend(number))
+        self.register(base).wrapping_add(word)
     }
 
     /// Takes so many more bytes of heap, if there is room, and answers where they begin in $v0.

@@ -1,207 +1,253 @@
-ghost use Rattle.std.specs.Prelude.{◌≡◌, ◌≢◌, IfErr};
+ghost use Rattle.std.specs.Prelude.{◌≡◌, ◌≢◌, ◌+◌, ◌*◌, ◌/◌, ◌^◌, if◌then◌else◌};
+ghost use Rattle.tg_base.specs.Services.{Goes};
+ghost use Rattle.tg_base.specs.State as state;
+ghost use Rattle.tg_base.specs.Words as words;
 ghost use Rattle.tg_isa.specs.Effects as effects;
-ghost use Rattle.tg_machine.specs.Moves.{IsDone, IsOwn};
+ghost use Rattle.tg_isa.specs.declared.mips.Mips.TheVariants as mips;
+ghost use Rattle.tg_machine.specs.Moves.{GoesOn};
+ghost use Rattle.tg_machine.specs.Rows as rows;
 
 use crate::cores::Core;
-use crate::words::{difference_of, extend, extend_byte, sum_of};
-use tg_base::{RunEnd, add, less_signed, less_unsigned, mul, sub};
-use tg_isa::{Bits, Mips, Reg};
+use crate::rows::Row;
+use crate::words::{difference_of, extend_byte, sum_of};
+use tg_base::{RunEnd, add, less_signed, less_unsigned, sub};
+use tg_isa::{Bits, Reg};
 
+/// What rows do. `next` is the place of the next instruction, and the place to go on at is answered:
+/// the one in the core is neither read nor written.
 impl Core {
+    /// Puts a value into a register.
+    #[inline(always)]
+    fn put(&mut self, number: Reg, value: u32, next: u32) -> Result<u32, RunEnd>
+        ensures { GoesOn (Goes (state.set_register (state.go self.old next) number value))
+            result self.new }
+    {
+        self.set(number, value);
+        Ok(next)
+    }
+
     /// Puts an exact result into a register.
     #[inline(always)]
-    fn put_exact(&mut self, number: Reg, value: Option<u32>) -> Result<(), RunEnd>
-        ensures { IsDone (effects.put_exact self.old number value) result self.new }
+    fn put_exact(&mut self, number: Reg, value: Option<u32>, next: u32) -> Result<u32, RunEnd>
+        ensures { GoesOn (effects.put_exact (state.go self.old next) number value)
+            result self.new }
     {
         match value {
-            Some(value) => {
-                self.set(number, value);
-                Ok(())
-            }
+            Some(value) => self.put(number, value, next),
             None => Err(RunEnd::Overflow),
         }
     }
 
-    /// Puts what was loaded into a register.
+    /// Puts the word at an address into a register.
     #[inline(always)]
-    fn put(&mut self, number: Reg, value: Result<u32, RunEnd>) -> Result<(), RunEnd>
-        requires { IfErr value IsOwn }
-        ensures { IsDone (effects.put self.old number value) result self.new }
+    fn put_word(&mut self, number: Reg, address: u32, next: u32) -> Result<u32, RunEnd>
+        ensures { GoesOn (effects.put (state.go self.old next) number
+            (state.load_word (state.go self.old next) address)) result self.new }
     {
-        match value {
-            Ok(value) => {
-                self.set(number, value);
-                Ok(())
-            }
+        match self.load_word(address) {
+            Ok(value) => self.put(number, value, next),
             Err(end) => Err(end),
         }
     }
 
-    /// Puts a byte that was loaded into a register.
+    /// Puts the byte at an address into a register.
     #[inline(always)]
-    fn put_byte(&mut self, number: Reg, value: Result<u8, RunEnd>) -> Result<(), RunEnd>
-        requires { IfErr value IsOwn }
-        ensures { IsDone (effects.put self.old number value) result self.new }
+    fn put_byte(&mut self, number: Reg, address: u32, next: u32) -> Result<u32, RunEnd>
+        ensures { GoesOn (effects.put (state.go self.old next) number
+            (state.load_byte (state.go self.old next) address)) result self.new }
     {
-        match value {
-            Ok(byte) => {
-                self.set(number, u32::from(byte));
-                Ok(())
-            }
+        match self.load_byte(address) {
+            Ok(byte) => self.put(number, u32::from(byte), next),
             Err(end) => Err(end),
         }
     }
 
-    /// Puts a byte that was loaded into a register, with its sign.
+    /// Puts the byte at an address into a register, with its sign.
     #[inline(always)]
-    fn put_signed_byte(&mut self, number: Reg, value: Result<u8, RunEnd>) -> Result<(), RunEnd>
-        requires { IfErr value IsOwn }
-        ensures { IsDone (effects.put self.old number (effects.extended_load value))
+    fn put_signed_byte(&mut self, number: Reg, address: u32, next: u32) -> Result<u32, RunEnd>
+        ensures { GoesOn (effects.put (state.go self.old next) number
+            (effects.extended_load (state.load_byte (state.go self.old next) address)))
             result self.new }
     {
-        match value {
-            Ok(byte) => {
-                self.set(number, extend_byte(byte));
-                Ok(())
-            }
+        match self.load_byte(address) {
+            Ok(byte) => self.put(number, extend_byte(byte), next),
             Err(end) => Err(end),
         }
     }
 
-    /// Goes so many words further on.
+    /// Stores a word.
     #[inline(always)]
-    fn branch(&mut self, number: Bits<16>)
-        ensures { self.new ≡ effects.branch self.old number }
+    fn keep_word(&mut self, address: u32, value: u32, next: u32) -> Result<u32, RunEnd>
+        ensures { GoesOn (effects.stored (state.store_word (state.go self.old next) address value))
+            result self.new }
     {
-        self.go(add(self.place(), mul(4, extend(number))));
-    }
-
-    /// Goes so many words further on, where a test holds.
-    #[inline(always)]
-    fn branch_if(&mut self, holds: bool, number: Bits<16>) -> Result<(), RunEnd>
-        ensures { IsDone (effects.branch_if holds self.old number) result self.new }
-    {
-        if holds {
-            self.branch(number);
+        match self.store_word(address, value) {
+            Ok(()) => Ok(next),
+            Err(end) => Err(end),
         }
-        Ok(())
     }
 
-    /// The place of a jump.
+    /// Stores the low byte of a word.
     #[inline(always)]
-    fn jump(&self, target: Bits<26>) -> u32
-        ensures { result ≡ effects.jump self.now target }
+    fn keep_byte(&mut self, address: u32, value: u32, next: u32) -> Result<u32, RunEnd>
+        ensures { GoesOn (effects.stored (state.store_byte (state.go self.old next) address value))
+            result self.new }
     {
-        self.place() / 268435456 * 268435456 + 4 * target.get()
+        match self.store_byte(address, value) {
+            Ok(()) => Ok(next),
+            Err(end) => Err(end),
+        }
     }
 
-    /// The effect of an instruction that calls no service, in a core whose place is the next one.
+    /// Puts the product of two registers into hi and lo.
     #[inline(always)]
-    pub fn execute(&mut self, one: Mips) -> Result<(), RunEnd>
-        requires { one ≢ Mips.Syscall }
-        ensures { IsDone (effects.effect one self.old) result self.new }
+    fn multiply_to(&mut self, left: Reg, right: Reg, next: u32) -> Result<u32, RunEnd>
+        ensures { GoesOn (effects.effect (mips.Mult left right) (state.go self.old next))
+            result self.new }
+    {
+        self.multiply(self.register(left), self.register(right));
+        Ok(next)
+    }
+
+    /// Puts the quotient and the remainder of two registers into lo and hi.
+    #[inline(always)]
+    fn divide_to(&mut self, left: Reg, right: Reg, next: u32) -> Result<u32, RunEnd>
+        ensures { GoesOn (effects.effect (mips.Div left right) (state.go self.old next))
+            result self.new }
+    {
+        self.divide(self.register(left), self.register(right));
+        Ok(next)
+    }
+
+    /// Puts the next place into a register and goes to another.
+    #[inline(always)]
+    fn call(&mut self, link: Reg, place: u32, next: u32) -> Result<u32, RunEnd>
+        ensures { GoesOn
+            (Goes (state.go (state.set_register (state.go self.old next) link next) place))
+            result self.new }
+    {
+        self.set(link, next);
+        Ok(place)
+    }
+
+    /// What a row does that calls no service.
+    #[inline(always)]
+    pub(crate) fn execute(&mut self, one: Row, next: u32) -> Result<u32, RunEnd>
+        requires { one ≢ Row.Syscall }
+        ensures { GoesOn (rows.does one (state.go self.old next)) result self.new }
     {
         match one {
-            Mips::Sll(rd, rt, shamt) => {
-                self.set(rd, self.register(rt).wrapping_shl(shamt.get()));
-            }
-            Mips::Srl(rd, rt, shamt) => self.set(rd, self.register(rt) >> shamt.get()),
-            Mips::Sra(rd, rt, shamt) => {
-                self.set(
-                    rd,
-                    (self.register(rt).cast_signed() >> shamt.get()).cast_unsigned(),
-                );
-            }
-            Mips::Jr(rs) => self.go(self.register(rs)),
-            Mips::Jalr(rd, rs) => {
-                let place = self.register(rs);
-                self.set(rd, self.place());
-                self.go(place);
-            }
-            Mips::Syscall => unreachable!(),
-            Mips::Break(code) => return Err(RunEnd::Break(code.get())),
-            Mips::Mfhi(rd) => self.set(rd, self.hi()),
-            Mips::Mflo(rd) => self.set(rd, self.lo()),
-            Mips::Mult(rs, rt) => self.multiply(self.register(rs), self.register(rt)),
-            Mips::Div(rs, rt) => self.divide(self.register(rs), self.register(rt)),
-            Mips::Add(rd, rs, rt) => {
-                return self.put_exact(rd, sum_of(self.register(rs), self.register(rt)));
-            }
-            Mips::Sub(rd, rs, rt) => {
-                return self.put_exact(rd, difference_of(self.register(rs), self.register(rt)));
-            }
-            Mips::Addu(rd, rs, rt) => self.set(rd, add(self.register(rs), self.register(rt))),
-            Mips::Subu(rd, rs, rt) => self.set(rd, sub(self.register(rs), self.register(rt))),
-            Mips::And(rd, rs, rt) => self.set(rd, self.register(rs) & self.register(rt)),
-            Mips::Or(rd, rs, rt) => self.set(rd, self.register(rs) | self.register(rt)),
-            Mips::Xor(rd, rs, rt) => self.set(rd, self.register(rs) ^ self.register(rt)),
-            Mips::Nor(rd, rs, rt) => self.set(rd, !(self.register(rs) | self.register(rt))),
-            Mips::Slt(rd, rs, rt) => {
-                let less = less_signed(self.register(rs), self.register(rt));
-                self.set(rd, u32::from(less));
-            }
-            Mips::Sltu(rd, rs, rt) => {
-                let less = less_unsigned(self.register(rs), self.register(rt));
-                self.set(rd, u32::from(less));
-            }
-            Mips::J(target) => self.go(self.jump(target)),
-            Mips::Jal(target) => {
-                let place = self.jump(target);
-                self.set(Reg::RA, self.place());
-                self.go(place);
-            }
-            Mips::Beq(rs, rt, number) => {
-                return self.branch_if(self.register(rs) == self.register(rt), number);
-            }
-            Mips::Bne(rs, rt, number) => {
-                return self.branch_if(self.register(rs) != self.register(rt), number);
-            }
-            Mips::Blez(rs, number) => {
-                return self.branch_if(!less_signed(0, self.register(rs)), number);
-            }
-            Mips::Bgtz(rs, number) => {
-                return self.branch_if(less_signed(0, self.register(rs)), number);
-            }
-            Mips::Bltz(rs, number) => {
-                return self.branch_if(less_signed(self.register(rs), 0), number);
-            }
-            Mips::Bgez(rs, number) => {
-                return self.branch_if(!less_signed(self.register(rs), 0), number);
-            }
-            Mips::Addi(rt, rs, number) => {
-                return self.put_exact(rt, sum_of(self.register(rs), extend(number)));
-            }
-            Mips::Addiu(rt, rs, number) => {
-                self.set(rt, add(self.register(rs), extend(number)));
-            }
-            Mips::Slti(rt, rs, number) => {
-                let less = less_signed(self.register(rs), extend(number));
-                self.set(rt, u32::from(less));
-            }
-            Mips::Sltiu(rt, rs, number) => {
-                let less = less_unsigned(self.register(rs), extend(number));
-                self.set(rt, u32::from(less));
-            }
-            Mips::Andi(rt, rs, number) => self.set(rt, self.register(rs) & number.get()),
-            Mips::Ori(rt, rs, number) => self.set(rt, self.register(rs) | number.get()),
-            Mips::Xori(rt, rs, number) => self.set(rt, self.register(rs) ^ number.get()),
-            Mips::Lui(rt, number) => self.set(rt, number.get() * 65536),
-            Mips::Lb(rt, number, rs) => {
-                return self.put_signed_byte(rt, self.load_byte(self.address(rs, number)));
-            }
-            Mips::Lbu(rt, number, rs) => {
-                return self.put_byte(rt, self.load_byte(self.address(rs, number)));
-            }
-            Mips::Lw(rt, number, rs) => {
-                return self.put(rt, self.load_word(self.address(rs, number)));
-            }
-            Mips::Sb(rt, number, rs) => {
-                return self.store_byte(self.address(rs, number), self.register(rt));
-            }
-            Mips::Sw(rt, number, rs) => {
-                return self.store_word(self.address(rs, number), self.register(rt));
-            }
+            Row::Sll(rd, rt, shamt) => self.put(
+                rd,
+                self.register(rt).wrapping_shl(shamt.get()),
+                next,
+            ),
+            Row::Srl(rd, rt, shamt) => self.put(rd, self.register(rt) >> shamt.get(), next),
+            Row::Sra(rd, rt, shamt) => self.put(rd, shift_signed(self.register(rt), shamt), next),
+            Row::Jr(rs) => Ok(self.register(rs)),
+            Row::Jalr(rd, rs) => self.call(rd, self.register(rs), next),
+            Row::Syscall => unreachable!(),
+            Row::Break(code) => Err(RunEnd::Break(code.get())),
+            Row::Mfhi(rd) => self.put(rd, self.hi(), next),
+            Row::Mflo(rd) => self.put(rd, self.lo(), next),
+            Row::Mult(rs, rt) => self.multiply_to(rs, rt, next),
+            Row::Div(rs, rt) => self.divide_to(rs, rt, next),
+            Row::Add(rd, rs, rt) => self.put_exact(
+                rd,
+                sum_of(self.register(rs), self.register(rt)),
+                next,
+            ),
+            Row::Sub(rd, rs, rt) => self.put_exact(
+                rd,
+                difference_of(self.register(rs), self.register(rt)),
+                next,
+            ),
+            Row::Addu(rd, rs, rt) => self.put(rd, add(self.register(rs), self.register(rt)), next),
+            Row::Subu(rd, rs, rt) => self.put(rd, sub(self.register(rs), self.register(rt)), next),
+            Row::And(rd, rs, rt) => self.put(rd, self.register(rs) & self.register(rt), next),
+            Row::Or(rd, rs, rt) => self.put(rd, self.register(rs) | self.register(rt), next),
+            Row::Xor(rd, rs, rt) => self.put(rd, self.register(rs) ^ self.register(rt), next),
+            Row::Nor(rd, rs, rt) => self.put(rd, !(self.register(rs) | self.register(rt)), next),
+            Row::Slt(rd, rs, rt) => self.put(
+                rd,
+                u32::from(less_signed(self.register(rs), self.register(rt))),
+                next,
+            ),
+            Row::Sltu(rd, rs, rt) => self.put(
+                rd,
+                u32::from(less_unsigned(self.register(rs), self.register(rt))),
+                next,
+            ),
+            Row::J(target) => Ok(jump(next, target)),
+            Row::Jal(target) => self.call(Reg::RA, jump(next, target), next),
+            Row::Beq(rs, rt, bytes) => Ok(further_if(
+                self.register(rs) == self.register(rt),
+                next,
+                bytes,
+            )),
+            Row::Bne(rs, rt, bytes) => Ok(further_if(
+                self.register(rs) != self.register(rt),
+                next,
+                bytes,
+            )),
+            Row::Blez(rs, bytes) => Ok(further_if(!less_signed(0, self.register(rs)), next, bytes)),
+            Row::Bgtz(rs, bytes) => Ok(further_if(less_signed(0, self.register(rs)), next, bytes)),
+            Row::Bltz(rs, bytes) => Ok(further_if(less_signed(self.register(rs), 0), next, bytes)),
+            Row::Bgez(rs, bytes) => Ok(further_if(!less_signed(self.register(rs), 0), next, bytes)),
+            Row::Addi(rt, rs, word) => self.put_exact(rt, sum_of(self.register(rs), word), next),
+            Row::Addiu(rt, rs, word) => self.put(rt, add(self.register(rs), word), next),
+            Row::Slti(rt, rs, word) => self.put(
+                rt,
+                u32::from(less_signed(self.register(rs), word)),
+                next,
+            ),
+            Row::Sltiu(rt, rs, word) => self.put(
+                rt,
+                u32::from(less_unsigned(self.register(rs), word)),
+                next,
+            ),
+            Row::Andi(rt, rs, number) => self.put(rt, self.register(rs) & number.get(), next),
+            Row::Ori(rt, rs, number) => self.put(rt, self.register(rs) | number.get(), next),
+            Row::Xori(rt, rs, number) => self.put(rt, self.register(rs) ^ number.get(), next),
+            Row::Lui(rt, word) => self.put(rt, word, next),
+            Row::Lb(rt, rs, word) => self.put_signed_byte(rt, self.address(rs, word), next),
+            Row::Lbu(rt, rs, word) => self.put_byte(rt, self.address(rs, word), next),
+            Row::Lw(rt, rs, word) => self.put_word(rt, self.address(rs, word), next),
+            Row::Sb(rt, rs, word) => self.keep_byte(
+                self.address(rs, word),
+                self.register(rt),
+                next,
+            ),
+            Row::Sw(rt, rs, word) => self.keep_word(
+                self.address(rs, word),
+                self.register(rt),
+                next,
+            ),
+            Row::Unknown(word) => Err(RunEnd::BadWord(word)),
         }
-        Ok(())
     }
+}
+
+/// The place so many bytes further on, where a test holds.
+#[inline(always)]
+fn further_if(holds: bool, next: u32, bytes: u32) -> u32
+    ensures { result ≡ if holds then words.add next bytes else next }
+{
+    if holds { add(next, bytes) } else { next }
+}
+
+/// The place of a jump.
+#[inline(always)]
+fn jump(next: u32, target: Bits<28>) -> u32
+    ensures { result ≡ next / 2 ^ 28 * 2 ^ 28 + target }
+{
+    next / 268435456 * 268435456 + target.get()
+}
+
+/// A word shifted to the right with its sign.
+#[inline(always)]
+fn shift_signed(word: u32, shamt: Bits<5>) -> u32
+    ensures { result ≡ words.shift_signed word shamt }
+{
+    (word.cast_signed() >> shamt.get()).cast_unsigned()
 }

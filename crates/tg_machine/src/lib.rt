@@ -10,6 +10,8 @@ mod laws;
 mod loading;
 mod machines;
 mod pauses;
+mod preparing;
+mod rows;
 mod services;
 mod stacks;
 mod status;

@@ -14,15 +14,17 @@ ghost use Rattle.std.specs.Prelude.{
   [],
 };
 ghost use Rattle.tg_base.specs.State.{most_bytes, most_room, most_words, padded, start};
-ghost use Rattle.tg_isa.specs.Table.{decode_of};
 ghost use Rattle.tg_machine.specs.Machines.{loaded};
+ghost use Rattle.tg_machine.specs.Rows.{row_of};
 
 use crate::cores::Core;
 use crate::machines::Machine;
+use crate::preparing::row_of;
+use crate::rows::Row;
 use crate::stacks::Stack;
 use std::alloc::Global;
 use tg_base::{Memory, STACK_TOP};
-use tg_isa::{Image, Mips, decode};
+use tg_isa::Image;
 
 /// A machine at the start of an image, with so many bytes of heap and of stack. It takes all memory
 /// of the run.
@@ -87,21 +89,13 @@ fn padded(alloc: Global, bytes: &[u8]) -> Result<Vec<u8>, Memory>
     Ok(all)
 }
 
-/// The instruction of each word.
-fn rows_of(alloc: Global, code: &[u32]) -> Result<Vec<Option<Mips>>, Memory>
-    ensures { IfOk result (λ v. v.items ≡ map decode_of code.now) }
+/// The row of each word.
+fn rows_of(alloc: Global, code: &[u32]) -> Result<Vec<Row>, Memory>
+    ensures { IfOk result (λ v. v.items ≡ map row_of code.now) }
 {
     let mut rows = Vec::with_capacity(alloc, code.len())?;
     for word in code {
-        push_row(&mut rows, *word)?;
+        rows.push(row_of(*word))?;
     }
     Ok(rows)
-}
-
-/// The instruction of a word goes behind others.
-fn push_row(rows: &mut Vec<Option<Mips>>, word: u32) -> Result<(), Memory>
-    ensures { OnOk result (rows.new.items ≡ rows.old.items ++ decode_of word ∷ []) }
-{
-    rows.push(decode(word))?;
-    Ok(())
 }

@@ -1,8 +1,8 @@
 ghost use Rattle.tg_machine.specs.Pauses.{Pauses};
 
 use crate::cores::Core;
+use crate::rows::Row;
 use tg_base::RunEnd;
-use tg_isa::Mips;
 
 /// How steps without a service come to a pause.
 #[derive(Clone, Copy)]
@@ -22,19 +22,22 @@ impl Core {
     pub(crate) fn run_alone(&mut self, steps: u64) -> Pause
         ensures { Pauses steps self.old self.new result }
     {
+        let mut place = self.place;
         for made in 0..steps {
-            let one = match self.fetch() {
-                Ok(one) => one,
-                Err(end) => return Pause::Ended(end),
+            let Some(one) = self.row_at(place) else {
+                return Pause::Ended(self.outside(place));
             };
-            self.go(self.place().wrapping_add(4));
-            if let Mips::Syscall = one {
+            let next = place.wrapping_add(4);
+            if let Row::Syscall = one {
+                self.place = next;
                 return Pause::Due(made);
             }
-            if let Err(end) = self.execute(one) {
-                return Pause::Ended(end);
+            match self.execute(one, next) {
+                Ok(to) => place = to,
+                Err(end) => return Pause::Ended(end),
             }
         }
+        self.place = place;
         Pause::Made
     }
 }

@@ -1,7 +1,7 @@
 use Rattle.std.proofs.Common.{◌≡◌, take}
 use Rattle.std.specs.Prelude.{map}
-use Rattle.tg_isa.specs.Table.{decode_of}
+use Rattle.tg_machine.specs.Rows.{row_of}
 use Rattle.tg_machine.proofs.loading.rows_of.Given as goal
 
 abbrev pub invariant-loop-word : goal.invariant-loop-word
-invariant-loop-word l = l.rows.items ≡ map decode_of (take l.word-index l.code)
+invariant-loop-word l = l.rows.items ≡ map row_of (take l.word-index l.code)

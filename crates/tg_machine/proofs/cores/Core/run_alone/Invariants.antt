@@ -1,5 +1,7 @@
+use Rattle.tg_base.specs.State.{go}
 use Rattle.tg_machine.specs.Pauses.{RunsTo}
 use Rattle.tg_machine.proofs.cores.Core.run_alone.Given as goal
 
+-- the place of the core is that of the variable
 abbrev pub invariant-loop-made : goal.invariant-loop-made
-invariant-loop-made l = RunsTo l.made l.fn.self l.self
+invariant-loop-made l = RunsTo l.made l.fn.self (go l.self l.place)
