@@ -1,4 +1,4 @@
-ghost use Rattle.std.specs.Prelude.{◌≡◌, ◌≢◌, ◌+◌, ◌*◌, ◌/◌, ◌^◌, if◌then◌else◌};
+ghost use Rattle.std.specs.Prelude.{◌≡◌, ◌≢◌, ◌+◌, ◌*◌, ◌/◌, ◌^◌};
 ghost use Rattle.tg_base.specs.Services.{Goes};
 ghost use Rattle.tg_base.specs.State as state;
 ghost use Rattle.tg_base.specs.Words as words;
@@ -14,7 +14,7 @@ use tg_base::{RunEnd, add, less_signed, less_unsigned, sub};
 use tg_isa::{Bits, Reg};
 
 /// What rows do. `next` is the place of the next instruction, and the place to go on at is answered:
-/// the one in the core is neither read nor written.
+/// the one in the core isn't read.
 impl Core {
     /// Puts a value into a register.
     #[inline(always)]
@@ -119,6 +119,22 @@ impl Core {
         Ok(next)
     }
 
+    /// Goes so many bytes further on, where a test holds. It writes the place into the core too, so
+    /// that a compiler leaves the branch, which a processor foresees, and doesn't select a place,
+    /// which waits for the test.
+    #[inline(always)]
+    fn go_if(&mut self, holds: bool, next: u32, bytes: u32) -> Result<u32, RunEnd>
+        ensures { GoesOn (rows.further_if holds (state.go self.old next) bytes) result self.new }
+    {
+        if holds {
+            let place = add(next, bytes);
+            self.place = place;
+            Ok(place)
+        } else {
+            Ok(next)
+        }
+    }
+
     /// Puts the next place into a register and goes to another.
     #[inline(always)]
     fn call(&mut self, link: Reg, place: u32, next: u32) -> Result<u32, RunEnd>
@@ -180,20 +196,20 @@ impl Core {
             ),
             Row::J(target) => Ok(jump(next, target)),
             Row::Jal(target) => self.call(Reg::RA, jump(next, target), next),
-            Row::Beq(rs, rt, bytes) => Ok(further_if(
+            Row::Beq(rs, rt, bytes) => self.go_if(
                 self.register(rs) == self.register(rt),
                 next,
                 bytes,
-            )),
-            Row::Bne(rs, rt, bytes) => Ok(further_if(
+            ),
+            Row::Bne(rs, rt, bytes) => self.go_if(
                 self.register(rs) != self.register(rt),
                 next,
                 bytes,
-            )),
-            Row::Blez(rs, bytes) => Ok(further_if(!less_signed(0, self.register(rs)), next, bytes)),
-            Row::Bgtz(rs, bytes) => Ok(further_if(less_signed(0, self.register(rs)), next, bytes)),
-            Row::Bltz(rs, bytes) => Ok(further_if(less_signed(self.register(rs), 0), next, bytes)),
-            Row::Bgez(rs, bytes) => Ok(further_if(!less_signed(self.register(rs), 0), next, bytes)),
+            ),
+            Row::Blez(rs, bytes) => self.go_if(!less_signed(0, self.register(rs)), next, bytes),
+            Row::Bgtz(rs, bytes) => self.go_if(less_signed(0, self.register(rs)), next, bytes),
+            Row::Bltz(rs, bytes) => self.go_if(less_signed(self.register(rs), 0), next, bytes),
+            Row::Bgez(rs, bytes) => self.go_if(!less_signed(self.register(rs), 0), next, bytes),
             Row::Addi(rt, rs, word) => self.put_exact(rt, sum_of(self.register(rs), word), next),
             Row::Addiu(rt, rs, word) => self.put(rt, add(self.register(rs), word), next),
             Row::Slti(rt, rs, word) => self.put(
@@ -226,14 +242,6 @@ impl Core {
             Row::Unknown(word) => Err(RunEnd::BadWord(word)),
         }
     }
-}
-
-/// The place so many bytes further on, where a test holds.
-#[inline(always)]
-fn further_if(holds: bool, next: u32, bytes: u32) -> u32
-    ensures { result ≡ if holds then words.add next bytes else next }
-{
-    if holds { add(next, bytes) } else { next }
 }
 
 /// The place of a jump.
