@@ -13,7 +13,7 @@ use std::marker::Model;
 use tg_base::{CODE_BASE, HEAP_BASE, RunEnd, STACK_REACH, STACK_TOP, STATICS_BASE, quot};
 use tg_isa::Reg;
 
-/// A program in memory with its registers. Each word of code stands beside its row, worked out once.
+/// A program in memory with its registers. Each word of code stands beside its row.
 #[derive(Drop)]
 pub struct Core {
     pub(crate) registers: [u32; 32],

@@ -13,7 +13,7 @@ use crate::words::{difference_of, extend_byte, sum_of};
 use tg_base::{RunEnd, add, less_signed, less_unsigned, sub};
 use tg_isa::{Bits, Reg};
 
-/// What rows do. `next` is the place of the next instruction, and the place to go on at is answered:
+/// What rows do. `next` is the place of the next instruction, and the one to go on at is answered:
 /// the one in the core isn't read.
 impl Core {
     /// Puts a value into a register.
