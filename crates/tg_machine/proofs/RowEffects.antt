@@ -14,7 +14,7 @@ use Rattle.tg_isa.specs.declared.mips.Mips.TheVariants as mips
 use Rattle.tg_isa.specs.Effects.{decoded, effect, fetch, fetched, performed, step}
 use Rattle.tg_isa.specs.Table.{decode_of}
 use Rattle.tg_machine.specs.declared.rows.Row.{Row}
-use Rattle.tg_machine.specs.Moves.{GoesOn, IsOwn}
+use Rattle.tg_machine.specs.Moves.{RowIsDone, IsOwn}
 use Rattle.tg_machine.specs.Rows.{does, known, prepared, row_at, row_of, row_there}
 
 prepared_does : (one : Mips) (s : MachineState) → does (prepared one) s ≡ effect one s
@@ -105,14 +105,14 @@ row_found code i place lt is =
     rw (whole, low, high, index) refl
 
 -- what a row left
-pub goes_on : (d : Step) (place : ℕ) (new : MachineState) → GoesOn d (Ok place) new → d ≡ Goes (go new place)
-goes_on (Goes s) place new h = ap Goes (sym h)
-goes_on (Ends e) place new h = absurd h
-goes_on (Reads s) place new h = absurd h
-goes_on (Writes bytes s) place new h = absurd h
+pub row_goes : (d : Step) (place : ℕ) (new : MachineState) → RowIsDone d (Ok place) new → d ≡ Goes (go new place)
+row_goes (Goes s) place new h = ap Goes (sym h)
+row_goes (Ends e) place new h = absurd h
+row_goes (Reads s) place new h = absurd h
+row_goes (Writes bytes s) place new h = absurd h
 
-pub ends_on : (d : Step) (e : RunEnd) (new : MachineState) → GoesOn d (Err e) new → (d ≡ Ends e) × IsOwn e
-ends_on (Goes s) e new h = absurd h
-ends_on (Ends f) e new h = (ap Ends (sym h.0), h.1)
-ends_on (Reads s) e new h = absurd h
-ends_on (Writes bytes s) e new h = absurd h
+pub row_ends : (d : Step) (e : RunEnd) (new : MachineState) → RowIsDone d (Err e) new → (d ≡ Ends e) × IsOwn e
+row_ends (Goes s) e new h = absurd h
+row_ends (Ends f) e new h = (ap Ends (sym h.0), h.1)
+row_ends (Reads s) e new h = absurd h
+row_ends (Writes bytes s) e new h = absurd h

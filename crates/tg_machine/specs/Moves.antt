@@ -29,13 +29,13 @@ IsDone (Writes bytes s) result new = ⊥
 
 -- a row that neither reads nor writes left this state but for its place, which was answered, or
 -- ended so
-abbrev pub GoesOn : Step → Result ℕ RunEnd → MachineState → Type 0
-GoesOn (Goes s) (Ok place) new = go new place ≡ s
-GoesOn (Goes s) (Err f) new = ⊥
-GoesOn (Ends e) (Ok place) new = ⊥
-GoesOn (Ends e) (Err f) new = (f ≡ e) × IsOwn f
-GoesOn (Reads s) result new = ⊥
-GoesOn (Writes bytes s) result new = ⊥
+abbrev pub RowIsDone : Step → Result ℕ RunEnd → MachineState → Type 0
+RowIsDone (Goes s) (Ok place) new = go new place ≡ s
+RowIsDone (Goes s) (Err f) new = ⊥
+RowIsDone (Ends e) (Ok place) new = ⊥
+RowIsDone (Ends e) (Err f) new = (f ≡ e) × IsOwn f
+RowIsDone (Reads s) result new = ⊥
+RowIsDone (Writes bytes s) result new = ⊥
 
 -- a source answered its next byte, or None at its end
 abbrev pub Answers : Option (List ℕ) → Option (List ℕ) → Option ℕ → Type 0

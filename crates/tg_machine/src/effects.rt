@@ -4,7 +4,7 @@ ghost use Rattle.tg_base.specs.State as state;
 ghost use Rattle.tg_base.specs.Words as words;
 ghost use Rattle.tg_isa.specs.Effects as effects;
 ghost use Rattle.tg_isa.specs.declared.mips.Mips.TheVariants as mips;
-ghost use Rattle.tg_machine.specs.Moves.{GoesOn};
+ghost use Rattle.tg_machine.specs.Moves.{RowIsDone};
 ghost use Rattle.tg_machine.specs.Rows as rows;
 
 use crate::cores::Core;
@@ -19,7 +19,7 @@ impl Core {
     /// Puts a value into a register.
     #[inline(always)]
     fn put(&mut self, number: Reg, value: u32, next: u32) -> Result<u32, RunEnd>
-        ensures { GoesOn (Goes (state.set_register (state.go self.old next) number value))
+        ensures { RowIsDone (Goes (state.set_register (state.go self.old next) number value))
             result self.new }
     {
         self.set(number, value);
@@ -29,7 +29,7 @@ impl Core {
     /// Puts an exact result into a register.
     #[inline(always)]
     fn put_exact(&mut self, number: Reg, value: Option<u32>, next: u32) -> Result<u32, RunEnd>
-        ensures { GoesOn (effects.put_exact (state.go self.old next) number value)
+        ensures { RowIsDone (effects.put_exact (state.go self.old next) number value)
             result self.new }
     {
         match value {
@@ -41,7 +41,7 @@ impl Core {
     /// Puts the word at an address into a register.
     #[inline(always)]
     fn put_word(&mut self, number: Reg, address: u32, next: u32) -> Result<u32, RunEnd>
-        ensures { GoesOn (effects.put (state.go self.old next) number
+        ensures { RowIsDone (effects.put (state.go self.old next) number
             (state.load_word (state.go self.old next) address)) result self.new }
     {
         match self.load_word(address) {
@@ -53,7 +53,7 @@ impl Core {
     /// Puts the byte at an address into a register.
     #[inline(always)]
     fn put_byte(&mut self, number: Reg, address: u32, next: u32) -> Result<u32, RunEnd>
-        ensures { GoesOn (effects.put (state.go self.old next) number
+        ensures { RowIsDone (effects.put (state.go self.old next) number
             (state.load_byte (state.go self.old next) address)) result self.new }
     {
         match self.load_byte(address) {
@@ -65,7 +65,7 @@ impl Core {
     /// Puts the byte at an address into a register, with its sign.
     #[inline(always)]
     fn put_signed_byte(&mut self, number: Reg, address: u32, next: u32) -> Result<u32, RunEnd>
-        ensures { GoesOn (effects.put (state.go self.old next) number
+        ensures { RowIsDone (effects.put (state.go self.old next) number
             (effects.extended_load (state.load_byte (state.go self.old next) address)))
             result self.new }
     {
@@ -78,7 +78,8 @@ impl Core {
     /// Stores a word.
     #[inline(always)]
     fn keep_word(&mut self, address: u32, value: u32, next: u32) -> Result<u32, RunEnd>
-        ensures { GoesOn (effects.stored (state.store_word (state.go self.old next) address value))
+        ensures { RowIsDone
+            (effects.stored (state.store_word (state.go self.old next) address value))
             result self.new }
     {
         match self.store_word(address, value) {
@@ -90,7 +91,8 @@ impl Core {
     /// Stores the low byte of a word.
     #[inline(always)]
     fn keep_byte(&mut self, address: u32, value: u32, next: u32) -> Result<u32, RunEnd>
-        ensures { GoesOn (effects.stored (state.store_byte (state.go self.old next) address value))
+        ensures { RowIsDone
+            (effects.stored (state.store_byte (state.go self.old next) address value))
             result self.new }
     {
         match self.store_byte(address, value) {
@@ -102,7 +104,7 @@ impl Core {
     /// Puts the product of two registers into hi and lo.
     #[inline(always)]
     fn multiply_to(&mut self, left: Reg, right: Reg, next: u32) -> Result<u32, RunEnd>
-        ensures { GoesOn (effects.effect (mips.Mult left right) (state.go self.old next))
+        ensures { RowIsDone (effects.effect (mips.Mult left right) (state.go self.old next))
             result self.new }
     {
         self.multiply(self.register(left), self.register(right));
@@ -112,7 +114,7 @@ impl Core {
     /// Puts the quotient and the remainder of two registers into lo and hi.
     #[inline(always)]
     fn divide_to(&mut self, left: Reg, right: Reg, next: u32) -> Result<u32, RunEnd>
-        ensures { GoesOn (effects.effect (mips.Div left right) (state.go self.old next))
+        ensures { RowIsDone (effects.effect (mips.Div left right) (state.go self.old next))
             result self.new }
     {
         self.divide(self.register(left), self.register(right));
@@ -124,7 +126,7 @@ impl Core {
     /// which waits for the test.
     #[inline(always)]
     fn go_if(&mut self, holds: bool, next: u32, bytes: u32) -> Result<u32, RunEnd>
-        ensures { GoesOn (rows.further_if holds (state.go self.old next) bytes) result self.new }
+        ensures { RowIsDone (rows.further_if holds (state.go self.old next) bytes) result self.new }
     {
         if holds {
             let place = add(next, bytes);
@@ -138,7 +140,7 @@ impl Core {
     /// Puts the next place into a register and goes to another.
     #[inline(always)]
     fn call(&mut self, link: Reg, place: u32, next: u32) -> Result<u32, RunEnd>
-        ensures { GoesOn
+        ensures { RowIsDone
             (Goes (state.go (state.set_register (state.go self.old next) link next) place))
             result self.new }
     {
@@ -150,7 +152,7 @@ impl Core {
     #[inline(always)]
     pub(crate) fn execute(&mut self, one: Row, next: u32) -> Result<u32, RunEnd>
         requires { one ≢ Row.Syscall }
-        ensures { GoesOn (rows.does one (state.go self.old next)) result self.new }
+        ensures { RowIsDone (rows.does one (state.go self.old next)) result self.new }
     {
         match one {
             Row::Sll(rd, rt, shamt) => self.put(

@@ -7,7 +7,7 @@ use Rattle.tg_machine.specs.declared.rows.Row.{Row}
 use Rattle.tg_machine.specs.Pauses.{RunsTo}
 use Rattle.tg_machine.specs.Rows.{does}
 use Rattle.tg_machine.proofs.Pausing.{runs_more}
-use Rattle.tg_machine.proofs.RowEffects.{ends_on, goes_on, step_at}
+use Rattle.tg_machine.proofs.RowEffects.{row_ends, row_goes, step_at}
 use Rattle.tg_machine.proofs.cores.Core.run_alone.Goals as goal
 
 pub returns-in_default : goal.returns-in_default
@@ -37,12 +37,12 @@ pub returns-in-Err : goal.returns-in-Err
 returns-in-Err c =
     let s = c.loop-made.self in
     let p = c.loop-made.place in
-    let e = ends_on _ _ _ c.in-Err.ensures in
+    let e = row_ends _ _ _ c.in-Err.ensures in
     (c.loop-made.made, go s p, c.loop-made-test.true, c.loop-made.invariant, step_at s p _ c.in-Some.ensures ∙ e.0, e.1)
 
 pub loop-made-preserved : goal.loop-made-preserved
 loop-made-preserved c =
-    runs_more _ _ _ _ c.loop-made.invariant (step_at c.loop-made.self c.loop-made.place _ c.in-Some.ensures ∙ goes_on _ _ _ c.in-Ok.ensures)
+    runs_more _ _ _ _ c.loop-made.invariant (step_at c.loop-made.self c.loop-made.place _ c.in-Some.ensures ∙ row_goes _ _ _ c.in-Ok.ensures)
 
 pub returns : goal.returns
 returns c =
