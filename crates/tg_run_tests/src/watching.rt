@@ -153,10 +153,24 @@ impl Watcher for Placing {
 }
 
 /// Puts a number behind those that were told.
-fn tell(told: &RefCell<Vec<u32>>, number: u32) {
+pub(crate) fn tell(told: &RefCell<Vec<u32>>, number: u32) {
     if let Ok(mut told) = told.try_borrow_mut() {
         let _ = told.push(number);
     }
+}
+
+/// These numbers were told, and the list of them has one owner again.
+pub(crate) fn has_told(
+    rt: &impl Abort,
+    told: &Rc<RefCell<Vec<u32>>>,
+    numbers: &[u32],
+) -> Result<(), Fail> {
+    assert_eq!(rt; Rc::strong_count(told), 1);
+    let Ok(told) = told.try_borrow() else {
+        return Err(Fail::from("what was told is in use"));
+    };
+    assert_eq!(rt; told.as_slice(), numbers);
+    Ok(())
 }
 
 /// The program on the words of a line and a text, with these watchers.
@@ -171,7 +185,7 @@ fn call_watched(
     call_with(alloc, line, Outside::of(text.as_bytes()), tools)
 }
 
-// Behind the call the watcher is dropped, so that what it told has one owner again.
+// Behind the call the watcher is dropped.
 #[test]
 fn a_watcher_of_ones_own_is_told_in_its_place(rt: HostRuntime) -> Result<(), Fail> {
     let alloc = rt.alloc();
@@ -189,12 +203,7 @@ fn a_watcher_of_ones_own_is_told_in_its_place(rt: HostRuntime) -> Result<(), Fai
           0x00400000 0x2402000a\n0x00400004 0x0000000c\none\ntwo\n"
             .as_slice()
     );
-    assert_eq!(rt; Rc::strong_count(&places), 1);
-    let Ok(told) = places.try_borrow() else {
-        return Err(Fail::from("what was told is in use"));
-    };
-    assert_eq!(rt; told.as_slice(), [2, 0x0040_0000, 0x0040_0004].as_slice());
-    Ok(())
+    has_told(&rt, &places, &[2, 0x0040_0000, 0x0040_0004])
 }
 
 // Nothing is begun, and the watcher is dropped too.
@@ -210,11 +219,7 @@ fn without_the_flag_nobody_watches(rt: HostRuntime) -> Result<(), Fail> {
         all.push(Box::new(alloc, own)?)?;
         let seen = call_watched(alloc, line, text, all)?;
         assert_eq!(rt; (seen.status, seen.error.len()), (0, 0));
-        assert_eq!(rt; Rc::strong_count(&places), 1);
-        let Ok(told) = places.try_borrow() else {
-            return Err(Fail::from("what was told is in use"));
-        };
-        assert!(rt; told.is_empty());
+        has_told(&rt, &places, &[])?;
     }
     Ok(())
 }
