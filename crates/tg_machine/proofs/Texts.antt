@@ -149,15 +149,6 @@ text_loads s a n done k text is lt =
     let place : a + done + k ≡ a + (done + k) = omega arith in
     is_ok_of (load_byte s (a + done + k)) (slice_index text (done + k)) (ap (load_byte s) place ∙ is.loads (done + k) lt)
 
--- the front of a chunk is what was copied into it
-pub front_loads : (s : MachineState) (a more : ℕ) (into chunk : List ℕ) → length into ≡ more →
-    ((k : ℕ) → k < length into → load_byte s (a + k) ≡ Ok (slice_index into k))
-    → (k : ℕ) → k < more → load_byte s (a + k) ≡ Ok (slice_index (take more (into ++ drop more chunk)) k)
-front_loads s a more into chunk size loads k lt =
-    let e : take more (into ++ drop more chunk) ≡ into = grind (arith, common_steps) in
-    let below : k < length into = omega arith in
-    rw e (loads k below)
-
 -- a chunk of a text is its bytes in memory
 chunk_is : (s : MachineState) (a n done more : ℕ) (text piece : List ℕ) → IsText s a n text → done + more ≤ n → length piece ≡ more
     → ((k : ℕ) → k < more → load_byte s (a + done + k) ≡ Ok (slice_index piece k)) → piece ≡ take more (drop done text)

@@ -5,7 +5,7 @@ use Rattle.std.specs.Io.KnownBytes.{Appends, Consumes, IsAtEnd, Keeps}
 use Rattle.tg_base.specs.declared.ends.RunEnd.{RunEnd}
 use Rattle.tg_base.specs.declared.ends.RunEnd.TheVariants.{StepLimit, ReadFault, WriteFault}
 use Rattle.tg_base.specs.Causes.{Rose}
-use Rattle.tg_base.specs.Writes.{TakesFront}
+use Rattle.tg_base.specs.Writes.{TakesAll, TakesFront}
 use Rattle.tg_base.specs.State.{MachineState, go, load_byte, stack_top}
 use Rattle.tg_base.specs.Services.{Step, Goes, Ends, Reads, Writes, answered, text_at}
 use Rattle.tg_machine.specs.Ran.{saturating_sum}
@@ -95,6 +95,18 @@ pub record IsText (s : MachineState) (a n : ℕ) (text : List ℕ) : Type 0 wher
 -- the text at an address has so many bytes
 abbrev pub HasText : MachineState → (a n : ℕ) → Type 0
 HasText s a n = (text : List ℕ) × IsText s a n text
+
+-- these so many bytes stand at an address
+abbrev pub IsPiece : MachineState → (a n : ℕ) → List ℕ → Type 0
+IsPiece s a n piece =
+    (length piece ≡ n)
+    × ((k : ℕ) → k < n → load_byte s (a + k) ≡ Ok (slice_index piece k))
+
+-- a sink took so many bytes at an address, or failed and took a prefix of them
+abbrev pub TakesPiece : {T E : Type 0} → MachineState → (a n : ℕ) →
+    (old new : Option (List ℕ)) → Result T E → Type 0
+TakesPiece s a n old new result =
+    (piece : List ℕ) × IsPiece s a n piece × TakesAll old new result piece
 
 -- a call that writes the text at an address wrote it whole, or failed; or ended as the text's load
 -- does

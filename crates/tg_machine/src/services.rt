@@ -6,10 +6,9 @@ ghost use Rattle.std.specs.Prelude.{
   ◌+◌,
   ℕ,
   length,
-  slice_index,
-  EachIndex,
   IfErr,
   IfOk,
+  IfSome,
   MatchResult,
   IsOk,
   Ok,
@@ -26,11 +25,14 @@ ghost use Rattle.tg_machine.specs.Moves.{
   HasText,
   HasWritten,
   IsOwn,
+  IsPiece,
   Moved,
+  TakesPiece,
 };
 
 use crate::cores::Core;
-use tg_base::{Failed, RunEnd, Sink, Source, decimal, write_all};
+use crate::words::{offset, part};
+use tg_base::{Failed, HEAP_BASE, RunEnd, STATICS_BASE, Sink, Source, decimal, write_all};
 use tg_isa::Reg;
 
 /// How many bytes of a text are written at once.
@@ -101,39 +103,76 @@ impl Core {
         Err(RunEnd::BadAddress(address + most))
     }
 
+    /// The bytes at an address, where the heap has all of them or the statics do.
+    #[inline(always)]
+    fn held(&self, address: u32, size: usize) -> Option<&[u8]>
+        requires { address + size ≤ state.stack_top }
+        ensures { IfSome result (λ piece. IsPiece self.now address size piece.now) }
+    {
+        if let Some(at) = offset(address, HEAP_BASE, self.heap.len()) {
+            return part(&self.heap, at, size);
+        }
+        if let Some(at) = offset(address, STATICS_BASE, self.statics.len()) {
+            return part(&self.statics, at, size);
+        }
+        None
+    }
+
     /// Copies bytes from memory.
     fn copy(&self, address: u32, into: &mut [u8])
         requires low { address + length into.old ≤ state.stack_top }
         requires loads { (k : ℕ) → k < length into.old →
             IsOk (state.load_byte self.now (address + k)) }
-        ensures size { length into.new ≡ length into.old }
-        ensures bytes { EachIndex into.new
-            (λ k. state.load_byte self.now (address + k) ≡ Ok (slice_index into.new k)) }
+        ensures { IsPiece self.now address (length into.old) into.new }
     {
         for (k, slot) in into.iter_mut().enumerate() {
             *slot = self.load_byte(address + k as u32).unwrap_or(0);
         }
     }
 
+    /// Writes bytes from memory by way of a copy. A function clears the memory of its locals when
+    /// it is entered, so this one stands apart from its callers.
+    #[inline(never)]
+    fn write_copy<O: Sink>(&self, address: u32, size: usize, out: &mut O) -> Result<(), Failed>
+        requires size { size ≤ 4096 }
+        requires low { address + size ≤ state.stack_top }
+        requires loads { (k : ℕ) → k < size → IsOk (state.load_byte self.now (address + k)) }
+        ensures bytes { TakesPiece self.now address size
+            (O.taken out.old) (O.taken out.new) result }
+        ensures cause { HasCause (O.faults out.old) (O.faults out.new) result }
+    {
+        let mut chunk = [0; CHUNK];
+        let piece = &mut chunk[..size];
+        self.copy(address, piece);
+        write_all(out, piece)
+    }
+
+    /// Writes bytes from memory as one piece.
+    fn write_piece<O: Sink>(&self, address: u32, size: usize, out: &mut O) -> Result<(), Failed>
+        requires size { size ≤ 4096 }
+        requires low { address + size ≤ state.stack_top }
+        requires loads { (k : ℕ) → k < size → IsOk (state.load_byte self.now (address + k)) }
+        ensures bytes { TakesPiece self.now address size
+            (O.taken out.old) (O.taken out.new) result }
+        ensures cause { HasCause (O.faults out.old) (O.faults out.new) result }
+    {
+        match self.held(address, size) {
+            Some(piece) => write_all(out, piece),
+            None => self.write_copy(address, size, out),
+        }
+    }
+
     /// Writes the text at an address, in pieces of the size of a chunk.
-    fn write_text<O: Sink>(
-        &self,
-        address: u32,
-        size: u32,
-        chunk: &mut [u8],
-        out: &mut O,
-    ) -> Result<(), Failed>
-        requires text { HasText self.now address size }
-        requires chunk { 0 < length chunk.old }
+    fn write_text<O: Sink>(&self, address: u32, size: u32, out: &mut O) -> Result<(), Failed>
+        requires { HasText self.now address size }
         ensures bytes { IfOk (text_at self.now address)
             (λ text. TakesAll (O.taken out.old) (O.taken out.new) result text) }
         ensures cause { HasCause (O.faults out.old) (O.faults out.new) result }
     {
         let mut done = 0;
         while done < size {
-            let more = chunk.len().min((size - done) as usize);
-            self.copy(address + done, &mut chunk[..more]);
-            write_all(out, &chunk[..more])?;
+            let more = CHUNK.min((size - done) as usize);
+            self.write_piece(address + done, more, out)?;
             done += more as u32;
         }
         Ok(())
@@ -145,7 +184,7 @@ impl Core {
             out.old out.new written.old written.new result }
     {
         let size = self.text_length(address)?;
-        match self.write_text(address, size, &mut [0; CHUNK], out) {
+        match self.write_text(address, size, out) {
             Ok(()) => {
                 *written = written.saturating_add(u64::from(size));
                 Ok(())

@@ -1,4 +1,5 @@
 ghost use Rattle.std.specs.Prelude.{◌≡◌, ◌≢◌, ◌+◌, ◌≤◌, ◌/◌, ◌%◌, [], ◌∷◌, length, vec_capacity};
+ghost use Rattle.std.specs.Prelude.{◌<◌, ◌^◌, IfSome, slice_range};
 ghost use Rattle.tg_base.specs.Words.{
   exact_difference,
   exact_sum,
@@ -49,6 +50,16 @@ pub(crate) fn offset(address: u32, base: u32, size: usize) -> Option<usize>
 {
     let above = address.wrapping_sub(base) as usize;
     if above < size { Some(above) } else { None }
+}
+
+/// So many bytes from one on, where there are so many.
+#[inline(always)]
+pub(crate) fn part(bytes: &[u8], at: usize, size: usize) -> Option<&[u8]>
+    requires { at + size < 2 ^ 64 }
+    ensures { IfSome result (λ some. (at + size ≤ length bytes.now)
+        × (some.now ≡ slice_range bytes.now at (at + size))) }
+{
+    bytes.get(at..at + size)
 }
 
 /// The word at a byte, little endian.

@@ -1,4 +1,4 @@
-use Rattle.std.proofs.Common.{◌-◌, ◌≡◌, ◌≤◌, length, take, IfOk}
+use Rattle.std.proofs.Common.{◌-◌, ◌≤◌, take, IfOk}
 use Rattle.std.specs.Io.KnownBytes.{Appends}
 use Rattle.tg_base.specs.Services.{text_at}
 use Rattle.tg_machine.proofs.cores.Core.write_text.Given as goal
@@ -8,7 +8,6 @@ abbrev pub invariant-loop-done : goal.invariant-loop-done
 invariant-loop-done g l =
     (g.O.Sink.faults l.initial.out ≤ g.O.Sink.faults l.out)
     × (l.done ≤ l.size)
-    × (length l.chunk ≡ length l.initial.chunk)
     × IfOk (text_at l.self l.address) (λ text. Appends (g.O.Sink.taken l.initial.out) (g.O.Sink.taken l.out) (take l.done text))
 
 abbrev pub decreases-loop-done : goal.decreases-loop-done
