@@ -10,7 +10,6 @@ use Rattle.tg_isa.specs.Effects.{step}
 use Rattle.tg_isa.specs.Runs.{Execution, Progress, Running, Ended, proceed, run, begun, first_answer, later_answers}
 use Rattle.tg_machine.specs.Ran.{Tells, StillTells, IsReading, IsWriting, ComesToRead, ComesToWrite, Stops, still, ended, read_failed, write_failed}
 use Rattle.tg_machine.specs.Ran.{saturating_sum}
-use Rattle.tg_machine.specs.declared.fetches.Seen.{Seen}
 use Rattle.tg_machine.specs.Fetches.{seen_at, fetches, fetches_until}
 use Rattle.tg_machine.specs.Laws.{CallsChain, WatchedCallsChain}
 use Rattle.tg_machine.proofs.Runs.{go_on, run_suc, run_add, running_same}

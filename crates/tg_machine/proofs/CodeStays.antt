@@ -1,6 +1,6 @@
 -- No step changes the code.
-use Rattle.std.proofs.Common.{◌≡◌, ℕ, zero, suc, ◌+◌, List, Bool, true, false, Option, Some, None, refl, sym, ap, ◌∙◌, subst}
-use Rattle.std.specs.Prelude.{Result, Ok, Err, if◌then◌else◌, ◌==◌}
+use Rattle.std.proofs.Common.{◌≡◌, ℕ, zero, suc, List, Bool, true, false, Option, refl, sym, ap, ◌∙◌, subst}
+use Rattle.std.specs.Prelude.{Result, Ok, Err, ◌==◌}
 use Rattle.tg_base.specs.declared.ends.RunEnd.{RunEnd}
 use Rattle.tg_base.specs.declared.ends.RunEnd.TheVariants.{StepLimit}
 use Rattle.tg_base.specs.State.{MachineState, register, set_register, go}
@@ -8,8 +8,8 @@ use Rattle.tg_base.specs.Services.{Step, Goes, Ends, Reads, Writes, answered}
 use Rattle.tg_base.specs.Words.{add, less}
 use Rattle.tg_isa.specs.declared.mips.Mips.{Mips}
 use Rattle.tg_isa.specs.declared.mips.Mips.TheVariants as row
-use Rattle.tg_isa.specs.Anywhere.{on, step_on, IsStraight}
-use Rattle.tg_isa.specs.Effects.{step, effect, fetch, performed, branch, branch_if, branch_unless}
+use Rattle.tg_isa.specs.Anywhere.{step_on, IsStraight}
+use Rattle.tg_isa.specs.Effects.{step, effect, fetch, performed, branch_if, branch_unless}
 use Rattle.tg_isa.specs.Runs.{Execution, Progress, Running, Ended, proceed, run, first_answer}
 use Rattle.tg_isa.proofs.Anywhere.{effect_on, set_on, answered_on}
 use Rattle.tg_machine.specs.Machines.{Simulated}

@@ -1,5 +1,5 @@
 -- A call that has ended is a call of more steps too.
-use Rattle.std.proofs.Common.{◌≡◌, ◌≢◌, ◌<◌, ◌≤◌, ◌+◌, ◌-◌, ℕ, zero, suc, List, [], ◌∷◌, ◌++◌, Option, arith, refl, sym, ap, ◌∙◌}
+use Rattle.std.proofs.Common.{◌≡◌, ◌≢◌, ◌<◌, ◌≤◌, ◌+◌, ◌-◌, ℕ, zero, suc, List, ◌++◌, Option, arith, refl, sym, ap, ◌∙◌}
 use Rattle.tg_base.specs.declared.ends.RunEnd.{RunEnd}
 use Rattle.tg_base.specs.declared.ends.RunEnd.TheVariants.{StepLimit}
 use Rattle.tg_isa.specs.Effects.{step}
@@ -7,7 +7,7 @@ use Rattle.tg_isa.specs.Runs.{Execution, Progress, Running, Ended, proceed, run,
 use Rattle.tg_machine.specs.declared.fetches.Seen.{Seen}
 use Rattle.tg_machine.specs.Fetches.{seen_at, fetches, fetches_until, IsWatched}
 use Rattle.tg_machine.specs.Machines.{Simulated}
-use Rattle.tg_machine.specs.Ran.{Stops, still, ended, read_failed, write_failed, IsSimulation}
+use Rattle.tg_machine.specs.Ran.{Stops, still, ended, read_failed, write_failed}
 use Rattle.tg_machine.proofs.Fetching.{see_on, fetches_suc}
 use Rattle.tg_machine.proofs.Reached.{touched_read, touched_write}
 use Rattle.tg_machine.proofs.Runs.{go_on, run_suc}
