@@ -29,7 +29,7 @@ pub(crate) fn address(layout: &Layout<'_>, spot: LabelTarget) -> u32
 }
 
 /// The place of a label, or that there is none.
-pub(crate) fn place_of(layout: &Layout<'_>, label: &[u8]) -> Result<u32, AsmRule>
+pub(crate) fn place_of<'a>(layout: &Layout<'a>, label: &'a [u8]) -> Result<u32, AsmRule>
     ensures { result ≡ assembly.address_of (layout_of layout.now)
         (assembly.spot_of (layout_of layout.now) label.now) }
 {
@@ -85,7 +85,7 @@ fn branch_word(one: Mips, at: usize, to: u32) -> Result<u32, AsmRule>
     Ok(encode(&with_offset(one, Bits::new(65536 - behind as u32))))
 }
 
-fn branch_to(layout: &Layout<'_>, one: Mips, at: usize, label: &[u8]) -> Result<u32, AsmRule>
+fn branch_to<'a>(layout: &Layout<'a>, one: Mips, at: usize, label: &'a [u8]) -> Result<u32, AsmRule>
     requires { at < 2 ^ 63 }
     ensures { result ≡ assembly.branch_to one at
         (assembly.spot_of (layout_of layout.now) label.now) }
@@ -97,7 +97,7 @@ fn branch_to(layout: &Layout<'_>, one: Mips, at: usize, label: &[u8]) -> Result<
     }
 }
 
-fn jump_to(layout: &Layout<'_>, one: Mips, label: &[u8]) -> Result<u32, AsmRule>
+fn jump_to<'a>(layout: &Layout<'a>, one: Mips, label: &'a [u8]) -> Result<u32, AsmRule>
     requires { IsSmall (layout_of layout.now) }
     ensures { result ≡ assembly.jump_to (layout_of layout.now) one
         (assembly.spot_of (layout_of layout.now) label.now) }
@@ -116,7 +116,7 @@ fn jump_to(layout: &Layout<'_>, one: Mips, label: &[u8]) -> Result<u32, AsmRule>
 }
 
 /// The upper half of a label's place for a register.
-fn upper(layout: &Layout<'_>, rt: Reg, label: &[u8]) -> Result<u32, AsmRule>
+fn upper<'a>(layout: &Layout<'a>, rt: Reg, label: &'a [u8]) -> Result<u32, AsmRule>
     ensures { result ≡ assembly.word (layout_of layout.now) 0
         (items.Upper rt label.now) }
 {
@@ -127,7 +127,7 @@ fn upper(layout: &Layout<'_>, rt: Reg, label: &[u8]) -> Result<u32, AsmRule>
 }
 
 /// The lower half.
-fn lower(layout: &Layout<'_>, rt: Reg, label: &[u8]) -> Result<u32, AsmRule>
+fn lower<'a>(layout: &Layout<'a>, rt: Reg, label: &'a [u8]) -> Result<u32, AsmRule>
     ensures { result ≡ assembly.word (layout_of layout.now) 0
         (items.Lower rt label.now) }
 {
@@ -138,7 +138,7 @@ fn lower(layout: &Layout<'_>, rt: Reg, label: &[u8]) -> Result<u32, AsmRule>
 }
 
 /// A word of the code that stands at a place of it.
-pub(crate) fn word(layout: &Layout<'_>, at: usize, coded: &Coded<'_>) -> Result<u32, AsmRule>
+pub(crate) fn word<'a>(layout: &Layout<'a>, at: usize, coded: &Coded<'a>) -> Result<u32, AsmRule>
     requires small { IsSmall (layout_of layout.now) }
     requires at { at < 2 ^ 63 }
     ensures { result ≡ assembly.word (layout_of layout.now) at (coded_of coded.now) }

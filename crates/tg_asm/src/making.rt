@@ -48,7 +48,7 @@ impl Made {
     }
 
     /// Adds a word of the code.
-    fn add_word(&mut self, layout: &Layout<'_>, coded: &Coded<'_>) -> Result<(), Refused>
+    fn add_word<'a>(&mut self, layout: &Layout<'a>, coded: &Coded<'a>) -> Result<(), Refused>
         requires { IsSmall (layout_of layout.now) }
         ensures { Leaves (assembly.make_words (layout_of layout.now) (made_of self.old)
             (coded_of coded.now ∷ [])) result (made_of self.new) }
@@ -64,7 +64,7 @@ impl Made {
 
     /// Adds the words of an item.
     #[tactic(auto, using(crate::proofs::MakingLoops::word_made, crate::proofs::MakingLoops::word_bad))]
-    fn add_words(&mut self, layout: &Layout<'_>, words: &Words<'_>) -> Result<(), Refused>
+    fn add_words<'a>(&mut self, layout: &Layout<'a>, words: &Words<'a>) -> Result<(), Refused>
         requires { IsSmall (layout_of layout.now) }
         ensures { Leaves (assembly.make_words (layout_of layout.now) (made_of self.old)
             (words_of words.now)) result (made_of self.new) }
@@ -100,7 +100,7 @@ impl Made {
     }
 
     /// Adds a datum to the statics.
-    fn add_datum(&mut self, layout: &Layout<'_>, datum: &Datum<'_>) -> Result<(), Refused>
+    fn add_datum<'a>(&mut self, layout: &Layout<'a>, datum: &Datum<'a>) -> Result<(), Refused>
         ensures { Leaves (assembly.make_data (layout_of layout.now) (made_of self.old)
             (datum_of datum.now ∷ [])) result (made_of self.new) }
     {
@@ -115,11 +115,11 @@ impl Made {
     }
 
     /// Adds what an operand of `.word` or `.byte` says to the statics.
-    fn add_value(
+    fn add_value<'a>(
         &mut self,
-        layout: &Layout<'_>,
+        layout: &Layout<'a>,
         keyword: Keyword,
-        operand: Operand<'_>,
+        operand: Operand<'a>,
     ) -> Result<(), Refused>
         ensures { Leaves (assembly.make_data (layout_of layout.now) (made_of self.old)
             (datum_stored keyword (operand_of operand.entry) ∷ [])) result (made_of self.new) }
@@ -129,11 +129,11 @@ impl Made {
 
     /// Adds what operands of `.word` or `.byte` say to the statics, in order.
     #[tactic(auto, using(crate::proofs::MakingLoops::data_made, crate::proofs::MakingLoops::data_end))]
-    fn add_values(
+    fn add_values<'a>(
         &mut self,
-        layout: &Layout<'_>,
+        layout: &Layout<'a>,
         keyword: Keyword,
-        operands: &[Operand<'_>],
+        operands: &[Operand<'a>],
     ) -> Result<(), Refused>
         ensures { Leaves (assembly.make_data (layout_of layout.now) (made_of self.old)
             (map (datum_stored keyword) (map operand_of operands.now))) result (made_of self.new) }
@@ -145,7 +145,7 @@ impl Made {
     }
 
     /// Adds data to the statics.
-    fn add_data(&mut self, layout: &Layout<'_>, contents: &Contents<'_>) -> Result<(), Refused>
+    fn add_data<'a>(&mut self, layout: &Layout<'a>, contents: &Contents<'a>) -> Result<(), Refused>
         ensures { Leaves (assembly.make_data (layout_of layout.now) (made_of self.old)
             (data_of contents.now)) result (made_of self.new) }
     {
@@ -168,7 +168,7 @@ impl Made {
     }
 
     /// Adds an item.
-    fn add_item(&mut self, layout: &Layout<'_>, item: &Item<'_>) -> Result<(), Refused>
+    fn add_item<'a>(&mut self, layout: &Layout<'a>, item: &Item<'a>) -> Result<(), Refused>
         requires { IsSmall (layout_of layout.now) }
         ensures { Leaves (assembly.make_item (layout_of layout.now) (made_of self.old)
             (item_of item.now)) result (made_of self.new) }
@@ -188,7 +188,12 @@ impl Made {
     }
 
     /// Adds what a line makes.
-    fn add_line(&mut self, alloc: Global, layout: &Layout<'_>, line: &[u8]) -> Result<(), Refused>
+    fn add_line<'a>(
+        &mut self,
+        alloc: Global,
+        layout: &Layout<'a>,
+        line: &'a [u8],
+    ) -> Result<(), Refused>
         requires { IsSmall (layout_of layout.now) }
         ensures { Leaves (assembly.make_line (layout_of layout.now) (made_of self.old) line.now)
             result (made_of self.new) }
@@ -209,7 +214,7 @@ fn word_bytes(word: u32) -> [u8; 4]
 
 /// What the lines of a text make, or the first fault of A5 and A6.
 #[tactic(auto, using(crate::proofs::MakingPass::made_first, crate::proofs::MakingPass::made_more, crate::proofs::MakingPass::made_last, crate::proofs::MakingPass::made_bad))]
-pub(crate) fn make(alloc: Global, layout: &Layout<'_>, text: &[u8]) -> Result<Made, AsmFault>
+pub(crate) fn make<'a>(alloc: Global, layout: &Layout<'a>, text: &'a [u8]) -> Result<Made, AsmFault>
     requires { IsSmall (layout_of layout.now) }
     ensures { GivesMade (assembly.make 1 (layout_of layout.now) assembly.unmade
         (lines text.now)) result }
