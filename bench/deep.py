@@ -1,6 +1,8 @@
 """Sources as deep and as wide as may be, by a size, and assembly texts of a size, for bench/hostile."""
 
+import array
 import itertools
+import random
 
 MOST = 4200
 
@@ -91,14 +93,25 @@ def labels(size):
     return gathered(b"l%07x:\n" % n for n in range(size // 10))
 
 
-def short_labels(behind):
-    """Texts of so many bytes at most, of labels of four bytes in their order, each with the same behind it."""
+def short_labels(behind, before=b""):
+    """Texts of so many bytes at most, of labels of four bytes in their order, each with the same before it and behind it."""
     others = sorted(b"ABCDEFGHIJKLMNOPQRSTUVWXYZ_abcdefghijklmnopqrstuvwxyz0123456789.")
     firsts = [byte for byte in others if bytes([byte]).isalpha() or byte == ord("_")]
 
     def text(size):
         names = itertools.product(firsts, others, others, others)
-        return gathered(bytes(name) + behind for name in itertools.islice(names, size // (4 + len(behind))))
+        width = len(before) + 4 + len(behind)
+        return gathered(before + bytes(name) + behind for name in itertools.islice(names, size // width))
+    return text
+
+
+def shuffled(make, width):
+    """Texts of pieces of the same width, in random order, the same each time. No list of them is made."""
+    def text(size):
+        ordered = make(size)
+        places = array.array("L", range(len(ordered) // width))
+        random.Random(1).shuffle(places)
+        return gathered(ordered[place * width:(place + 1) * width] for place in places)
     return text
 
 
@@ -107,6 +120,8 @@ TEXTS = {
     "labels": labels,
     "short labels": short_labels(b":\n"),
     "one line of short labels": short_labels(b":"),
+    "short labels in random order": shuffled(short_labels(b":\n"), 6),
+    "labels behind eight letters in random order": shuffled(short_labels(b":\n", b"aaaaaaaa"), 14),
     "commas": repeated(b",", b"main: add "),
     "one string": repeated(b"a", b".data\ns: .ascii \"", b"\"\n.text\nmain: jr $ra\n"),
     "one line of blanks": repeated(b" ", b"main: jr $ra"),
