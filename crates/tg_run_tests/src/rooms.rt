@@ -1,5 +1,3 @@
-ghost use Rattle.std.specs.Prelude.{◌<◌};
-
 use crate::calls::{Outside, call};
 use crate::programs::queens;
 use std::alloc::Global;
@@ -31,17 +29,15 @@ fn fills(
     Ok(())
 }
 
-/// Each room up to 140 bytes is filled, behind them each that `every` divides, and the greatest
-/// that is too small. Answers the size of the output in ample room, where the status is 0.
+/// Each room up to `most` bytes is filled, and the greatest that is too small. Answers the size of
+/// the output in ample room, where the status is 0.
 fn rooms_are_filled(
     rt: &impl Abort,
     alloc: Global,
     line: &str,
     text: &[u8],
-    every: usize,
-) -> Result<usize, Fail>
-    requires { 0 < every }
-{
+    most: usize,
+) -> Result<usize, Fail> {
     let ample = Outside {
         room: 4_000_000,
         ..Outside::of(text)
@@ -49,7 +45,7 @@ fn rooms_are_filled(
     let whole = call(alloc, line, ample)?;
     assert_eq!(rt; (whole.status, whole.faults()), (0, (0, 0, 0, 0)), "{line}");
     for room in 0..whole.out.len() {
-        if room <= 140 || room % every == 0 || room + 1 == whole.out.len() {
+        if room <= most || room + 1 == whole.out.len() {
             fills(rt, alloc, line, text, &whole.out, room)?;
         }
     }
@@ -57,12 +53,8 @@ fn rooms_are_filled(
 }
 
 // Words with texts of the file.
-static OUTPUTS: [(&str, &str); 4] = [
+static OUTPUTS: [(&str, &str); 3] = [
     ("tiger|build|FILE", "print(\"hello\\n\")"),
-    (
-        "tiger|alloc|FILE",
-        "let type r={x:int} var a:r:=nil in print(\"a\"); a.x:=1 end",
-    ),
     ("tiger|gen|3", ""),
     (
         "tiger|format|FILE",
@@ -70,13 +62,23 @@ static OUTPUTS: [(&str, &str); 4] = [
     ),
 ];
 
-// Each call compiles anew, so of the rooms above 140 bytes each 37th is tried.
+// Each room: every call compiles anew.
 #[test]
 fn rooms_for_a_part_of_a_text(rt: HostRuntime) -> Result<(), Fail> {
     let alloc = rt.alloc();
     for (line, text) in OUTPUTS {
-        rooms_are_filled(&rt, alloc, line, text.as_bytes(), 37)?;
+        rooms_are_filled(&rt, alloc, line, text.as_bytes(), 10_000)?;
     }
+    Ok(())
+}
+
+// A program's 10,075 bytes of steps.
+#[test]
+fn rooms_for_a_part_of_the_steps(rt: HostRuntime) -> Result<(), Fail> {
+    let alloc = rt.alloc();
+    let text = b"let type r={x:int} var a:r:=nil in print(\"a\"); a.x:=1 end";
+    let size = rooms_are_filled(&rt, alloc, "tiger|alloc|FILE", text, 20_000)?;
+    assert_eq!(rt; size, 10_075);
     Ok(())
 }
 
@@ -84,7 +86,7 @@ fn rooms_for_a_part_of_a_text(rt: HostRuntime) -> Result<(), Fail> {
 #[test]
 fn rooms_for_a_part_of_the_boards(rt: HostRuntime) -> Result<(), Fail> {
     let alloc = rt.alloc();
-    let size = rooms_are_filled(&rt, alloc, "tiger|run|FILE", &queens(alloc)?, 12_603)?;
+    let size = rooms_are_filled(&rt, alloc, "tiger|run|FILE", &queens(alloc)?, 140)?;
     assert_eq!(rt; size, 12_604);
     Ok(())
 }
