@@ -29,14 +29,15 @@ fn fills(
     Ok(())
 }
 
-/// Each room up to `most` bytes is filled, and the greatest that is too small. Answers the size of
-/// the output in ample room, where the status is 0.
+/// Each room from `first` to below `end` bytes is filled, and the greatest that is too small.
+/// Answers the size of the output in ample room, where the status is 0.
 fn rooms_are_filled(
     rt: &impl Abort,
     alloc: Global,
     line: &str,
     text: &[u8],
-    most: usize,
+    first: usize,
+    end: usize,
 ) -> Result<usize, Fail> {
     let ample = Outside {
         room: 4_000_000,
@@ -45,7 +46,7 @@ fn rooms_are_filled(
     let whole = call(alloc, line, ample)?;
     assert_eq!(rt; (whole.status, whole.faults()), (0, (0, 0, 0, 0)), "{line}");
     for room in 0..whole.out.len() {
-        if room <= most || room + 1 == whole.out.len() {
+        if room >= first && room < end || room + 1 == whole.out.len() {
             fills(rt, alloc, line, text, &whole.out, room)?;
         }
     }
@@ -67,26 +68,34 @@ static OUTPUTS: [(&str, &str); 3] = [
 fn rooms_for_a_part_of_a_text(rt: HostRuntime) -> Result<(), Fail> {
     let alloc = rt.alloc();
     for (line, text) in OUTPUTS {
-        rooms_are_filled(&rt, alloc, line, text.as_bytes(), 10_000)?;
+        rooms_are_filled(&rt, alloc, line, text.as_bytes(), 0, 10_000)?;
     }
     Ok(())
 }
 
-// A program's 10,075 bytes of steps.
-#[test]
-fn rooms_for_a_part_of_the_steps(rt: HostRuntime) -> Result<(), Fail> {
-    let alloc = rt.alloc();
+// The steps of a program's allocation are told in 10,075 bytes.
+fn rooms_for_steps(rt: &impl Abort, alloc: Global, first: usize, end: usize) -> Result<(), Fail> {
     let text = b"let type r={x:int} var a:r:=nil in print(\"a\"); a.x:=1 end";
-    let size = rooms_are_filled(&rt, alloc, "tiger|alloc|FILE", text, 20_000)?;
+    let size = rooms_are_filled(rt, alloc, "tiger|alloc|FILE", text, first, end)?;
     assert_eq!(rt; size, 10_075);
     Ok(())
+}
+
+#[test]
+fn rooms_for_the_first_steps(rt: HostRuntime) -> Result<(), Fail> {
+    rooms_for_steps(&rt, rt.alloc(), 0, 5_000)
+}
+
+#[test]
+fn rooms_for_the_last_steps(rt: HostRuntime) -> Result<(), Fail> {
+    rooms_for_steps(&rt, rt.alloc(), 5_000, 10_075)
 }
 
 // The queens write 92 boards of 137 bytes, byte by byte.
 #[test]
 fn rooms_for_a_part_of_the_boards(rt: HostRuntime) -> Result<(), Fail> {
     let alloc = rt.alloc();
-    let size = rooms_are_filled(&rt, alloc, "tiger|run|FILE", &queens(alloc)?, 140)?;
+    let size = rooms_are_filled(&rt, alloc, "tiger|run|FILE", &queens(alloc)?, 0, 141)?;
     assert_eq!(rt; size, 12_604);
     Ok(())
 }
