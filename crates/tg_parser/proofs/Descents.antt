@@ -16,10 +16,10 @@ use Rattle.tg_parser.specs.declared.heads.DeclarationKind.{DeclarationKind}
 use Rattle.tg_parser.specs.Given.{Refuses, refuses, wants, AnswersJob}
 use Rattle.tg_parser.specs.Opens.{Leads, Skips, Operates, Elses}
 use Rattle.tg_parser.specs.Heads.{one_of, Declares}
-use Rattle.tg_parser.proofs.Leading.{last_after, last_suffix}
+use Rattle.tg_parser.proofs.Leading.{last_suffix}
 use Rattle.tg_grammar.specs.declared.marks.Mark.{Mark}
 use Rattle.tg_grammar.specs.declared.marks.Mark.TheVariants.{OfWord}
-use Rattle.tg_grammar.specs.Steps.{Got, Job, Of, At, After, Suffix, MoreDecs, Steps, give, want, refuse, split, oper, leaf, look, test}
+use Rattle.tg_grammar.specs.Steps.{Got, Job, Of, At, Suffix, MoreDecs, Steps, give, want, refuse, split, oper, leaf, look, test}
 use Rattle.tg_grammar.specs.Reading.{Does, refuse_bad, leaf_yes, leaf_no, leaf_out, look_at, job, last, more_decs}
 
 -- a value, and a program, that equal others
@@ -34,10 +34,6 @@ level_does {x = x} {ts = ts} {rest = rest} e d = subst (λ k. Does (At k) (job (
 
 pub level_refuses : {a b : Level} {ts : List Spanned} {e : Stop} → a ≡ b → Refuses e (At a) (job (At a)) ts → Refuses e (At b) (job (At b)) ts
 level_refuses {ts = ts} {e = e} p d = subst (λ k. Refuses e (At k) (job (At k)) ts) p d
-
-pub after_same : {X : Type 0} (r : Result X Stop) (k : Level) (m : Exp) (l n : Exp) (value : X → Exp) (rest : X → List Spanned) (ts : List Spanned) →
-    l ≡ n → AnswersJob (After k l) value rest r (job (After k l)) ts → AnswersJob (After k m) value rest r (last (After k n)) ts
-after_same r k m l n value rest ts e h = subst (λ x. AnswersJob (After k m) value rest r (last (After k x)) ts) e (last_after r k m k l value rest ts h)
 
 pub suffix_does : {s z : Span} {v w : LValue} {x : Span × LValue} {ts rest : List Spanned} → s ≡ z → v ≡ w →
     Does (Suffix s v) (job (Suffix s v)) ts (Got x rest) → Does (Suffix z w) (job (Suffix z w)) ts (Got x rest)

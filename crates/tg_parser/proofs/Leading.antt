@@ -59,11 +59,6 @@ pub last_at : {X : Type 0} (r : Result X Stop) (k i : Level) (l : Exp) (value : 
 last_at (Ok x) k i l value rest ts h = call_got (At k) (After i l) h (give_got (At k))
 last_at (Err e) k i l value rest ts h = call_stops (At k) (After i l) h
 
-pub last_after : {X : Type 0} (r : Result X Stop) (k : Level) (m : Exp) (i : Level) (l : Exp) (value : X → Exp)
-    (rest : X → List Spanned) (ts : List Spanned) → AnswersJob (After i l) value rest r (job (After i l)) ts → AnswersJob (After k m) value rest r (last (After i l)) ts
-last_after (Ok x) k m i l value rest ts h = call_got (After k m) (After i l) h (give_got (After k m))
-last_after (Err e) k m i l value rest ts h = call_stops (After k m) (After i l) h
-
 pub last_suffix : {X : Type 0} (r : Result X Stop) (s : Span) (v : LValue) (z : Span) (w : LValue) (value : X → Span × LValue)
     (rest : X → List Spanned) (ts : List Spanned) → AnswersJob (Suffix z w) value rest r (job (Suffix z w)) ts → AnswersJob (Suffix s v) value rest r (last (Suffix z w)) ts
 last_suffix (Ok x) s v z w value rest ts h = call_got (Suffix s v) (Suffix z w) h (give_got (Suffix s v))

@@ -1,4 +1,4 @@
--- Expressions, fields' values and declarations behind others, one after another.
+-- Operands, expressions, fields' values and declarations behind others, one after another.
 use Rattle.std.proofs.Common.{◌≡◌, List, [], ◌∷◌, ◌++◌, refl, ap, subst, ◌∙◌}
 use Rattle.tg_base.specs.declared.ids.Span.{Span}
 use Rattle.tg_syntax.specs.declared.tokens.Ident.{Ident}
@@ -11,10 +11,10 @@ use Rattle.tg_syntax.specs.Tree.{Exp, Exps, exp, no_exps, Inits, init, no_inits,
 use Rattle.tg_syntax.specs.Plain.{plain}
 use Rattle.tg_syntax.specs.Lists.{exps_of, inits_of}
 use Rattle.tg_syntax.specs.Groups.{snoc, snoc_init, snoc_dec}
-use Rattle.tg_syntax.specs.Grammar.{Whole}
+use Rattle.tg_syntax.specs.Grammar.{Level, Whole}
 use Rattle.tg_grammar.specs.declared.marks.Mark.TheVariants.{OfSign}
-use Rattle.tg_grammar.specs.Steps.{Answer, Got, Bad, Out, Job, Of, At, Items, OneInit, MoreInits, MoreDecs, Steps, split}
-use Rattle.tg_grammar.specs.Reading.{Does, job, last, items, more_inits, more_decs, give_got, call_got, call_bad, call_out}
+use Rattle.tg_grammar.specs.Steps.{Answer, Got, Bad, Out, Job, Of, At, After, Items, OneInit, MoreInits, MoreDecs, Steps, split}
+use Rattle.tg_grammar.specs.Reading.{Does, job, last, operators, items, more_inits, more_decs, give_got, call_got, call_bad, call_out}
 use Rattle.tg_parser.specs.declared.faults.Stop.{Stop}
 use Rattle.tg_parser.specs.declared.heads.DeclarationKind.{DeclarationKind}
 use Rattle.tg_parser.specs.Given.{Refuses, refuses, wants, no_memory}
@@ -45,6 +45,31 @@ pub inits_none : {is : List CodeInit} {s : Span} → is ≡ [] → ◌≡◌ {A 
 inits_none {s = s} h =
     let pair : List CodeInit → Inits × Span = λ is. (inits_of is, s) in
     ap pair h
+
+-- reading on behind this left operand is reading on behind the first one
+pub record OperatorsOn (k : Level) (first : Exp) (tokens : List Spanned) (l : Exp) (rest : List Spanned) : Type 0 where
+  pub reaches : (r : Answer Exp) → Does (After k l) (operators k l) rest r → Does (After k first) (operators k first) tokens r
+
+pub operators_first : (k : Level) (l : Exp) (tokens : List Spanned) → OperatorsOn k l tokens l tokens
+operators_first k l tokens = record { reaches = λ r d. d }
+
+last_operators : (k : Level) (l more : Exp) (tokens : List Spanned) (r : Answer Exp) → Does (After k more) (operators k more) tokens r →
+    Does (After k l) (last (After k more)) tokens r
+last_operators k l more tokens (Got x rest) d = call_got (After k l) (After k more) d (give_got (After k l))
+last_operators k l more tokens (Bad t rest) d = call_bad (After k l) (After k more) d
+last_operators k l more tokens Out d = call_out (After k l) (After k more) d
+
+pub operators_more : {k : Level} {first l new more : Exp} {tokens rest behind : List Spanned} → OperatorsOn k first tokens l rest →
+    Leads (After k l) (operators k l) rest (last (After k more)) behind → new ≡ more → OperatorsOn k first tokens new behind
+operators_more {k} {first} {l} {new} {more} {tokens} {rest} {behind} h m e = record {
+  reaches = λ r w. h.reaches r (m.goes r (last_operators k l more behind r (subst (λ x. Does (After k x) (operators k x) behind r) e w)));
+}
+
+pub operators_stops : {k : Level} {first l : Exp} {tokens rest : List Spanned} {e : Stop} → OperatorsOn k first tokens l rest →
+    Refuses e (After k l) (operators k l) rest → Refuses e (After k first) (operators k first) tokens
+operators_stops h (refuses {after = after} one d) = refuses one (h.reaches (Bad one after) d)
+operators_stops h (wants d) = wants (h.reaches Out d)
+operators_stops h (no_memory _) = no_memory (After _ _)
 
 -- reading on behind these expressions is reading on behind the first ones
 pub record ItemsOn (m : Sign) (first : Exps) (tokens : List Spanned) (es : Exps) (rest : List Spanned) : Type 0 where

@@ -20,7 +20,7 @@ ghost use Rattle.tg_grammar.specs.Reading.{binary as plain_binary};
 use std::alloc::Global;
 use tg_base::{Memory, Span};
 use tg_syntax::{
-    Dec, Exp, Ident, Init, Op, Var, assign, binary, call, fill, for_to, if_else, if_then, let_in,
+    Dec, Exp, Ident, Init, Kind, Op, Var, assign, call, fill, for_to, if_else, if_then, let_in,
     make, negate, sequence, while_do,
 };
 
@@ -58,17 +58,22 @@ pub(crate) fn build_negation(alloc: Global, first: Span, a: Exp) -> Result<Exp, 
 }
 
 /// Two operands and the operator between them, whose first byte is `at`.
+#[inline(always)]
 pub(crate) fn build_operation(
     alloc: Global,
     op: Op,
     at: u32,
     left: Exp,
-    right: Exp,
+    right: Box<Exp>,
 ) -> Result<Exp, Memory>
-    ensures { IfOk result (λ e. plain e ≡ plain_binary op at (plain left) (plain right)) }
+    ensures { IfOk result (λ e. plain e ≡ plain_binary op at (plain left) (plain right.value)) }
 {
     let span = up_to(span_of(&left), &right);
-    binary(alloc, span, op, at, left, right)
+    let left = Box::new(alloc, left)?;
+    Ok(Exp {
+        span,
+        kind: Kind::Binary(op, at, left, right),
+    })
 }
 
 /// An assignment.

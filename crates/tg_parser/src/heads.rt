@@ -55,6 +55,7 @@ pub(crate) fn begins(token: &Token) -> Start
 }
 
 /// The expression that a token is by itself.
+#[inline(always)]
 pub(crate) fn atom(alloc: Global, one: &Spanned) -> Result<Option<Exp>, Memory>
     ensures { IfOk result (λ o. atom_of_token one.now ≡ plain_of o) }
 {

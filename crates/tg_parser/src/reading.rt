@@ -83,7 +83,41 @@ fn at(alloc: Global, rank: Rank, tokens: &[Spanned]) -> Reading<Exp>
     ensures shorter { IfOk result (λ x. length x.1.now < length tokens.now) }
 {
     let (left, rest) = unary(alloc, tokens)?;
+    if is_over(&left, rank, rest) {
+        return Ok((left, rest));
+    }
     onward(alloc, rank, left, rest)
+}
+
+/// A right operand of a rank, in a box. An atom that is whole at that rank is boxed as it is made,
+/// without the calls that lead from rank to rank.
+#[cycle(descent)]
+fn operand(alloc: Global, rank: Rank, tokens: &[Spanned]) -> Reading<Box<Exp>>
+    ensures given { AnswersJob (At (level_of rank)) (λ x. plain x.0.value) (λ x. x.1.now) result
+        (job (At (level_of rank))) tokens.now }
+    ensures shorter { IfOk result (λ x. length x.1.now < length tokens.now) }
+{
+    let (first, after) = next(tokens)?;
+    if let Some(e) = atom(alloc, first)? {
+        if is_over(&e, rank, after) {
+            let right = Box::new(alloc, e)?;
+            return Ok((right, after));
+        }
+    }
+    boxed(alloc, rank, tokens)
+}
+
+/// An expression of a rank, in a box.
+#[cycle(descent)]
+#[inline(never)]
+fn boxed(alloc: Global, rank: Rank, tokens: &[Spanned]) -> Reading<Box<Exp>>
+    ensures given { AnswersJob (At (level_of rank)) (λ x. plain x.0.value) (λ x. x.1.now) result
+        (job (At (level_of rank))) tokens.now }
+    ensures shorter { IfOk result (λ x. length x.1.now < length tokens.now) }
+{
+    let (e, rest) = at(alloc, rank, tokens)?;
+    let right = Box::new(alloc, e)?;
+    Ok((right, rest))
 }
 
 /// What follows an expression that binds more tightly than the operators, up to a rank.
@@ -151,12 +185,17 @@ fn operators(alloc: Global, rank: Rank, left: Exp, tokens: &[Spanned]) -> Readin
         result (job (After (level_of rank) (plain left))) tokens.now }
     ensures shorter { IfOk result (λ x. length x.1.now ≤ length tokens.now) }
 {
-    let Some((operator, after)) = operator_behind(&left, rank, tokens)? else {
-        return Ok((left, tokens));
-    };
-    let (right, rest) = at(alloc, below(rank), after)?;
-    let e = build_operation(alloc, operator.op, operator.at, left, right)?;
-    operators(alloc, rank, e, rest)
+    let mut left = left;
+    let mut rest = tokens;
+    'operators: loop {
+        let Some((operator, after)) = operator_behind(&left, rank, rest)? else {
+            return Ok((left, rest));
+        };
+        let (right, behind) = operand(alloc, below(rank), after)?;
+        let e = build_operation(alloc, operator.op, operator.at, left, right)?;
+        left = e;
+        rest = behind;
+    }
 }
 
 /// What follows the first unary expression in a comparison, which doesn't group.
@@ -170,7 +209,7 @@ fn comparison(alloc: Global, left: Exp, tokens: &[Spanned]) -> Reading<Exp>
     let Some((operator, after)) = operator_behind(&first, Rank::Comparison, rest)? else {
         return Ok((first, rest));
     };
-    let (right, rest) = at(alloc, Rank::Sum, after)?;
+    let (right, rest) = operand(alloc, Rank::Sum, after)?;
     let e = build_operation(alloc, operator.op, operator.at, first, right)?;
     Ok((e, rest))
 }

@@ -14,9 +14,10 @@ use Rattle.tg_parser.specs.Ranks.{level_of}
 use Rattle.tg_parser.specs.Heads.{plain_of}
 use Rattle.tg_parser.proofs.Chains.{want_on, want_then, want_stops, name_on, name_then, name_stops, call_then, call_stops, ended}
 use Rattle.tg_parser.proofs.Leading.{then, gives, raise, carry, want_leads, name_leads, call_leads, last_at, begins_ended, two_ended}
-use Rattle.tg_parser.proofs.Descents.{got_is, same_leads, level_does, level_refuses, after_same, suffix_does, suffix_refuses, suffix_same, some_leads}
+use Rattle.tg_parser.proofs.Descents.{got_is, same_leads, level_does, level_refuses, suffix_does, suffix_refuses, suffix_same, some_leads}
 use Rattle.tg_parser.proofs.Descents.{none_leads, some_operates, none_operates, some_declares, none_declares, if_some, elses_yes, elses_no, leaf_is}
 use Rattle.tg_parser.proofs.Descents.{leaf_none, look_leads, refuse_at}
+use Rattle.tg_parser.proofs.Onwards.{operators_first, operators_more, operators_stops}
 use Rattle.tg_parser.proofs.Onwards.{exps_end, inits_end, exps_one, inits_one, exps_none, inits_none, items_first, items_more, items_stops}
 use Rattle.tg_parser.proofs.Onwards.{inits_first, inits_more, inits_stops, decs_first, decs_more, decs_stops}
 use Rattle.tg_parser.proofs.Passings.{unary_refuses}
@@ -54,6 +55,30 @@ at-returns-in_err-left-clause-given t c = ended _ _ _ _ _ _ c.from_residual.ensu
 pub at-returns-clause-given : goal.at-returns-clause-given
 at-returns-clause-given t c = c.onward.ensures.given _ c.in_ok-left.ensures.given
 
+pub at-returns-then-is_over-clause-given : goal.at-returns-then-is_over-clause-given
+at-returns-then-is_over-clause-given t c = (c.is_over.ensures c.if-is_over.true).goes _ c.in_ok-left.ensures.given
+
+pub operand-returns-in_err-first-clause-given : goal.operand-returns-in_err-first-clause-given
+operand-returns-in_err-first-clause-given t c = ended _ _ _ _ _ _ c.from_residual.ensures
+    (unary_refuses c.args.rank (leaf_none (At Unary) c.in_err-first.ensures.first))
+
+pub operand-returns-in_err-e-clause-given : goal.operand-returns-in_err-e-clause-given
+operand-returns-in_err-e-clause-given t c = ended _ _ _ _ _ _ c.from_residual-in_err-e.ensures (no_memory (At _))
+
+pub operand-returns-in_err-right-clause-given : goal.operand-returns-in_err-right-clause-given
+operand-returns-in_err-right-clause-given t c = ended _ _ _ _ _ _ c.from_residual-in_err-right.ensures (no_memory (At _))
+
+pub operand-returns-then-is_over-clause-given : goal.operand-returns-then-is_over-clause-given
+operand-returns-then-is_over-clause-given t c = got_is (At (level_of c.args.rank)) (ap plain c.in_ok-right.ensures.ok)
+    ((c.is_over.ensures c.if-is_over.true).goes _
+    (leaf_is (At Unary) c.in_ok-first.ensures.first (c.in_ok-e.ensures ∙ ap plain_of c.in-Some.is)))
+
+pub boxed-returns-in_err-e-clause-given : goal.boxed-returns-in_err-e-clause-given
+boxed-returns-in_err-e-clause-given t c = ended _ _ _ _ _ _ c.from_residual.ensures c.in_err-e.ensures.given
+
+pub boxed-returns-in_err-right-clause-given : goal.boxed-returns-in_err-right-clause-given
+boxed-returns-in_err-right-clause-given t c = ended _ _ _ _ _ _ c.from_residual-in_err-right.ensures (no_memory (At _))
+
 pub onward-returns-then-is_over-clause-given : goal.onward-returns-then-is_over-clause-given
 onward-returns-then-is_over-clause-given t c = λ start d. (c.is_over.ensures c.if-is_over.true).goes start d
 
@@ -70,23 +95,36 @@ operands-returns-clause-given t c = λ start d. carry c.operators.result _ _
     (last_at c.operators.result _ _ _ _ _ _ c.operators.ensures.given)
 
 pub operators-returns-in_default-clause-given : goal.operators-returns-in_default-clause-given
-operators-returns-in_default-clause-given t c = gives (none_operates _ _ _ _ c.in_ok-operator.ensures.given c.in_default.is
-    (After (level_of c.args.rank) (plain c.args.left)) _ _)
+operators-returns-in_default-clause-given t c = c.operators.invariant.onward.reaches (Got _ _)
+    (gives (none_operates _ _ _ _ c.in_ok-operator.ensures.given c.in_default.is (After (level_of c.args.rank) (plain c.operators.left)) _ _))
+
+pub operators-returns-in_err-operator-clause-given : goal.operators-returns-in_err-operator-clause-given
+operators-returns-in_err-operator-clause-given t c = ended _ _ _ _ _ _ c.from_residual.ensures
+    (operators_stops c.operators.invariant.onward (c.in_err-operator.ensures.given (After (level_of c.args.rank) (plain c.operators.left)) _ _))
 
 pub operators-returns-in_err-right-clause-given : goal.operators-returns-in_err-right-clause-given
 operators-returns-in_err-right-clause-given t c = ended _ _ _ _ _ _ c.from_residual-in_err-right.ensures
-    (raise (some_operates _ _ _ _ c.in_ok-operator.ensures.given c.in-Some.is (After (level_of c.args.rank) (plain c.args.left)) _ _)
-    (call_stops (After (level_of c.args.rank) (plain c.args.left)) (At (below (level_of c.args.rank)))
-    (level_refuses c.below.ensures c.in_err-right.ensures.given)))
+    (operators_stops c.operators.invariant.onward
+    (raise (some_operates _ _ _ _ c.in_ok-operator.ensures.given c.in-Some.is (After (level_of c.args.rank) (plain c.operators.left)) _ _)
+    (call_stops (After (level_of c.args.rank) (plain c.operators.left)) (At (below (level_of c.args.rank)))
+    (level_refuses c.below.ensures c.in_err-right.ensures.given))))
 
 pub operators-returns-in_err-e-clause-given : goal.operators-returns-in_err-e-clause-given
 operators-returns-in_err-e-clause-given t c = ended _ _ _ _ _ _ c.from_residual-in_err-e.ensures (no_memory (After (level_of c.args.rank) (plain c.args.left)))
 
-pub operators-returns-clause-given : goal.operators-returns-clause-given
-operators-returns-clause-given t c = carry c.operators.result _ _
-    (then (some_operates _ _ _ _ c.in_ok-operator.ensures.given c.in-Some.is (After (level_of c.args.rank) (plain c.args.left)) _ _)
-    (call_leads (After (level_of c.args.rank) (plain c.args.left)) (At (below (level_of c.args.rank))) (level_does c.below.ensures c.in_ok-right.ensures.given)))
-    (after_same c.operators.result _ _ _ _ _ _ _ c.in_ok-e.ensures c.operators.ensures.given)
+pub operators-operators-init : goal.operators-operators-init
+operators-operators-init t c = record { onward = operators_first _ _ _; shorter = omega arith }
+
+pub operators-operators-preserved : goal.operators-operators-preserved
+operators-operators-preserved t c =
+    record {
+      onward = operators_more c.operators.invariant.onward
+          (then (some_operates _ _ _ _ c.in_ok-operator.ensures.given c.in-Some.is (After (level_of c.args.rank) (plain c.operators.left)) _ _)
+          (call_leads (After (level_of c.args.rank) (plain c.operators.left)) (At (below (level_of c.args.rank)))
+          (level_does c.below.ensures c.in_ok-right.ensures.given))) c.in_ok-e.ensures;
+      shorter =
+          omega (arith, if_some _ c.in_ok-operator.ensures.shorter c.in-Some.is, c.in_ok-right.ensures.shorter);
+    }
 
 pub comparison-returns-in_err-first-clause-given : goal.comparison-returns-in_err-first-clause-given
 comparison-returns-in_err-first-clause-given t c = λ start d. ended _ _ _ _ _ _ c.from_residual.ensures

@@ -2,7 +2,8 @@ use Rattle.std.proofs.Common.{ℕ, length, ◌+◌, ◌*◌, ◌≤◌}
 use Rattle.tg_syntax.specs.Plain.{plain}
 use Rattle.tg_syntax.specs.Tree.{exp, no_exps, init, no_inits, no_decs}
 use Rattle.tg_syntax.specs.Lists.{exps_of, inits_of, decs_of}
-use Rattle.tg_parser.proofs.Onwards.{ItemsOn, InitsOn, DecsOn}
+use Rattle.tg_parser.proofs.Onwards.{OperatorsOn, ItemsOn, InitsOn, DecsOn}
+use Rattle.tg_parser.specs.Ranks.{level_of}
 use Rattle.tg_parser.specs.declared.ranks.Rank.{Rank}
 use Rattle.tg_parser.specs.declared.ranks.Rank.TheVariants.{Disjunction, Conjunction, Comparison, Sum, Term, Unary}
 use Rattle.tg_parser.proofs.reading.+descent.Given as goal
@@ -26,6 +27,12 @@ operands_height Unary = 4
 
 abbrev pub decreases-at : goal.decreases-at
 decreases-at l = 32 * length l.tokens.now + 13
+
+abbrev pub decreases-operand : goal.decreases-operand
+decreases-operand l = 32 * length l.tokens.now + 15
+
+abbrev pub decreases-boxed : goal.decreases-boxed
+decreases-boxed l = 32 * length l.tokens.now + 14
 
 abbrev pub decreases-onward : goal.decreases-onward
 decreases-onward l = 32 * length l.tokens.now + height l.rank
@@ -104,6 +111,15 @@ decreases-with_variable l = 32 * length l.tokens.now
 
 abbrev pub decreases-with_function : goal.decreases-with_function
 decreases-with_function l = 32 * length l.tokens.now
+
+abbrev pub invariant-operators-operators : goal.invariant-operators-operators
+invariant-operators-operators l = record {
+  onward : OperatorsOn (level_of l.fn.rank) (plain l.fn.left) l.fn.tokens (plain l.left) l.rest;
+  shorter : length l.rest ≤ length l.fn.tokens;
+}
+
+abbrev pub decreases-operators-operators : goal.decreases-operators-operators
+decreases-operators-operators l = length l.rest
 
 abbrev pub invariant-items-items : goal.invariant-items-items
 invariant-items-items l = record {
