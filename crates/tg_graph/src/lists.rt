@@ -4,10 +4,14 @@ ghost use Rattle.std.specs.Prelude.{
   ◌+◌,
   ◌<◌,
   ◌^◌,
+  ◌∷◌,
+  ◌++◌,
   ℕ,
   List,
   [],
   length,
+  vec_len,
+  vec_capacity,
   replicate,
   slice_index,
   IfOk,
@@ -23,6 +27,9 @@ use tg_base::Memory;
 
 /// How many registers serve as colours; they are the first nodes, in the order of the colours.
 pub const COLOURS: u32 = 25;
+
+/// For how many more neighbours a node takes room at once.
+const ROOM: usize = 16;
 
 /// As many empty lists. They take no memory of their own.
 pub fn empty_lists(alloc: Global, count: usize) -> Result<Vec<Vec<u32>>, Memory>
@@ -47,6 +54,7 @@ pub fn numbers(alloc: Global, count: u32) -> Result<Vec<u32>, Memory>
 }
 
 /// Gives a node one more neighbour; a register keeps no list.
+#[inline(always)]
 pub(crate) fn push_neighbour(
     lists: &mut Vec<Vec<u32>>,
     node: u32,
@@ -59,8 +67,32 @@ pub(crate) fn push_neighbour(
 {
     if node >= COLOURS {
         let list = &mut lists[(node - COLOURS) as usize];
-        list.push(neighbour)?;
+        push_roomily(list, neighbour)?;
     }
+    Ok(())
+}
+
+/// Puts a number last in a list. Where that is full it takes room for many more: few lists are so
+/// short that this is lost.
+#[inline(always)]
+fn push_roomily(list: &mut Vec<u32>, number: u32) -> Result<(), Memory>
+    ensures ok { OnOk result (list.new.items ≡ list.old.items ++ number ∷ []) }
+    ensures err { OnErr result (list.new.items ≡ list.old.items) }
+{
+    if list.len() == list.capacity() {
+        take_room(list)?;
+    }
+    list.push_reserved(number);
+    Ok(())
+}
+
+#[cold]
+#[inline(never)]
+fn take_room(list: &mut Vec<u32>) -> Result<(), Memory>
+    ensures items { list.new.items ≡ list.old.items }
+    ensures room { OnOk result (vec_len list.new < vec_capacity list.new) }
+{
+    list.reserve(ROOM)?;
     Ok(())
 }
 

@@ -43,8 +43,9 @@ pub fn marks_of(alloc: Global, code: &Code, originals: u32) -> Result<Marks, Mem
     ensures { IfOk result (λ marks. marks ≡ marks_of code.now.list code.now.temps originals) }
 {
     let counts = count_occurrences(alloc, code)?;
-    let mut marks = Vec::new(alloc);
-    for node in 0..COLOURS + code.temps {
+    let nodes = COLOURS + code.temps;
+    let mut marks = Vec::with_capacity(alloc, nodes as usize)?;
+    for node in 0..nodes {
         marks.push(mark_of(node, counts.as_slice(), originals))?;
     }
     Ok(Marks::from_vec(marks))

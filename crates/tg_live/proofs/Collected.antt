@@ -1,9 +1,9 @@
 -- What the changes have once the operands of the first numbers are searched for.
-use Rattle.std.proofs.Common.{◌≡◌, ◌<◌, ◌≤◌, ◌+◌, ◌⊎◌, ℕ, zero, suc, Bool, true, false, not, nat_eq, nat_lt, ◌&&◌, ◌||◌, cond, List, [], ◌∷◌, ◌++◌}
+use Rattle.std.proofs.Common.{◌≡◌, ◌<◌, ◌≤◌, ◌+◌, ◌⊎◌, ℕ, zero, suc, Bool, true, false, not, nat_eq, nat_lt, ◌&&◌, ◌||◌, List, [], ◌∷◌, ◌++◌}
 use Rattle.std.proofs.Common.{length, replicate, refl, sym, ap, ◌∙◌, subst, arith, ⊎_elim, inl, inr}
 use Rattle.std.specs.List.{list_all, list_any}
-use Rattle.std.proofs.lemmas.Bool.{and_parts, and_from, cases_eq, cases_lt, cases_Bool, lt-ltb, ltb-true, ne_eqb, eq-eqb, eqb-true, or_left, or_right, false≢true, both_ways}
-use Rattle.std.proofs.lemmas.List.{length-replicate, get_or_past, get_or-replicate}
+use Rattle.std.proofs.lemmas.Bool.{and_parts, and_from, cases_eq, cases_lt, cases_Bool, lt-ltb, ltb-true, ne_eqb, eq-eqb, or_left, or_right, both_ways}
+use Rattle.std.proofs.lemmas.List.{length-replicate, get_or_past}
 use Rattle.tg_instr.specs.declared.instr.Instr.{Instr}
 use Rattle.tg_instr.specs.declared.operands.Opnd.{Opnd}
 use Rattle.tg_live.specs.Live.{Sets, set_at, number_of, operand_of, IsLiveOut}

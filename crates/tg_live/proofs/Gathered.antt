@@ -1,7 +1,6 @@
 -- What the sets have once the operands of the first numbers are searched for.
-use Rattle.std.proofs.Common.{◌≡◌, ◌<◌, ◌+◌, ◌↔◌, ℕ, true, false, List, [], length, replicate, sym, ap, ◌∙◌, subst, arith, ⊎_elim}
+use Rattle.std.proofs.Common.{◌≡◌, ◌<◌, ◌+◌, ◌↔◌, ℕ, true, false, List, [], length, sym, ap, ◌∙◌, subst, arith, ⊎_elim}
 use Rattle.std.proofs.lemmas.Bool.{cases_eq, cases_Bool, false≢true, both_ways}
-use Rattle.std.proofs.lemmas.List.{length-replicate}
 use Rattle.tg_instr.specs.declared.instr.Instr.{Instr}
 use Rattle.tg_instr.specs.declared.operands.Opnd.{Opnd}
 use Rattle.tg_instr.specs.Operands.{is_same}
@@ -10,7 +9,6 @@ use Rattle.tg_live.specs.Live.{Sets, set_at, is_among, is_rising, number_of, ope
 use Rattle.tg_live.specs.Tables.{Table, AreSites}
 use Rattle.tg_live.specs.LiveChanges.{ends_in, AreSearched}
 use Rattle.tg_live.proofs.Reach.{used_along}
-use Rattle.tg_live.proofs.Turned.{row_none}
 use Rattle.tg_live.proofs.Numbers.{number_operand, ends_among, among_push_left, among_push_itself, among_push, rising_push}
 
 pub record AreGathered (all : List Instr) (n : ℕ) (sets : Sets) : Type 0 where

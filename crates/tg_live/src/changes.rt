@@ -25,7 +25,7 @@ ghost use Rattle.tg_live.specs.LiveChanges.{ends_in};
 
 use crate::operands::ends_in;
 use crate::searches::Search;
-use crate::tables::Table;
+use crate::tables::OperandTable;
 use std::alloc::Global;
 use tg_base::Memory;
 use tg_instr::Opnd;
@@ -34,8 +34,8 @@ use tg_instr::Opnd;
 /// operand that is searched for later stands behind the others in each row.
 #[derive(Drop)]
 pub(crate) struct LiveChanges {
-    comes: Table<Opnd>,
-    goes: Table<Opnd>,
+    comes: OperandTable,
+    goes: OperandTable,
 }
 
 impl LiveChanges {
@@ -45,8 +45,8 @@ impl LiveChanges {
         ensures goes { IfOk result (λ c. c.goes ≡ replicate count []) }
     {
         Ok(LiveChanges {
-            comes: Table::with_rows(alloc, count)?,
-            goes: Table::with_rows(alloc, count)?,
+            comes: OperandTable::with_rows(alloc, count)?,
+            goes: OperandTable::with_rows(alloc, count)?,
         })
     }
 
@@ -90,7 +90,7 @@ impl LiveChanges {
 
 // Puts an operand into the row of each place at which it comes: at the one before it isn't live.
 fn add_comes(
-    comes: &mut Table<Opnd>,
+    comes: &mut OperandTable,
     one: &Opnd,
     search: &Search,
     stamp: usize,
@@ -113,7 +113,7 @@ fn add_comes(
 
 // Puts an operand into the row of a place that it is live out of, where it comes there.
 fn add_start(
-    comes: &mut Table<Opnd>,
+    comes: &mut OperandTable,
     one: &Opnd,
     search: &Search,
     stamp: usize,
@@ -134,7 +134,12 @@ fn add_start(
 }
 
 // Puts an operand into the row of each place at which it goes: it is live out of the one before.
-fn add_goes(goes: &mut Table<Opnd>, one: &Opnd, search: &Search, stamp: usize) -> Result<(), Memory>
+fn add_goes(
+    goes: &mut OperandTable,
+    one: &Opnd,
+    search: &Search,
+    stamp: usize,
+) -> Result<(), Memory>
     requires within { IsTrue (list_all (λ k. nat_lt k (length search.now.marks))
         search.now.places) }
     requires sized { length goes.old ≡ length search.now.marks }
@@ -153,7 +158,7 @@ fn add_goes(goes: &mut Table<Opnd>, one: &Opnd, search: &Search, stamp: usize) -
 
 // Puts an operand into the row behind a place that it is live out of, where it goes there.
 fn add_end(
-    goes: &mut Table<Opnd>,
+    goes: &mut OperandTable,
     one: &Opnd,
     search: &Search,
     stamp: usize,
@@ -175,7 +180,7 @@ fn add_end(
 }
 
 // Puts an operand at the end of a row, unless the row ends in it.
-fn push_once(rows: &mut Table<Opnd>, at: usize, one: &Opnd) -> Result<(), Memory>
+fn push_once(rows: &mut OperandTable, at: usize, one: &Opnd) -> Result<(), Memory>
     requires { at < length rows.old }
     ensures sized { OnOk result (length rows.new ≡ length rows.old) }
     ensures rows { OnOk result ((q : ℕ) → row rows.new q ≡

@@ -2,17 +2,17 @@ ghost use Rattle.std.specs.Prelude.{◌≡◌, ◌<◌, ◌++◌, length, map, I
 ghost use Rattle.tg_instr.specs.Uses.{defs_of};
 ghost use Rattle.tg_live.specs.Tables.{row};
 
-use crate::tables::Table;
+use crate::tables::OperandTable;
 use std::alloc::Global;
 use tg_base::Memory;
 use tg_instr::{Instr, Opnd};
 
 /// For each place what its instruction defines. A search asks for it at each place that it visits,
 /// so it is made once for all operands.
-pub(crate) fn definitions(alloc: Global, list: &[Instr]) -> Result<Table<Opnd>, Memory>
+pub(crate) fn definitions(alloc: Global, list: &[Instr]) -> Result<OperandTable, Memory>
     ensures { IfOk result (λ defs. defs ≡ map defs_of list.now) }
 {
-    let mut table = Table::with_rows(alloc, 0)?;
+    let mut table = OperandTable::with_room(alloc, list.len())?;
     for one in list {
         let defs = one.defs(alloc);
         table.push_row(alloc, defs.as_slice())?;

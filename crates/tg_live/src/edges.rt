@@ -8,7 +8,7 @@ ghost use Rattle.tg_live.specs.Marks.{HavePlaces};
 
 use crate::flows::Flow;
 use crate::marks::mark_places;
-use crate::tables::Table;
+use crate::tables::PlaceTable;
 use std::alloc::Global;
 use std::collections::HashMap;
 use tg_base::Memory;
@@ -24,7 +24,7 @@ pub fn flow(alloc: Global, code: &Code) -> Result<Flow, Memory>
         return Err(Memory);
     }
     let places = mark_places(alloc, list)?;
-    let mut before = Table::with_rows(alloc, list.len())?;
+    let mut before = PlaceTable::with_rows(alloc, list.len())?;
     add_all_edges(list, &places, &mut before)?;
     Ok(Flow::new(before))
 }
@@ -33,7 +33,7 @@ pub fn flow(alloc: Global, code: &Code) -> Result<Flow, Memory>
 fn add_all_edges(
     list: &[Instr],
     places: &HashMap<u32, u32>,
-    before: &mut Table<u32>,
+    before: &mut PlaceTable,
 ) -> Result<(), Memory>
     requires short { length list.now < 2 ^ 32 }
     requires places { HavePlaces list.now places.now }
@@ -52,7 +52,7 @@ fn add_edges(
     list: &[Instr],
     at: usize,
     places: &HashMap<u32, u32>,
-    before: &mut Table<u32>,
+    before: &mut PlaceTable,
 ) -> Result<(), Memory>
     requires short { length list.now < 2 ^ 32 }
     requires at { at < length list.now }

@@ -2,14 +2,14 @@ ghost use Rattle.std.specs.Prelude.{◌≡◌};
 ghost use Rattle.std.specs.FinSet as set;
 ghost use Rattle.tg_live.specs.Tables.{edges_into};
 
-use crate::tables::Table;
+use crate::tables::PlaceTable;
 use std::marker::Model;
 
 /// Where the instructions of a code go on, as a set of pairs of places: for each place it has the
 /// places before it.
 #[derive(Drop)]
 pub struct Flow {
-    before: Table<u32>,
+    before: PlaceTable,
 }
 
 impl Model for Flow {
@@ -27,14 +27,14 @@ impl Model for Flow {
 }
 
 impl Flow {
-    pub(crate) fn new(before: Table<u32>) -> Flow
+    pub(crate) fn new(before: PlaceTable) -> Flow
         ensures { result ≡ set.from_list (edges_into 0 before) }
     {
         Flow { before }
     }
 
     /// For each place the places before it.
-    pub(crate) fn before(&self) -> &Table<u32>
+    pub(crate) fn before(&self) -> &PlaceTable
         ensures { self.now ≡ set.from_list (edges_into 0 result.now) }
     {
         &self.before

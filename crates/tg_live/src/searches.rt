@@ -30,7 +30,7 @@ ghost use Rattle.tg_live.specs.Search.{
 ghost use Rattle.tg_live.specs.Search as search;
 
 use crate::operands::is_among;
-use crate::tables::Table;
+use crate::tables::{OperandTable, PlaceTable};
 use std::alloc::Global;
 use std::marker::Model;
 use tg_base::Memory;
@@ -68,8 +68,8 @@ impl Search {
     pub(crate) fn run(
         &mut self,
         list: &[Instr],
-        defs: &Table<Opnd>,
-        before: &Table<u32>,
+        defs: &OperandTable,
+        before: &PlaceTable,
         one: &Opnd,
         stamp: usize,
         sites: &[u32],
@@ -133,8 +133,8 @@ impl Search {
     fn visit(
         &mut self,
         list: &[Instr],
-        defs: &Table<Opnd>,
-        before: &Table<u32>,
+        defs: &OperandTable,
+        before: &PlaceTable,
         one: &Opnd,
         stamp: usize,
         place: u32,
@@ -153,7 +153,7 @@ impl Search {
     /// Enters the operand at all places before these.
     fn enter_before(
         &mut self,
-        before: &Table<u32>,
+        before: &PlaceTable,
         stamp: usize,
         places: &[u32],
     ) -> Result<(), Memory>

@@ -5,19 +5,19 @@ ghost use Rattle.tg_live.specs.Tables.{row, add_to, numbers_used, AreSites};
 ghost use Rattle.tg_live.specs.Live.{uses_at, is_proper};
 
 use crate::operands::{REGISTERS, number_of};
-use crate::tables::Table;
+use crate::tables::PlaceTable;
 use std::alloc::Global;
 use tg_base::Memory;
 use tg_instr::{Code, Instr};
 
 /// For each operand, by its number, the places whose instructions use it.
-pub(crate) fn use_sites(alloc: Global, code: &Code) -> Result<Table<u32>, Memory>
+pub(crate) fn use_sites(alloc: Global, code: &Code) -> Result<PlaceTable, Memory>
     requires { length code.now.list < 2 ^ 32 }
     ensures sites { IfOk result (λ sites. AreSites code.now.list sites) }
     ensures size { IfOk result (λ sites. length sites < 32 + 2 ^ 32) }
 {
     let list = code.list.as_slice();
-    let mut sites = Table::with_rows(alloc, REGISTERS + code.temps as usize)?;
+    let mut sites = PlaceTable::with_rows(alloc, REGISTERS + code.temps as usize)?;
     for at in 0..list.len() {
         add_uses(alloc, list, at, code.temps, &mut sites)?;
     }
@@ -30,7 +30,7 @@ fn add_uses(
     list: &[Instr],
     at: usize,
     temps: u32,
-    sites: &mut Table<u32>,
+    sites: &mut PlaceTable,
 ) -> Result<(), Memory>
     requires short { length list.now < 2 ^ 32 }
     requires at { at < length list.now }

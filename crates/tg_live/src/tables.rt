@@ -1,34 +1,36 @@
 ghost use Rattle.std.specs.Prelude.{◌≡◌, ◌<◌, [], ◌∷◌, ◌++◌, length, replicate, OnOk, IfOk};
 ghost use Rattle.tg_live.specs.Tables.{row, push_at};
 
+use smallvec::SmallVec;
 use std::alloc::Global;
 use std::marker::Model;
 use tg_base::Memory;
+use tg_instr::Opnd;
 
-/// Rows of items.
+/// Rows of places. Most rows are short, and then they take no memory of their own.
 #[derive(Drop)]
-pub(crate) struct Table<T> {
-    rows: Vec<Vec<T>>,
+pub(crate) struct PlaceTable {
+    rows: Vec<SmallVec<u32, 4>>,
 }
 
-impl<T> Model for Table<T> {
-    ghost use Rattle.std.specs.Prelude.{List, map};
+impl Model for PlaceTable {
+    ghost use Rattle.std.specs.Prelude.{ℕ, List, map};
 
-    ghost Value = { List (List T) };
+    ghost Value = { List (List ℕ) };
 
     ghost view = { λ t. map (λ r. r.items) t.rows.items };
 }
 
-impl<T: Drop> Table<T> {
+impl PlaceTable {
     /// So many empty rows.
-    pub(crate) fn with_rows(alloc: Global, count: usize) -> Result<Table<T>, Memory>
+    pub(crate) fn with_rows(alloc: Global, count: usize) -> Result<PlaceTable, Memory>
         ensures { IfOk result (λ t. t ≡ replicate count []) }
     {
-        let mut rows = Vec::new(alloc);
+        let mut rows = Vec::with_capacity(alloc, count)?;
         for _ in 0..count {
-            rows.push(Vec::new(alloc))?;
+            rows.push(SmallVec::new(alloc))?;
         }
-        Ok(Table { rows })
+        Ok(PlaceTable { rows })
     }
 
     /// The number of rows.
@@ -38,32 +40,94 @@ impl<T: Drop> Table<T> {
         self.rows.len()
     }
 
-    /// The items of a row, and none past the last row.
-    pub(crate) fn row(&self, at: usize) -> &[T]
+    /// The places of a row, and none past the last row.
+    pub(crate) fn row(&self, at: usize) -> &[u32]
         ensures { result.now ≡ row self.now at }
     {
         match self.rows.get(at) {
-            Some(items) => items.as_slice(),
+            Some(places) => places.as_slice(),
             None => &[],
         }
     }
 
-    /// Puts an item at the end of a row.
-    pub(crate) fn push(&mut self, at: usize, item: T) -> Result<(), Memory>
+    /// Puts a place at the end of a row.
+    pub(crate) fn push(&mut self, at: usize, place: u32) -> Result<(), Memory>
         requires { at < length self.old }
-        ensures { OnOk result (self.new ≡ push_at self.old at item) }
+        ensures { OnOk result (self.new ≡ push_at self.old at place) }
     {
-        self.rows[at].push(item)?;
+        self.rows[at].push(place)?;
         Ok(())
     }
 }
 
-impl<T: Copy> Table<T> {
-    /// Puts a row of these items behind the last row.
-    pub(crate) fn push_row(&mut self, alloc: Global, items: &[T]) -> Result<(), Memory>
-        ensures { OnOk result (self.new ≡ self.old ++ items.now ∷ []) }
+/// Rows of operands, which are kept in the same way: a table for both would hold arrays of a type
+/// parameter, of whose size nothing is known.
+#[derive(Drop)]
+pub(crate) struct OperandTable {
+    rows: Vec<SmallVec<Opnd, 2>>,
+}
+
+impl Model for OperandTable {
+    ghost use Rattle.std.specs.Prelude.{List, map};
+    ghost use Rattle.tg_instr.specs.declared.operands.Opnd.{Opnd};
+
+    ghost Value = { List (List Opnd) };
+
+    ghost view = { λ t. map (λ r. r.items) t.rows.items };
+}
+
+impl OperandTable {
+    /// No rows, and room for so many.
+    pub(crate) fn with_room(alloc: Global, count: usize) -> Result<OperandTable, Memory>
+        ensures { IfOk result (λ t. t ≡ []) }
     {
-        self.rows.push(Vec::from_slice(alloc, items)?)?;
+        Ok(OperandTable {
+            rows: Vec::with_capacity(alloc, count)?,
+        })
+    }
+
+    /// So many empty rows.
+    pub(crate) fn with_rows(alloc: Global, count: usize) -> Result<OperandTable, Memory>
+        ensures { IfOk result (λ t. t ≡ replicate count []) }
+    {
+        let mut rows = Vec::with_capacity(alloc, count)?;
+        for _ in 0..count {
+            rows.push(SmallVec::new(alloc))?;
+        }
+        Ok(OperandTable { rows })
+    }
+
+    /// The number of rows.
+    pub(crate) fn len(&self) -> usize
+        ensures { result ≡ length self.now }
+    {
+        self.rows.len()
+    }
+
+    /// The operands of a row, and none past the last row.
+    pub(crate) fn row(&self, at: usize) -> &[Opnd]
+        ensures { result.now ≡ row self.now at }
+    {
+        match self.rows.get(at) {
+            Some(operands) => operands.as_slice(),
+            None => &[],
+        }
+    }
+
+    /// Puts an operand at the end of a row.
+    pub(crate) fn push(&mut self, at: usize, one: Opnd) -> Result<(), Memory>
+        requires { at < length self.old }
+        ensures { OnOk result (self.new ≡ push_at self.old at one) }
+    {
+        self.rows[at].push(one)?;
+        Ok(())
+    }
+
+    /// Puts a row of these operands behind the last row.
+    pub(crate) fn push_row(&mut self, alloc: Global, operands: &[Opnd]) -> Result<(), Memory>
+        ensures { OnOk result (self.new ≡ self.old ++ operands.now ∷ []) }
+    {
+        self.rows.push(SmallVec::from_slice(alloc, operands)?)?;
         Ok(())
     }
 }

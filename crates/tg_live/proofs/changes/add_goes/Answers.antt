@@ -1,4 +1,4 @@
-use Rattle.std.proofs.Common.{◌≡◌, ◌<◌, ℕ, suc, not, nat_eq, ◌&&◌, length, take, sym, ap, ◌∙◌, arith}
+use Rattle.std.proofs.Common.{◌<◌, suc, not, nat_eq, ◌&&◌, length, ap, ◌∙◌, arith}
 use Rattle.std.specs.List.{list_any}
 use Rattle.std.proofs.lemmas.List.{take_all}
 use Rattle.tg_live.specs.Tables.{row}

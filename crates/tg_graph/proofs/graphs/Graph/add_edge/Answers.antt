@@ -8,7 +8,7 @@ use Rattle.tg_graph.specs.Keeping.{IsKept, lists_of, counted_up}
 use Rattle.tg_graph.proofs.Places.{place_at, tile_within}
 use Rattle.tg_graph.proofs.Changes.{counted_few, length_counted}
 use Rattle.tg_graph.proofs.Joining.{CanJoin, can_join, ends_interfere, few_counted, graph_of, joined, kept_at, kept_joined, kept_reached, interferes_joined}
-use Rattle.tg_graph.proofs.Vectors.{at_err, at_ok, lists_sized, same_size, size_with}
+use Rattle.tg_graph.proofs.Vectors.{items_of, at_err, at_ok, lists_sized, same_size, size_with}
 use Rattle.tg_graph.proofs.graphs.Graph.add_edge.Goals as goal
 
 pub returns-then-interferes-clause-pairs : goal.returns-then-interferes-clause-pairs
@@ -19,7 +19,7 @@ pub reach_pair-requires : goal.reach_pair-requires
 reach_pair-requires c =
     let nodes : c.self.inside.nodes ≡ c.args.self.now.nodes = ap (λ (h : Interference). h.nodes) c.self.view_is in
     subst (λ (size : ℕ). c.pair_place-at.result / area < size)
-    (sym (lists_sized c.self.inside.pairs.items (tiles_for c.self.inside.nodes) c.self.invariant.room))
+    (sym (lists_sized items_of c.self.inside.pairs.items (tiles_for c.self.inside.nodes) c.self.invariant.room))
     (tile_within c.min.result c.max.result c.self.inside.nodes c.pair_place-at.result (omega arith) (omega arith)
     c.pair_place-at.ensures)
 
@@ -100,7 +100,7 @@ set_pair-requires-clause-tile c =
     let nodes : c.self.inside.nodes ≡ c.args.self.now.nodes = ap (λ (h : Interference). h.nodes) c.self.view_is in
     subst (λ (size : ℕ). c.pair_place-at.result / area < size)
     (sym (c.in_ok-reach_pair.ensures.size
-    ∙ lists_sized c.self.inside.pairs.items (tiles_for c.self.inside.nodes) c.self.invariant.room))
+    ∙ lists_sized items_of c.self.inside.pairs.items (tiles_for c.self.inside.nodes) c.self.invariant.room))
     (tile_within c.min.result c.max.result c.self.inside.nodes c.pair_place-at.result (omega arith) (omega arith)
     c.pair_place-at.ensures)
 

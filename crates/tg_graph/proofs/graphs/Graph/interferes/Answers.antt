@@ -5,7 +5,7 @@ use Rattle.tg_graph.specs.Interference.{Interference, interferes, colours}
 use Rattle.tg_graph.specs.Keeping.{lists_of}
 use Rattle.tg_graph.proofs.Places.{place_at, tile_within}
 use Rattle.tg_graph.proofs.Joining.{bit_told, graph_of}
-use Rattle.tg_graph.proofs.Vectors.{lists_sized}
+use Rattle.tg_graph.proofs.Vectors.{items_of, lists_sized}
 use Rattle.tg_graph.proofs.graphs.Graph.interferes.Goals as goal
 
 pub has_pair-requires : goal.has_pair-requires
@@ -14,7 +14,7 @@ has_pair-requires c =
     let nodes : n ≡ c.args.self.now.nodes = ap (λ (h : Interference). h.nodes) c.self.view_is in
     subst (λ (size : ℕ). c.pair_place.result / 16384 < size)
     (sym (ap length c.deref.ensures.value
-    ∙ lists_sized c.self.inside.pairs.items (tiles_for n) c.self.invariant.room))
+    ∙ lists_sized items_of c.self.inside.pairs.items (tiles_for n) c.self.invariant.room))
     (tile_within c.min.result c.max-high.result n c.pair_place.result (omega arith) (omega arith) c.pair_place.ensures)
 
 pub returns-else-high-lt-COLOURS : goal.returns-else-high-lt-COLOURS

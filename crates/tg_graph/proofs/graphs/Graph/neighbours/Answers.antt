@@ -3,7 +3,7 @@ use Rattle.std.proofs.lemmas.List.{length-map}
 use Rattle.tg_graph.specs.Interference.{Interference, neighbours}
 use Rattle.tg_graph.specs.Keeping.{IsKept, lists_of}
 use Rattle.tg_graph.proofs.Joining.{neighbours_below}
-use Rattle.tg_graph.proofs.Vectors.{list_read}
+use Rattle.tg_graph.proofs.Vectors.{items_of, list_read}
 use Rattle.tg_graph.proofs.graphs.Graph.neighbours.Goals as goal
 
 pub returns-clause-within : goal.returns-clause-within
@@ -16,6 +16,6 @@ returns-clause-within c =
     let size : length vectors ≡ c.self.inside.nodes - 25 = sym (length-map vectors (λ v. v.items)) ∙ kept.graph.sized in
     let within : c.args.a - 25 < length vectors = omega (arith, size, node, c.requires.temporary) in
     let read : c.as_slice.result.now ≡ neighbours g c.args.a =
-    c.as_slice.ensures.value ∙ sym (list_read vectors (c.args.a - 25) c.index.result.now within c.index.ensures) in
+    c.as_slice.ensures.value ∙ sym (list_read items_of vectors (c.args.a - 25) c.index.result.now within c.index.ensures) in
     neighbours_below g c.args.a c.args.self.now.nodes c.as_slice.result.now
     kept.graph c.requires.temporary node read nodes

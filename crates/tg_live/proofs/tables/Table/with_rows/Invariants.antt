@@ -1,5 +1,0 @@
-use Rattle.std.proofs.Common.{◌≡◌, [], map, replicate}
-use Rattle.tg_live.proofs.tables.Table.with_rows.Given as goal
-
-abbrev pub invariant-loop : goal.invariant-loop
-invariant-loop g l = map (λ r. r.items) l.rows.items ≡ replicate l.counter []
