@@ -1,20 +1,22 @@
 -- Vectors that are written, and folds over the numbers of a range.
-use Rattle.std.proofs.Common.{◌≡◌, ℕ, ◌+◌, ◌-◌, ◌≤◌, List, [], ◌∷◌, ◌++◌, length, take, drop, Vec, sym, ap, ◌∙◌, arith}
-use Rattle.std.specs.declared.alloc.Global.{Global}
+use Rattle.std.proofs.Common.{◌≡◌, ℕ, ◌+◌, ◌-◌, ◌≤◌, List, [], ◌∷◌, ◌++◌, length, take, drop, sym, ap, ◌∙◌, arith}
 use Rattle.std.specs.List.{range_with_len}
 use Rattle.std.proofs.lemmas.List.{map_push, take_at}
 use Rattle.std.proofs.lemmas.List.Sums.{fold_push}
 use Rattle.std.specs.Prelude.{fold}
 use Rattle.std.proofs.lemmas.List.FromFn.{map-range_with_len_more}
-use Rattle.tg_graph.specs.Keeping.{lists_of}
+use Rattle.smallvec.specs.SmallVec.{SmallVec}
 use Rattle.tg_graph.proofs.Runs.{range_next}
-use Rattle.tg_coalesce.specs.Lists.{singletons}
+use Rattle.tg_coalesce.specs.Lists.{numbers_in, singletons}
 
-pub singletons_pushed : (vs : List (Vec ℕ Global)) (v : Vec ℕ Global) (n : ℕ) → lists_of vs ≡ singletons n →
+abbrev pub items_of : SmallVec ℕ → List ℕ
+items_of v = v.items
+
+pub singletons_pushed : (vs : List (SmallVec ℕ)) (v : SmallVec ℕ) (n : ℕ) → numbers_in vs ≡ singletons n →
     v.items ≡ n ∷ [] →
-    lists_of (vs ++ v ∷ []) ≡ singletons (n + 1)
+    numbers_in (vs ++ v ∷ []) ≡ singletons (n + 1)
 singletons_pushed vs v n e f =
-    map_push (λ (u : Vec ℕ Global). u.items) vs v
+    map_push items_of vs v
     ∙ (ap (λ (ls : List (List ℕ)). ls ++ v.items ∷ []) e
     ∙ (ap (λ (l : List ℕ). singletons n ++ l ∷ []) f ∙ sym (map-range_with_len_more (λ x. x ∷ []) 0 n n (omega arith))))
 

@@ -2,6 +2,11 @@
 use Rattle.std.specs.Prelude.{ℕ, ◌+◌, ◌-◌, List, [], ◌∷◌, ◌++◌, map, fold}
 use Rattle.std.specs.Prelude.{slice_index, slice_index_or, slice_set}
 use Rattle.std.specs.List.{range_with_len}
+use Rattle.smallvec.specs.SmallVec.{SmallVec}
+
+-- the lists of small vectors
+abbrev pub numbers_in : List (SmallVec ℕ) → List (List ℕ)
+numbers_in vectors = map (λ v. v.items) vectors
 
 abbrev pub list_at : List (List ℕ) → ℕ → List ℕ
 list_at lists at = slice_index_or lists at []

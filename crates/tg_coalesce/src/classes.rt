@@ -14,7 +14,7 @@ ghost use Rattle.std.specs.Prelude.{
 ghost use Rattle.tg_coalesce.specs.Groupings.{apart, is_made, joined};
 ghost use Rattle.tg_coalesce.specs.Lists.{set_at_all};
 
-use crate::lists::{move_sum, pour, singletons};
+use crate::lists::{Numbers, move_sum, pour, singletons};
 use std::alloc::Global;
 use std::marker::Model;
 use tg_base::Memory;
@@ -27,7 +27,7 @@ use tg_rounds::Mark;
 #[derive(Drop)]
 pub(crate) struct Classes {
     aliases: Vec<u32>,
-    members: Vec<Vec<u32>>,
+    members: Vec<Numbers>,
     uses: Vec<u32>,
     made: Vec<bool>,
 }

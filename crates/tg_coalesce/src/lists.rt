@@ -11,43 +11,58 @@ ghost use Rattle.std.specs.Prelude.{
   OnErr,
   OnOk,
   length,
+  replicate,
   slice_index_or,
   slice_set,
   sum,
 };
-ghost use Rattle.tg_graph.specs.Keeping.{lists_of};
 ghost use Rattle.tg_coalesce.specs.Lists as lists_by;
-ghost use Rattle.tg_coalesce.specs.Lists.{list_at, poured, pushed};
+ghost use Rattle.tg_coalesce.specs.Lists.{list_at, numbers_in, poured, pushed};
 
+use smallvec::SmallVec;
 use std::alloc::Global;
 use std::mem;
 use tg_base::Memory;
 
-/// For each number below a number a list of it alone.
-pub(crate) fn singletons(alloc: Global, count: u32) -> Result<Vec<Vec<u32>>, Memory>
-    ensures { IfOk result (λ v. lists_of v.items ≡ lists_by.singletons count) }
+/// A list of numbers, which takes no memory of its own while it is short.
+pub(crate) type Numbers = SmallVec<u32, 4>;
+
+/// As many empty lists.
+pub(crate) fn empty_lists(alloc: Global, count: u32) -> Result<Vec<Numbers>, Memory>
+    ensures { IfOk result (λ v. numbers_in v.items ≡ replicate count []) }
 {
     let mut lists = Vec::with_capacity(alloc, count as usize)?;
-    for number in 0..count {
-        lists.push(singleton(alloc, number)?)?;
+    for _ in 0..count {
+        lists.push(SmallVec::new(alloc))?;
     }
     Ok(lists)
 }
 
-fn singleton(alloc: Global, number: u32) -> Result<Vec<u32>, Memory>
-    ensures { IfOk result (λ v. v.items ≡ number ∷ []) }
+/// For each number below a number a list of it alone.
+pub(crate) fn singletons(alloc: Global, count: u32) -> Result<Vec<Numbers>, Memory>
+    ensures { IfOk result (λ v. numbers_in v.items ≡ lists_by.singletons count) }
 {
-    let mut list = Vec::with_capacity(alloc, 1)?;
-    list.push(number)?;
-    Ok(list)
+    let mut lists = Vec::with_capacity(alloc, count as usize)?;
+    for number in 0..count {
+        lists.push(singleton(alloc, number))?;
+    }
+    Ok(lists)
+}
+
+fn singleton(alloc: Global, number: u32) -> Numbers
+    ensures { result.items ≡ number ∷ [] }
+{
+    let mut list = SmallVec::new(alloc);
+    list.push_reserved(number);
+    list
 }
 
 /// Puts a number last in one of the lists.
-pub(crate) fn push_to(lists: &mut Vec<Vec<u32>>, at: u32, number: u32) -> Result<(), Memory>
+pub(crate) fn push_to(lists: &mut Vec<Numbers>, at: u32, number: u32) -> Result<(), Memory>
     requires { at < length lists.old.items }
     ensures ok { OnOk result
-        (lists_of lists.new.items ≡ pushed at number (lists_of lists.old.items)) }
-    ensures err { OnErr result (lists_of lists.new.items ≡ lists_of lists.old.items) }
+        (numbers_in lists.new.items ≡ pushed at number (numbers_in lists.old.items)) }
+    ensures err { OnErr result (numbers_in lists.new.items ≡ numbers_in lists.old.items) }
 {
     let list = &mut lists[at as usize];
     list.push(number)?;
@@ -55,12 +70,12 @@ pub(crate) fn push_to(lists: &mut Vec<Vec<u32>>, at: u32, number: u32) -> Result
 }
 
 /// Puts all numbers of the list at `from` behind those of the list at `to`, and leaves none there.
-pub(crate) fn pour(lists: &mut Vec<Vec<u32>>, to: u32, from: u32) -> Result<(), Memory>
+pub(crate) fn pour(lists: &mut Vec<Numbers>, to: u32, from: u32) -> Result<(), Memory>
     requires first { to < length lists.old.items }
     requires second { from < length lists.old.items }
     ensures ok { OnOk result
-        (lists_of lists.new.items ≡ poured to from (lists_of lists.old.items)) }
-    ensures err { OnErr result (lists_of lists.new.items ≡ lists_of lists.old.items) }
+        (numbers_in lists.new.items ≡ poured to from (numbers_in lists.old.items)) }
+    ensures err { OnErr result (numbers_in lists.new.items ≡ numbers_in lists.old.items) }
 {
     let moved = take_list(lists, from)?;
     if extend_list(lists, to, &moved).is_err() {
@@ -71,25 +86,25 @@ pub(crate) fn pour(lists: &mut Vec<Vec<u32>>, to: u32, from: u32) -> Result<(), 
 }
 
 /// Takes one of the lists out, and leaves an empty one in its place.
-fn take_list(lists: &mut Vec<Vec<u32>>, at: u32) -> Result<Vec<u32>, Memory>
+fn take_list(lists: &mut Vec<Numbers>, at: u32) -> Result<Numbers, Memory>
     requires { at < length lists.old.items }
-    ensures taken { IfOk result (λ v. v.items ≡ list_at (lists_of lists.old.items) at) }
+    ensures taken { IfOk result (λ v. v.items ≡ list_at (numbers_in lists.old.items) at) }
     ensures left { OnOk result
-        (lists_of lists.new.items ≡ slice_set (lists_of lists.old.items) at []) }
-    ensures err { OnErr result (lists_of lists.new.items ≡ lists_of lists.old.items) }
+        (numbers_in lists.new.items ≡ slice_set (numbers_in lists.old.items) at []) }
+    ensures err { OnErr result (numbers_in lists.new.items ≡ numbers_in lists.old.items) }
 {
     let list = &mut lists[at as usize];
     Ok(mem::try_take(list)?)
 }
 
 /// Puts numbers behind those of one of the lists.
-fn extend_list(lists: &mut Vec<Vec<u32>>, at: u32, more: &[u32]) -> Result<(), Memory>
+fn extend_list(lists: &mut Vec<Numbers>, at: u32, more: &[u32]) -> Result<(), Memory>
     requires { at < length lists.old.items }
     ensures ok { OnOk result
-        (lists_of lists.new.items ≡
-        (let lists = lists_of lists.old.items in
+        (numbers_in lists.new.items ≡
+        (let lists = numbers_in lists.old.items in
         slice_set lists at (list_at lists at ++ more.now))) }
-    ensures err { OnErr result (lists_of lists.new.items ≡ lists_of lists.old.items) }
+    ensures err { OnErr result (numbers_in lists.new.items ≡ numbers_in lists.old.items) }
 {
     let list = &mut lists[at as usize];
     list.extend_from_slice(more)?;

@@ -15,9 +15,8 @@ ghost use Rattle.std.specs.Prelude.{
   slice_index,
   sum,
 };
-ghost use Rattle.tg_graph.specs.Keeping.{lists_of};
 ghost use Rattle.tg_rounds.specs.States as states;
-ghost use Rattle.tg_coalesce.specs.Lists.{list_at, lowered, moved_sum};
+ghost use Rattle.tg_coalesce.specs.Lists.{list_at, lowered, moved_sum, numbers_in};
 ghost use Rattle.tg_coalesce.specs.Tables as tables;
 ghost use Rattle.tg_coalesce.specs.Tables.{
   ends_counted,
@@ -33,13 +32,13 @@ ghost use Rattle.tg_coalesce.specs.Tables.{
   woken,
 };
 
-use crate::lists::{pour, push_to};
+use crate::lists::{Numbers, empty_lists, pour, push_to};
 use crate::move_states::{MoveStates, is_waiting};
 use std::alloc::Global;
 use std::collections::VecDeque;
 use std::marker::Model;
 use tg_base::Memory;
-use tg_graph::{empty_lists, numbers};
+use tg_graph::numbers;
 use tg_rounds::{Move, MoveState};
 
 /// The moves of a round, their states, and those that are to be tried. For each class it lists the
@@ -49,7 +48,7 @@ pub(crate) struct MoveTable {
     moves: Vec<Move>,
     states: MoveStates,
     ready: VecDeque<u32>,
-    touching: Vec<Vec<u32>>,
+    touching: Vec<Numbers>,
     unsettled: Vec<usize>,
 }
 
@@ -232,13 +231,13 @@ fn is_ready_or_waiting(state: MoveState) -> bool
 }
 
 /// The places of moves by the nodes in which they end.
-fn list_ends(alloc: Global, moves: &[Move], nodes: u32) -> Result<Vec<Vec<u32>>, Memory>
+fn list_ends(alloc: Global, moves: &[Move], nodes: u32) -> Result<Vec<Numbers>, Memory>
     requires few { length moves.now < 2 ^ 32 }
     requires ends { All (λ m. (m.to < nodes) × (m.from < nodes)) moves.now }
     ensures { IfOk result
-        (λ v. lists_of v.items ≡ ends_listed moves.now nodes (length moves.now)) }
+        (λ v. numbers_in v.items ≡ ends_listed moves.now nodes (length moves.now)) }
 {
-    let mut touching = empty_lists(alloc, nodes as usize)?;
+    let mut touching = empty_lists(alloc, nodes)?;
     for index in 0..moves.len() {
         let one = moves[index];
         push_to(&mut touching, one.to, index as u32)?;

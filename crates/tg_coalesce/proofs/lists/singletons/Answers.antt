@@ -1,17 +1,17 @@
 use Rattle.std.proofs.Common.{◌≡◌, ◌∙◌, ap, arith}
-use Rattle.tg_graph.specs.Keeping.{lists_of}
+use Rattle.tg_coalesce.specs.Lists.{numbers_in}
 use Rattle.tg_coalesce.specs.Lists.{singletons}
 use Rattle.tg_coalesce.proofs.Vectors.{singletons_pushed}
 use Rattle.tg_coalesce.proofs.lists.singletons.Goals as goal
 
 pub loop-number-init : goal.loop-number-init
-loop-number-init c = ap lists_of c.in_ok-lists.ensures.items
+loop-number-init c = ap numbers_in c.in_ok-lists.ensures.items
 
 pub loop-number-preserved : goal.loop-number-preserved
 loop-number-preserved c =
-    ap lists_of c.in_ok-push.ensures.items
-    ∙ singletons_pushed c.loop-number.lists.items c.in_ok-singleton.field-0 c.loop-number.number c.loop-number.invariant
-    c.in_ok-singleton.ensures
+    ap numbers_in c.in_ok-push.ensures.items
+    ∙ singletons_pushed c.loop-number.lists.items c.singleton.result c.loop-number.number c.loop-number.invariant
+    c.singleton.ensures
 
 pub returns : goal.returns
 returns c =

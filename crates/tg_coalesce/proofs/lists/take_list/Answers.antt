@@ -1,9 +1,10 @@
 use Rattle.std.proofs.Common.{ℕ, List, set, ap, ◌∙◌}
-use Rattle.tg_graph.specs.Keeping.{lists_of}
+use Rattle.tg_coalesce.specs.Lists.{numbers_in}
 use Rattle.tg_graph.proofs.Vectors.{lists_set}
+use Rattle.tg_coalesce.proofs.Vectors.{items_of}
 use Rattle.tg_coalesce.proofs.lists.take_list.Goals as goal
 
 pub returns-clause-left : goal.returns-clause-left
 returns-clause-left c =
-    lists_set c.args.lists.now.items c.args.at c.try_take.new.dest
-    ∙ ap (λ (xs : List ℕ). set (lists_of c.args.lists.now.items) c.args.at xs) c.in_ok-try_take.ensures.after.0
+    lists_set items_of c.args.lists.now.items c.args.at c.try_take.new.dest
+    ∙ ap (λ (xs : List ℕ). set (numbers_in c.args.lists.now.items) c.args.at xs) c.in_ok-try_take.ensures.after.0

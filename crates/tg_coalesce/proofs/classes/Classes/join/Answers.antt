@@ -1,25 +1,25 @@
 use Rattle.std.proofs.Common.{◌≡◌, ℕ, List, ◌++◌, length, take, drop, get_or, refl, sym, ap, ◌∙◌, arith}
 use Rattle.std.proofs.lemmas.List.{length-set}
-use Rattle.tg_graph.specs.Keeping.{lists_of}
+use Rattle.tg_coalesce.specs.Lists.{numbers_in}
 use Rattle.tg_graph.proofs.Vectors.{list_read, lists_sized}
 use Rattle.tg_coalesce.specs.Groupings.{Grouping, joined}
 use Rattle.tg_coalesce.specs.Lists.{list_at, moved_sum, set_at_all}
 use Rattle.tg_coalesce.specs.ShownClasses.{grouping_of}
 use Rattle.tg_coalesce.proofs.Classing.{joined_grouping, made_grouping, relabelled_grouping, same_grouping}
 use Rattle.tg_coalesce.proofs.Listing.{length_moved_sum, length_set_at_all}
-use Rattle.tg_coalesce.proofs.Vectors.{all_written}
+use Rattle.tg_coalesce.proofs.Vectors.{items_of, all_written}
 use Rattle.tg_coalesce.proofs.classes.Classes.join.Goals as goal
 use Rattle.tg_coalesce.proofs.classes.Classes.join.Goals.{After-deref, After-relabel}
 
 -- the members of the class that goes
-members_read : (c : After-deref) → list_at (lists_of c.self.inside.members.items) c.args.gone ≡ c.deref.result.now
+members_read : (c : After-deref) → list_at (numbers_in c.self.inside.members.items) c.args.gone ≡ c.deref.result.now
 members_read c =
     let i = c.self.inside in
     let size = ap (λ (g : Grouping). length g.aliases) c.self.view_is in
-    let sized = lists_sized i.members.items _ refl in
-    list_read i.members.items c.args.gone c.index.result.now
+    let sized = lists_sized items_of i.members.items _ refl in
+    list_read items_of i.members.items c.args.gone c.index.result.now
     (omega (arith, size, sized, c.requires.gone, c.self.invariant.members_sized)) c.index.ensures
-    ∙ sym c.deref.ensures.value
+    ∙ sym c.deref.ensures
 
 -- the aliases as they were relabelled
 aliases_written : (c : After-relabel) →
