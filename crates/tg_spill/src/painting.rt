@@ -38,10 +38,11 @@ pub fn paint(alloc: Global, code: &[Instr], colours: &[Option<u8>]) -> Result<Ve
     requires { IsTrue (list_all (has_temps_below (length colours.now)) code.now) }
     ensures { IfOk result (λ list. list.items ≡ code_painted (colour_in colours.now) code.now) }
 {
-    let mut list = Vec::new(alloc);
+    let mut list = Vec::with_capacity(alloc, code.len())?;
     for one in code.iter() {
         put_painted(&mut list, colours, one)?;
     }
+    list.shrink_to_fit();
     Ok(list)
 }
 

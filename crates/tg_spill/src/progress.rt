@@ -179,7 +179,7 @@ fn homes_of(alloc: Global, slots: &[Option<u32>], colours: &[Option<u8>]) -> Res
     requires { length slots.now ≤ length colours.now }
     ensures { IfOk result (λ homes. homes ≡ homes_in slots.now colours.now) }
 {
-    let mut homes = Vec::new(alloc);
+    let mut homes = Vec::with_capacity(alloc, slots.len())?;
     for at in 0..slots.len() {
         homes.push(home_of(slots[at], colours[at]))?;
     }

@@ -54,7 +54,7 @@ fn instructions(
         list.items ≡ code_rewritten (slot_in slots.now) code.now next.old) }
     ensures next { OnOk result (next.new ≡ temps_after (slot_in slots.now) code.now next.old) }
 {
-    let mut list = Vec::new(alloc);
+    let mut list = Vec::with_capacity(alloc, code.len())?;
     for one in code.iter() {
         put_rewritten(&mut list, slots, next, one)?;
     }

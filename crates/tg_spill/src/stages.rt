@@ -102,7 +102,7 @@ pub fn slots_of(
     ensures { IfOk result (λ slots. slots.items ≡ map (slot_by classes.now base) aliases.now) }
 {
     let table = class_slots(alloc, base, nodes, classes)?;
-    let mut slots = Vec::new(alloc);
+    let mut slots = Vec::with_capacity(alloc, aliases.len())?;
     for class in aliases.iter() {
         slots.push(table[*class as usize])?;
     }
