@@ -2,6 +2,7 @@
 //! Promises exactly the text of `specs/Canonical.antt`. Comments are no tokens, so they are lost.
 #![tactic(auto)]
 
+mod escapes;
 mod formatting;
 mod gaps;
 mod kinds;
