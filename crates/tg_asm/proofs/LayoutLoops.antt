@@ -1,19 +1,28 @@
 -- Items and labels are laid out one by one.
-use Rattle.std.proofs.Common.{◌≡◌, ◌<◌, ◌≤◌, ◌+◌, ℕ, suc, min, List, [], ◌∷◌, length, map, drop, get_or, Option, Some, None, Result, Ok, Err, refl}
-use Rattle.std.proofs.Common.{sym, ap, subst, ◌∙◌, arith, drop-cons, add-one}
+use Rattle.std.proofs.Common.{◌≡◌, ◌<◌, ◌≤◌, ◌+◌, ℕ, suc, min, List, [], ◌∷◌, ◌++◌, length, map, drop, get_or, Bool, true, false, cond, Option, Some, None, Result, Ok, Err, refl}
+use Rattle.std.proofs.Common.{sym, ap, ◌∙◌, arith, drop-cons, add-one, append_assoc, append-nil}
+use Rattle.std.specs.Prelude.{is_some, unwrap_or}
 use Rattle.std.proofs.lemmas.List.{drop_all}
 use Rattle.tg_isa.specs.declared.keywords.AsmRule.{AsmRule}
+use Rattle.tg_isa.specs.declared.keywords.AsmRule.TheVariants.{A4}
 use Rattle.tg_isa.specs.Items as items
-use Rattle.tg_isa.specs.Assembly.{Layout, LabelTarget, spot_of, add_label, add_new, add_one, add_labels}
-use Rattle.tg_asm.specs.Layouts.{IsSmall}
+use Rattle.tg_isa.specs.Assembly.{Layout, LabelTarget, spot_of, spot_among, add_label, add_new, add_labels}
+use Rattle.tg_asm.specs.Entries.{Lined, unlined, first_again}
+use Rattle.tg_asm.specs.Layouts.{IsSmall, lined_at, put_labels}
 use Rattle.tg_isa.specs.declared.keywords.Keyword.{Keyword}
 use Rattle.tg_isa.specs.Lines.{labelled, label_at, skip, is_solid}
 use Rattle.tg_asm.specs.Cuts.{labels_of, operand_of}
-use Rattle.tg_asm.proofs.CutLoops.{OneLess, label_taken, labelled_none, length-back}
-use Rattle.tg_asm.specs.Means.{Leaves, datum_stored}
-use Rattle.tg_asm.specs.declared.faults.Refused.{Refused}
-use Rattle.tg_asm.specs.declared.faults.Refused.TheVariants as refused
+use Rattle.tg_asm.proofs.CutLoops.{label_taken, labelled_none, length-back}
+use Rattle.tg_asm.specs.Means.{datum_stored}
 use Rattle.tg_asm.specs.declared.cuts.Operand.{Operand}
+
+abbrev pub or_later : Option ℕ → Option ℕ → Option ℕ
+or_later None o = o
+or_later (Some n) o = Some n
+
+abbrev pub labels_by : Option ℕ → Layout → Result Layout AsmRule
+labels_by None l = Ok l
+labels_by (Some n) l = Err A4
 
 -- widths
 abbrev stored : Keyword → List Operand → List items.Datum
@@ -38,55 +47,73 @@ summed_end k os total at s h =
     sym (s.same ∙ rw none (omega (arith, b)))
 
 -- labels
-pub record Labelling (first : Layout) (line : List ℕ) (l : Layout) (rest : List ℕ) : Type 0 where
+pub record Labelling (n : ℕ) (first : Layout) (before : List Lined) (line : List ℕ) (l : Layout) (lined : List Lined) (rest : List ℕ) : Type 0 where
   pub fuel : ℕ
   pub enough : length rest ≤ fuel
-  pub same : add_labels first (labels_of line) ≡ add_labels l (labelled fuel rest).labels
+  pub same : put_labels first (labels_of line) ≡ put_labels l (labelled fuel rest).labels
+  pub lines : before ++ map (lined_at n first) (labels_of line) ≡ lined ++ map (lined_at n l) (labelled fuel rest).labels
 
-pub labelling_begin : (first : Layout) (line rest : List ℕ) → rest ≡ skip line → Labelling first line first rest
-labelling_begin first line rest r = record { fuel = length line; enough = rw r (length-back is_solid line); same = rw r refl }
+pub labelling_begin : (n : ℕ) (first : Layout) (before : List Lined) (line rest : List ℕ) → rest ≡ skip line → Labelling n first before line first before rest
+labelling_begin n first before line rest r = record { fuel = length line; enough = rw r (length-back is_solid line); same = rw r refl; lines = rw r refl }
 
-next_label : (first : Layout) (line : List ℕ) (l : Layout) (text name rest : List ℕ) (i : Labelling first line l text) (t : OneLess i.fuel text name rest) →
-    add_labels first (labels_of line) ≡ add_labels l (name ∷ (labelled t.left (skip rest)).labels)
-next_label first line l text name rest i t = i.same ∙ ap (λ k. add_labels l k.labels) t.same
-
-pub labelling_more : (first : Layout) (line : List ℕ) (l m : Layout) (text name rest after : List ℕ) → Labelling first line l text →
-    label_at text ≡ Some (name, rest) → after ≡ skip rest → add_one l name ≡ Ok m → Labelling first line m after
-labelling_more first line l m text name rest after i s a e =
+pub labelling_more : (n : ℕ) (first : Layout) (before : List Lined) (line : List ℕ) (l m : Layout) (lined lined' : List Lined) (text name rest after : List ℕ) →
+    Labelling n first before line l lined text → label_at text ≡ Some (name, rest) → after ≡ skip rest → m ≡ add_label l name →
+    lined' ≡ lined ++ lined_at n l name ∷ [] → Labelling n first before line m lined' after
+labelling_more n first before line l m lined lined' text name rest after i s a e g =
     let t = label_taken i.fuel text name rest i.enough s in
-    rw a (record { fuel = t.left; enough = t.enough; same = next_label first line l text name rest i t ∙ rw (e, add_labels) refl })
+    rw (a, e, g) (record {
+      fuel = t.left;
+      enough = t.enough;
+      same = i.same ∙ ap (λ k. put_labels l k.labels) t.same;
+      lines = i.lines ∙ ap (λ k. lined ++ map (lined_at n l) k.labels) t.same ∙ sym (append_assoc lined (lined_at n l name ∷ []) (map (lined_at n l) (labelled t.left (skip rest)).labels));
+    })
 
-labelling_bad : (first : Layout) (line : List ℕ) (l : Layout) (text name rest : List ℕ) (r : AsmRule) → Labelling first line l text →
-    label_at text ≡ Some (name, rest) → add_one l name ≡ Err r → add_labels first (labels_of line) ≡ Err r
-labelling_bad first line l text name rest r i s e =
-    next_label first line l text name rest i (label_taken i.fuel text name rest i.enough s) ∙ rw (e, add_labels) refl
-
-pub label_bad : (S : Type 0) (first : Layout) (line : List ℕ) (l m : Layout) (text name rest : List ℕ) (e : Refused) → Labelling first line l text →
-    label_at text ≡ Some (name, rest) → Leaves {S = S} (add_one l name) (Err e) m → Leaves {S = S} (add_labels first (labels_of line)) (Err e) m
-label_bad S first line l m text name rest (refused.Rule r) i s e = labelling_bad first line l text name rest r i s e
-label_bad S first line l m text name rest refused.Memory i s e = tt
-
-pub labelling_end : (first : Layout) (line : List ℕ) (l : Layout) (text : List ℕ) → Labelling first line l text → label_at text ≡ None →
-    add_labels first (labels_of line) ≡ Ok l
-labelling_end first line l text i e = i.same ∙ ap (λ k. add_labels l k.labels) (labelled_none i.fuel text e)
-
-abbrev layout_in : Layout → Result Layout AsmRule → Layout
-layout_in d (Ok l) = l
-layout_in d (Err r) = d
-
-ok_inside : (l m : Layout) → ◌≡◌ {A = Result Layout AsmRule} (Ok l) (Ok m) → l ≡ m
-ok_inside l m e = ap (layout_in l) e
+pub labelling_end : (n : ℕ) (first : Layout) (before : List Lined) (line : List ℕ) (l : Layout) (lined : List Lined) (text : List ℕ) →
+    Labelling n first before line l lined text → label_at text ≡ None →
+    (l ≡ put_labels first (labels_of line)) × (lined ≡ before ++ map (lined_at n first) (labels_of line))
+labelling_end n first before line l lined text i e =
+    let none = labelled_none i.fuel text e in (
+      sym (i.same ∙ ap (λ k. put_labels l k.labels) none),
+      sym (i.lines ∙ ap (λ k. lined ++ map (lined_at n l) k.labels) none ∙ append-nil lined),
+    )
 
 -- labels take no room of the segments
-new_small : (l m : Layout) (name : List ℕ) (s : Option LabelTarget) → add_new l name s ≡ Ok m → IsSmall l → IsSmall m
-new_small l m name (Some s) e k = cc
-new_small l m name None e k = subst IsSmall (ok_inside (add_label l name) m e) k
+pub put_small : (names : List (List ℕ)) (l : Layout) → IsSmall l → IsSmall (put_labels l names)
+put_small [] l k = k
+put_small (name ∷ names) l k = put_small names (add_label l name) k
 
-labels_go : (names : List (List ℕ)) (l m : Layout) (name : List ℕ) (r : Result Layout AsmRule) → add_one l name ≡ r →
-    add_labels l (name ∷ names) ≡ Ok m → IsSmall l → ((k : Layout) → add_labels k names ≡ Ok m → IsSmall k → IsSmall m) → IsSmall m
-labels_go names l m name (Ok k) e a s ih = ih k (sym (rw (e, add_labels) refl) ∙ a) (new_small l k name (spot_of l name) e s)
-labels_go names l m name (Err r) e a s ih = let b : Err r ≡ Ok m = sym (rw (e, add_labels) refl) ∙ a in cc
+-- and are added with no look at those before, where none of them stands again
+pub first_again-append : (seen : List (List ℕ × LabelTarget)) (es fs : List Lined) → first_again seen (es ++ fs) ≡ or_later (first_again seen es) (first_again (seen ++ unlined es) fs)
+first_again-append seen [] fs = ap (λ s. first_again s fs) (sym (append-nil seen))
+first_again-append seen (e ∷ es) fs = by (is_some (spot_among seen e.0.0)) refl (first_again-append (seen ++ e.0 ∷ []) es fs)
+  where
+    by : (b : Bool) → is_some (spot_among seen e.0.0) ≡ b →
+        first_again (seen ++ e.0 ∷ []) (es ++ fs) ≡ or_later (first_again (seen ++ e.0 ∷ []) es) (first_again ((seen ++ e.0 ∷ []) ++ unlined es) fs) →
+        first_again seen (e ∷ es ++ fs) ≡ or_later (first_again seen (e ∷ es)) (first_again (seen ++ unlined (e ∷ es)) fs)
+    by true h ih = rw h refl
+    by false h ih = rw h (ih ∙ ap (λ s. or_later (first_again (seen ++ e.0 ∷ []) es) (first_again s fs)) (append_assoc seen (e.0 ∷ []) (unlined es)))
 
-pub labels_small : (names : List (List ℕ)) (l m : Layout) → add_labels l names ≡ Ok m → IsSmall l → IsSmall m
-labels_small [] l m e k = subst IsSmall (ok_inside l m e) k
-labels_small (name ∷ names) l m e k = labels_go names l m name (add_one l name) refl e k (λ j. labels_small names j m)
+found_or : (s : Option LabelTarget) (b : Bool) → is_some s ≡ b → (n : ℕ) (l : Layout) (name : List ℕ) → add_new l name s ≡ cond b (Err A4) (Ok (add_label l name))
+found_or (Some t) true h n l name = refl
+found_or (Some t) false h n l name = cc
+found_or None true h n l name = cc
+found_or None false h n l name = refl
+
+pub labels_told : (n : ℕ) (names : List (List ℕ)) (l : Layout) → add_labels l names ≡ labels_by (first_again l.labels (map (lined_at n l) names)) (put_labels l names)
+labels_told n [] l = refl
+labels_told n (name ∷ names) l = by (is_some (spot_of l name)) refl (labels_told n names (add_label l name))
+  where
+    by : (b : Bool) → is_some (spot_of l name) ≡ b →
+        add_labels (add_label l name) names ≡ labels_by (first_again (add_label l name).labels (map (lined_at n (add_label l name)) names)) (put_labels (add_label l name) names) →
+        add_labels l (name ∷ names) ≡ labels_by (first_again l.labels (map (lined_at n l) (name ∷ names))) (put_labels l (name ∷ names))
+    by true h ih = let f = found_or (spot_of l name) true h n l name in rw h (rw (f, add_labels) refl)
+    by false h ih = let f = found_or (spot_of l name) false h n l name in rw h (rw (f, add_labels) ih)
+
+-- where one stands again, its line is the one at hand
+pub again_here : (n m : ℕ) (names : List (List ℕ)) (l : Layout) (seen : List (List ℕ × LabelTarget)) → first_again seen (map (lined_at n l) names) ≡ Some m → m ≡ n
+again_here n m [] l seen e = cc
+again_here n m (name ∷ names) l seen e = by (is_some (spot_among seen name)) refl (again_here n m names l (seen ++ (lined_at n l name).0 ∷ []))
+  where
+    by : (b : Bool) → is_some (spot_among seen name) ≡ b → (first_again (seen ++ (lined_at n l name).0 ∷ []) (map (lined_at n l) names) ≡ Some m → m ≡ n) → m ≡ n
+    by true h ih = let t = rw h at e in sym (ap (λ o. unwrap_or o 0) t)
+    by false h ih = ih (rw h at e)

@@ -5,11 +5,14 @@ pub mod Filling
 pub mod Named
 pub mod Keywords
 pub mod DataLoops
-pub mod Tables
+pub mod Tallies
+pub mod Orders
+pub mod Searches
 pub mod LayoutLoops
 pub mod LinePass
 pub mod MakingPass
 pub mod MakingLoops
 pub mod Sizes
+pub mod Alike
 pub mod Ends
 pub mod LastLine

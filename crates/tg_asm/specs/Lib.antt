@@ -4,6 +4,7 @@ pub mod Numbers
 pub mod Registers
 pub mod Means
 pub mod Spots
+pub mod Fronts
 pub mod Entries
 pub mod Readings
 pub mod Layouts

@@ -1,69 +1,121 @@
-ghost use Rattle.std.specs.Prelude.{◌≡◌, ◌++◌, ◌∷◌, [], true, false, Ok, None, IsSome};
-ghost use Rattle.std.specs.Prelude.{slice_index_or};
+ghost use Rattle.std.specs.Prelude.{◌≡◌, [], Some, MatchResult, map};
 ghost use Rattle.tg_isa.specs.Assembly.{spot_among};
-ghost use Rattle.tg_asm.specs.Entries.{front_number};
-ghost use Rattle.tg_asm.specs.Spots.{found_spot, spot_of};
+ghost use Rattle.tg_asm.specs.Entries.{
+  Finds,
+  Rises,
+  again_among,
+  by_entry,
+  by_key,
+  by_name,
+  first_again,
+  lined_of,
+  next_again,
+  sooner,
+};
+ghost use Rattle.tg_asm.specs.Spots.{found_spot};
 
+use crate::entries::{Entry, front};
 use crate::spots::LabelTarget;
-use std::alloc::Global;
-use std::collections::BTreeMap;
+use std::cmp::Ordering;
 use std::marker::Model;
-use tg_base::Memory;
 
-/// The labels of a text, which contracts see as the list of their names and spots in the order of
-/// the text. Their numbers are kept in the order of their names, so that no choice of names makes a
-/// search long. Before each name stands its front, by which most comparisons are decided without a
-/// look at the text.
+/// The labels of a text, which contracts see as a list of names and spots. They stand in the order
+/// of their names, so that no choice of names makes a search long.
 #[derive(Drop)]
 pub(crate) struct Labels<'a> {
-    numbers: BTreeMap<(u64, &'a [u8]), u32>,
-    spots: Vec<LabelTarget>,
+    entries: Vec<Entry<'a>>,
 }
 
 impl<'a> Model for Labels<'a> {
-    ghost use Rattle.std.specs.Prelude.{ℕ, List};
+    ghost use Rattle.std.specs.Prelude.{ℕ, List, map};
+    ghost use Rattle.std.specs.List.Sorted.{IsStrictlySortedBy};
     ghost use Rattle.tg_isa.specs.Assembly as assembly;
-    ghost use Rattle.tg_asm.specs.Entries.{entries_of, AreNumbered};
+    ghost use Rattle.tg_asm.specs.Entries.{by_key, key_of, label_of};
 
     ghost Value = { List (List ℕ × assembly.LabelTarget) };
 
-    ghost view = { λ l. entries_of l.spots.items l.numbers.entries };
+    ghost view = { λ l. map label_of l.entries.items };
 
-    ghost invariant = { λ l. AreNumbered l.spots.items l.numbers.entries };
+    ghost invariant = { λ l. IsStrictlySortedBy by_key (map key_of l.entries.items) };
 }
 
-/// A byte of a name, or 0 behind its end.
-fn byte_at(name: &[u8], at: usize) -> u8
-    ensures { result ≡ slice_index_or name.now at 0 }
+/// The order of two names, each behind its front.
+fn compare(one: (u64, &[u8]), other: (u64, &[u8])) -> Ordering
+    ensures { result ≡ by_key one.entry other.entry }
 {
-    if at < name.len() { name[at] } else { 0 }
+    match one.0.cmp(&other.0) {
+        Ordering::Equal => one.1.cmp(other.1),
+        order => order,
+    }
 }
 
-/// The first eight bytes of a name as a number, in which the first weighs most.
-#[tactic(auto, unfolding(crate::specs::Entries::front_number))]
-fn front(name: &[u8]) -> u64
-    ensures { result ≡ front_number name.now }
+/// The order of two labels with one front: by their names, and where those are the same by their
+/// lines.
+fn compare_names(one: &Entry<'_>, other: &Entry<'_>) -> Ordering
+    ensures { result ≡ by_name one.now other.now }
 {
-    u64::from_be_bytes([
-        byte_at(name, 0),
-        byte_at(name, 1),
-        byte_at(name, 2),
-        byte_at(name, 3),
-        byte_at(name, 4),
-        byte_at(name, 5),
-        byte_at(name, 6),
-        byte_at(name, 7),
-    ])
+    match one.key.1.cmp(other.key.1) {
+        Ordering::Equal => one.line.cmp(&other.line),
+        order => order,
+    }
+}
+
+/// The order of two labels by their names, and of those with the same name by their lines.
+fn compare_entries(one: &Entry<'_>, other: &Entry<'_>) -> Ordering
+    ensures { result ≡ by_entry one.now other.now }
+{
+    match one.key.0.cmp(&other.key.0) {
+        Ordering::Equal => compare_names(one, other),
+        order => order,
+    }
+}
+
+/// The line of a label that has the name of the one before it; none where it has another.
+fn again(before: &Entry<'_>, entry: &Entry<'_>) -> Option<u64>
+    ensures { result ≡ next_again before.now entry.now }
+{
+    if compare(before.key, entry.key).is_eq() {
+        Some(entry.line)
+    } else {
+        None
+    }
+}
+
+/// The lesser of two lines, where there are two.
+fn earlier(one: Option<u64>, other: Option<u64>) -> Option<u64>
+    ensures { result ≡ sooner one other }
+{
+    match (one, other) {
+        (Some(one), Some(other)) => Some(one.min(other)),
+        (Some(one), None) => Some(one),
+        (None, other) => other,
+    }
+}
+
+/// The first line with the name of a label before it, of labels in the order of their names and
+/// lines.
+fn first_line_again(entries: &[Entry<'_>]) -> Option<u64>
+    ensures { result ≡ again_among entries.now }
+{
+    let mut first = None;
+    for at in 1..entries.len() {
+        first = earlier(first, again(&entries[at - 1], &entries[at]));
+    }
+    first
 }
 
 impl<'a> Labels<'a> {
-    /// No labels.
-    pub(crate) fn new(alloc: Global) -> Labels<'a>
-        ensures { result ≡ [] }
+    /// The labels of a text, which are given in its order; or the first line at which a label stands
+    /// again.
+    pub(crate) fn sorted(mut entries: Vec<Entry<'a>>) -> Result<Labels<'a>, u64>
+        requires { Rises 0 (map lined_of entries.items) }
+        ensures { MatchResult result (Finds (map lined_of entries.entry.items))
+            (λ line. first_again [] (map lined_of entries.entry.items) ≡ Some line) }
     {
-        Labels {
-            numbers: BTreeMap::new(alloc),
-            spots: Vec::new(alloc),
+        entries.sort_unstable_by(|one, other| compare_entries(one, other));
+        match first_line_again(&entries) {
+            Some(line) => Err(line),
+            None => Ok(Labels { entries }),
         }
     }
 
@@ -71,22 +123,13 @@ impl<'a> Labels<'a> {
     pub(crate) fn find(&self, name: &'a [u8]) -> Option<LabelTarget>
         ensures { found_spot result ≡ spot_among self.now name.now }
     {
-        match self.numbers.get(&(front(name), name)) {
-            Some(number) => Some(self.spots[*number as usize]),
-            None => None,
+        let key = (front(name), name);
+        match self
+            .entries
+            .binary_search_by(|entry| compare(entry.key, key))
+        {
+            Ok(at) => Some(self.entries[at].spot),
+            Err(_) => None,
         }
-    }
-
-    /// Adds a label, and answers whether it is a new one. Where it isn't, nothing is said of what
-    /// the labels are then.
-    pub(crate) fn add(&mut self, name: &'a [u8], spot: LabelTarget) -> Result<bool, Memory>
-        ensures new { result ≡ Ok true → (spot_among self.old name.now ≡ None)
-            × (self.new ≡ self.old ++ (name.now, spot_of spot) ∷ []) }
-        ensures known { result ≡ Ok false → IsSome (spot_among self.old name.now) }
-    {
-        let number = u32::try_from(self.spots.len()).map_err(|_| Memory)?;
-        self.spots.push(spot)?;
-        let before = self.numbers.insert((front(name), name), number)?;
-        Ok(before.is_none())
     }
 }

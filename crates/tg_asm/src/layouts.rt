@@ -1,9 +1,25 @@
-ghost use Rattle.std.specs.Prelude.{◌≡◌, ◌≤◌, map, min, length, OnOk, IfOk, Ok};
+ghost use Rattle.std.specs.Prelude.{◌≡◌, ◌≤◌, ◌++◌, ◌∷◌, [], map, min, length, OnOk, IfNone, IfOk, Ok};
 ghost use Rattle.tg_base.specs.State.{most_bytes};
 ghost use Rattle.tg_isa.specs.Assembly as assembly;
 ghost use Rattle.tg_isa.specs.Items as items;
 ghost use Rattle.tg_asm.specs.Cuts.{labels_of, operand_of};
-ghost use Rattle.tg_asm.specs.Layouts.{GivesLayout, IsSmall, layout_of};
+ghost use Rattle.tg_asm.specs.Entries.{Rises, first_again};
+ghost use Rattle.tg_asm.specs.Layouts.{
+  GivesLayout,
+  IsSmall,
+  UnlessMemory,
+  ended,
+  laid_of,
+  layout_of,
+  lined_at,
+  lined_labels,
+  lined_of_line,
+  lined_of_reading,
+  put_labels,
+  put_line,
+  put_reading,
+  told,
+};
 ghost use Rattle.tg_asm.specs.Readings.{reading_of};
 ghost use Rattle.tg_isa.specs.Lines.{lines};
 ghost use Rattle.tg_asm.specs.Means.{
@@ -19,6 +35,7 @@ ghost use Rattle.tg_asm.specs.Spots.{spot_of};
 
 use crate::bytes::{skip, split_line};
 use crate::cuts::{Operand, label_at};
+use crate::entries::{Entry, front};
 use crate::faults::{AsmFault, Refused};
 use crate::items::{Align, Contents, Datum, Item, Words, stored_datum};
 use crate::labels::Labels;
@@ -33,8 +50,19 @@ const CAP: u64 = 1099511627776;
 
 /// Where items and labels stand, as far as the lines were read.
 #[derive(Drop)]
+struct Draft<'a> {
+    segment: Segment,
+    words: u32,
+    /// Where each item of the statics begins.
+    starts: Vec<u32>,
+    size: u32,
+    /// The labels in the order of the text. None was compared to another.
+    entries: Vec<Entry<'a>>,
+}
+
+/// Where the items and labels of a text stand.
+#[derive(Drop)]
 pub(crate) struct Layout<'a> {
-    pub(crate) segment: Segment,
     pub(crate) words: u32,
     /// Where each item of the statics begins.
     pub(crate) starts: Vec<u32>,
@@ -88,24 +116,25 @@ pub(crate) fn round_up(place: u32, align: Align) -> u32
     place + (multiple - place % multiple) % multiple
 }
 
-impl<'a> Layout<'a> {
+impl<'a> Draft<'a> {
     /// Nothing is laid out yet.
-    fn blank(alloc: Global) -> Layout<'a>
-        ensures { layout_of result ≡ assembly.blank }
+    fn blank(alloc: Global) -> Draft<'a>
+        ensures laid { laid_of result ≡ assembly.blank }
+        ensures lined { lined_labels result ≡ [] }
     {
-        Layout {
+        Draft {
             segment: Segment::Code,
             words: 0,
             starts: Vec::new(alloc),
             size: 0,
-            labels: Labels::new(alloc),
+            entries: Vec::new(alloc),
         }
     }
 
     /// The place of the next item of the segment in force.
     fn next_spot(&self) -> Result<LabelTarget, Memory>
         ensures { IfOk result (λ spot. spot_of spot
-            ≡ assembly.next_spot (layout_of self.now) self.now.segment) }
+            ≡ assembly.next_spot (laid_of self.now) self.now.segment) }
     {
         match self.segment {
             Segment::Code => Ok(LabelTarget::InCode(self.words)),
@@ -116,27 +145,32 @@ impl<'a> Layout<'a> {
         }
     }
 
-    /// Adds a label.
-    fn add_label(&mut self, name: &'a [u8]) -> Result<(), Refused>
-        ensures { Leaves (assembly.add_one (layout_of self.old) name.now) result
-            (layout_of self.new) }
+    /// Adds a label of a line.
+    fn add_label(&mut self, number: u64, name: &'a [u8]) -> Result<(), Memory>
+        ensures laid { OnOk result (laid_of self.new
+            ≡ assembly.add_label (laid_of self.old) name.now) }
+        ensures lined { OnOk result (lined_labels self.new ≡ lined_labels self.old
+            ++ lined_at number (laid_of self.old) name.now ∷ []) }
     {
-        let spot = self.next_spot()?;
-        if self.labels.add(name, spot)? {
-            Ok(())
-        } else {
-            Err(Refused::Rule(AsmRule::A4))
-        }
+        let entry = Entry {
+            key: (front(name), name),
+            line: number,
+            spot: self.next_spot()?,
+        };
+        self.entries.push(entry)?;
+        Ok(())
     }
 
     /// Adds the labels in front of a line, in order.
-    fn add_labels(&mut self, line: &'a [u8]) -> Result<(), Refused>
-        ensures { Leaves (assembly.add_labels (layout_of self.old) (labels_of line.now)) result
-            (layout_of self.new) }
+    fn add_labels(&mut self, number: u64, line: &'a [u8]) -> Result<(), Memory>
+        ensures laid { OnOk result (laid_of self.new
+            ≡ put_labels (laid_of self.old) (labels_of line.now)) }
+        ensures lined { OnOk result (lined_labels self.new ≡ lined_labels self.old
+            ++ map (lined_at number (laid_of self.old)) (labels_of line.now)) }
     {
         let mut rest = skip(line);
         while let Some((name, more)) = label_at(rest) {
-            self.add_label(name)?;
+            self.add_label(number, name)?;
             rest = skip(more);
         }
         Ok(())
@@ -144,10 +178,11 @@ impl<'a> Layout<'a> {
 
     /// Adds words to the code.
     fn add_words(&mut self, words: &Words<'_>) -> Result<(), Refused>
-        requires { IsSmall (layout_of self.old) }
-        ensures added { Leaves (assembly.add_words (layout_of self.old)
-            (length (words_of words.now))) result (layout_of self.new) }
-        ensures small { OnOk result (IsSmall (layout_of self.new)) }
+        requires { IsSmall (laid_of self.old) }
+        ensures added { Leaves (assembly.add_words (laid_of self.old)
+            (length (words_of words.now))) result (laid_of self.new) }
+        ensures small { OnOk result (IsSmall (laid_of self.new)) }
+        ensures lined { lined_labels self.new ≡ lined_labels self.old }
     {
         let count = match words {
             Words::One(_) => 1,
@@ -162,11 +197,12 @@ impl<'a> Layout<'a> {
 
     /// Adds data to the statics.
     fn add_data(&mut self, align: Align, contents: &Contents<'_>) -> Result<(), Refused>
-        requires { IsSmall (layout_of self.old) }
+        requires { IsSmall (laid_of self.old) }
         ensures added { Leaves (assembly.add_item
-            (items.Data' (bytes_of align) (data_of contents.now)) (layout_of self.old))
-            result (layout_of self.new) }
-        ensures small { OnOk result (IsSmall (layout_of self.new)) }
+            (items.Data' (bytes_of align) (data_of contents.now)) (laid_of self.old))
+            result (laid_of self.new) }
+        ensures small { OnOk result (IsSmall (laid_of self.new)) }
+        ensures lined { lined_labels self.new ≡ lined_labels self.old }
     {
         let start = round_up(self.size, align);
         let end = u64::from(start) + extent(contents);
@@ -180,10 +216,11 @@ impl<'a> Layout<'a> {
 
     /// Adds an item.
     fn add_item(&mut self, item: &Item<'_>) -> Result<(), Refused>
-        requires { IsSmall (layout_of self.old) }
-        ensures added { Leaves (assembly.add_item (item_of item.now) (layout_of self.old)) result
-            (layout_of self.new) }
-        ensures small { OnOk result (IsSmall (layout_of self.new)) }
+        requires { IsSmall (laid_of self.old) }
+        ensures added { Leaves (assembly.add_item (item_of item.now) (laid_of self.old)) result
+            (laid_of self.new) }
+        ensures small { OnOk result (IsSmall (laid_of self.new)) }
+        ensures lined { lined_labels self.new ≡ lined_labels self.old }
     {
         match item {
             Item::Nothing => Ok(()),
@@ -197,52 +234,89 @@ impl<'a> Layout<'a> {
     }
 }
 
-impl<'a> Layout<'a> {
+impl<'a> Draft<'a> {
     /// Adds a line's labels and item.
-    fn add_reading(&mut self, reading: &Reading<'a>) -> Result<(), Refused>
-        requires { IsSmall (layout_of self.old) }
-        ensures added { Leaves (assembly.add_reading (layout_of self.old)
-            (Ok (reading_of reading.now))) result (layout_of self.new) }
-        ensures small { OnOk result (IsSmall (layout_of self.new)) }
+    fn add_reading(&mut self, number: u64, reading: &Reading<'a>) -> Result<(), Refused>
+        requires { IsSmall (laid_of self.old) }
+        ensures added { Leaves (put_reading (laid_of self.old) (Ok (reading_of reading.now))) result
+            (laid_of self.new) }
+        ensures lined { UnlessMemory result (lined_labels self.new ≡ lined_labels self.old
+            ++ lined_of_reading number (laid_of self.old) (Ok (reading_of reading.now))) }
+        ensures small { OnOk result (IsSmall (laid_of self.new)) }
     {
-        self.add_labels(reading.line)?;
+        self.add_labels(number, reading.line)?;
         self.add_item(&reading.item)
     }
 
     /// Adds a line.
-    fn add_line(&mut self, alloc: Global, line: &'a [u8]) -> Result<(), Refused>
-        requires { IsSmall (layout_of self.old) }
-        ensures added { Leaves (assembly.add_line (layout_of self.old) line.now) result
-            (layout_of self.new) }
-        ensures small { OnOk result (IsSmall (layout_of self.new)) }
+    fn add_line(&mut self, alloc: Global, number: u64, line: &'a [u8]) -> Result<(), Refused>
+        requires { IsSmall (laid_of self.old) }
+        ensures added { Leaves (put_line (laid_of self.old) line.now) result (laid_of self.new) }
+        ensures lined { UnlessMemory result (lined_labels self.new ≡ lined_labels self.old
+            ++ lined_of_line number (laid_of self.old) line.now) }
+        ensures small { OnOk result (IsSmall (laid_of self.new)) }
     {
         let reading = read_line(alloc, self.segment, line)?;
-        self.add_reading(&reading)
+        self.add_reading(number, &reading)
+    }
+
+    /// Adds all lines of a text, up to the first that has a fault of A1, A2, A3, A7 and A8, which is
+    /// told with its number.
+    #[tactic(auto, using(crate::proofs::LinePass::laid_first, crate::proofs::LinePass::laid_more, crate::proofs::LinePass::laid_last, crate::proofs::LinePass::laid_bad, crate::proofs::LinePass::laid_rises))]
+    fn add_lines(&mut self, alloc: Global, text: &'a [u8]) -> Result<Option<(AsmRule, u64)>, Memory>
+        requires laid { laid_of self.old ≡ assembly.blank }
+        requires lined { lined_labels self.old ≡ [] }
+        ensures told { IfOk result (λ fault. assembly.layout 1 assembly.blank (lines text.now)
+            ≡ told (first_again [] (lined_labels self.new)) (ended fault (laid_of self.new))) }
+        ensures rises { OnOk result (Rises 0 (lined_labels self.new)) }
+        ensures small { IfOk result (λ fault. IfNone fault (IsSmall (laid_of self.new))) }
+    {
+        let mut rest = text;
+        let mut number = 1;
+        loop {
+            let (line, more) = split_line(rest);
+            match self.add_line(alloc, number, line) {
+                Ok(()) => {}
+                Err(Refused::Rule(rule)) => return Ok(Some((rule, number))),
+                Err(Refused::Memory) => return Err(Memory),
+            }
+            match more {
+                Some(more) => {
+                    rest = more;
+                    number += 1;
+                }
+                None => return Ok(None),
+            }
+        }
     }
 }
 
-/// The layout of a text, or its first fault of A1, A2, A3, A7, A4 and A8.
-#[tactic(auto, using(crate::proofs::LinePass::laid_first, crate::proofs::LinePass::laid_more, crate::proofs::LinePass::laid_last, crate::proofs::LinePass::laid_bad))]
+/// The layout of a text, or its first fault of A1, A2, A3, A7, A4 and A8. Labels are compared when
+/// all lines are laid out: one that stands again is a fault before any other that was found.
 pub(crate) fn lay_out<'a>(alloc: Global, text: &'a [u8]) -> Result<Layout<'a>, AsmFault>
     ensures laid_out { GivesLayout (assembly.layout 1 assembly.blank (lines text.now)) result }
     ensures small { IfOk result (λ l. IsSmall (layout_of l)) }
 {
-    let mut layout = Layout::blank(alloc);
-    let mut rest = text;
-    let mut number = 1;
-    loop {
-        let (line, more) = split_line(rest);
-        match layout.add_line(alloc, line) {
-            Ok(()) => {}
-            Err(Refused::Rule(rule)) => return Err(AsmFault::Bad { rule, line: number }),
-            Err(Refused::Memory) => return Err(AsmFault::Memory),
-        }
-        match more {
-            Some(more) => {
-                rest = more;
-                number += 1;
-            }
-            None => return Ok(layout),
-        }
+    let mut draft = Draft::blank(alloc);
+    let fault = draft.add_lines(alloc, text)?;
+    let Draft {
+        segment: _,
+        words,
+        starts,
+        size,
+        entries,
+    } = draft;
+    match (Labels::sorted(entries), fault) {
+        (Err(line), _) => Err(AsmFault::Bad {
+            rule: AsmRule::A4,
+            line,
+        }),
+        (Ok(_), Some((rule, line))) => Err(AsmFault::Bad { rule, line }),
+        (Ok(labels), None) => Ok(Layout {
+            words,
+            starts,
+            size,
+            labels,
+        }),
     }
 }

@@ -7,6 +7,7 @@
 mod assembling;
 mod bytes;
 mod cuts;
+mod entries;
 mod faults;
 mod fields;
 mod items;

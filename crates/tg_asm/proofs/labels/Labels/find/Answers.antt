@@ -1,24 +1,25 @@
-use Rattle.std.proofs.Common.{◌<◌, ◌∙◌, Some, ap, length, arith}
+use Rattle.std.proofs.Common.{Some, ◌∙◌, sym, ap, rules}
+use Rattle.std.proofs.lemmas.Fn.{always_returns_same}
 use Rattle.tg_isa.specs.Assembly.{spot_among}
+use Rattle.tg_asm.specs.Entries.{Key, by_key}
 use Rattle.tg_asm.specs.Spots.{spot_of}
-use Rattle.tg_asm.proofs.Tables.{found_there, in_range, sought_by, spot_there, target_of}
+use Rattle.tg_asm.proofs.Searches.{found_at, none_found, nowhere, searchable}
 use Rattle.tg_asm.proofs.labels.Labels.find.Goals as goal
 
-pub returns-in-None : goal.returns-in-None
-returns-in-None c =
-    let there = sought_by _ (c.front.result, c.args.name) _ c.front.ensures c.in-None.ensures.value in
-    found_there c.self.inside.spots.items _ c.args.name.now _ c.self.invariant (ap (target_of c.self.inside.spots.items) there)
+pub returns-in-Ok : goal.returns-in-Ok
+returns-in-Ok c =
+    let facts = c.in-Ok.ensures.position (λ e. by_key e.key (c.front.result, c.args.name)) (always_returns_same _ _ _ (λ a r f' k. search rules)) in
+    let there = rw c.deref.ensures.value at facts in
+    let inside = rw c.deref.ensures.value at c.in-Ok.ensures.bound in
+    ap (λ e. Some (spot_of e.spot)) c.index.ensures
+    ∙ sym (found_at c.self.inside.entries.items (c.front.result, c.args.name) c.in-Ok.at c.index.result.now c.self.invariant c.front.ensures inside (there c.index.result.now))
     ∙ ap (λ v. spot_among v c.args.name.now) c.self.view_is
 
-pub index-requires : goal.index-requires
-index-requires c =
-    let there = sought_by _ (c.front.result, c.args.name) _ c.front.ensures c.in-Some.ensures.value in
-    let inside : c.in-Some.number.now < length c.self.inside.spots.items = in_range _ _ c.args.name.now _ c.self.invariant.1.0 there in
-    grind (arith, inside)
-
-pub returns-in-Some : goal.returns-in-Some
-returns-in-Some c =
-    let there = sought_by _ (c.front.result, c.args.name) _ c.front.ensures c.in-Some.ensures.value in
-    ap (λ s. Some (spot_of s)) c.index.ensures
-    ∙ spot_there c.self.inside.spots.items _ c.args.name.now _ c.index.result.now c.self.invariant there
+pub returns-in-Err : goal.returns-in-Err
+returns-in-Err c =
+    let facts = c.in-Err.ensures.position (λ e. by_key e.key (c.front.result, c.args.name)) (always_returns_same _ _ _ (λ a r f' k. search rules)) in
+    let apart = rw c.deref.ensures.value at facts in
+    let s = c.self.inside.entries.items in
+    let k : Key = (c.front.result, c.args.name) in
+    sym (none_found s k c.front.ensures (nowhere s k c.in-Err.field-0 (apart (searchable s k c.self.invariant))))
     ∙ ap (λ v. spot_among v c.args.name.now) c.self.view_is
