@@ -115,6 +115,14 @@ def shuffled(make, width):
     return text
 
 
+def jumps_to_labels(size):
+    """A text of labels in one line, a sixteenth of its bytes in number, and of jumps to them in random order."""
+    names, dice = short_labels(b":")(size // 16 * 5), random.Random(1)
+    count, tail = len(names) // 5, b"main: jr $ra\n"
+    places = (5 * dice.randrange(count) for _ in range((size - len(names) - len(tail) - 1) // 7))
+    return names + b"\n" + gathered(b"j " + names[place:place + 4] + b"\n" for place in places) + tail
+
+
 TEXTS = {
     "no-ops": repeated(b"nop\n", b"main:\n"),
     "labels": labels,
@@ -134,6 +142,7 @@ TEXTS = {
     "one line of bytes": repeated(b", 0", b".data\n.byte 0", b"\n.text\nmain: jr $ra\n"),
     "one line of short operands": repeated(b" 0", b".data\n.byte", b"\n.text\nmain: jr $ra\n"),
     "jumps to one label": repeated(b"j main\n", b"main: jr $ra\n"),
+    "jumps to labels in random order": jumps_to_labels,
     "colons": repeated(b"a:", b""),
     "zeros": repeated(b"\0"),
     "quotes": repeated(b'"'),
