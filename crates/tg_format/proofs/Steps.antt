@@ -1,6 +1,6 @@
 -- What one more that is open adds to a line, that strings are written piece by piece, and that tokens
 -- which can be written have their names.
-use Rattle.std.proofs.Common.{ℕ, zero, suc, ◌+◌, ◌≡◌, ◌<◌, List, [], ◌∷◌, ◌++◌, refl, sym, ap, ◌∙◌, add-one, append_assoc, arith, length, get_or}
+use Rattle.std.proofs.Common.{ℕ, zero, suc, ◌+◌, ◌≡◌, List, [], ◌∷◌, ◌++◌, refl, sym, ap, ◌∙◌, add-one, append_assoc}
 use Rattle.std.proofs.lemmas.Option.{slice_get_within}
 use Rattle.tg_syntax.specs.declared.tokens.Token.{Token}
 use Rattle.tg_syntax.specs.declared.tokens.Token.TheVariants.{Word, Sign, Ident, Int, Text, End}
@@ -16,12 +16,6 @@ pub quoted_append : (bytes rest : List ℕ) → quoted_text (bytes ++ rest) ≡ 
 quoted_append [] rest = refl
 quoted_append (b ∷ bytes) rest =
     ap (λ l. quoted_byte b ++ l) (quoted_append bytes rest) ∙ sym (append_assoc (quoted_byte b) (quoted_text bytes) (quoted_text rest))
-
--- bytes that stand for themselves
-pub plain_text : (bytes : List ℕ) → ((k : ℕ) → k < length bytes → quoted_byte (get_or bytes k 0) ≡ get_or bytes k 0 ∷ []) → quoted_text bytes ≡ bytes
-plain_text [] plain = refl
-plain_text (b ∷ bytes) plain =
-    ap (λ l. l ++ quoted_text bytes) (plain 0 (omega arith)) ∙ ap (λ l. b ∷ l) (plain_text bytes (λ k h. plain (suc k) (omega arith)))
 
 -- tokens that can be written have their names
 writable_named : (names : List (List ℕ)) (one : Token) → HasSpelling names one → IsNamed names one

@@ -1,4 +1,4 @@
-ghost use Rattle.std.specs.Prelude.{◌≡◌, ◌≤◌, ◌+◌, ◌++◌, ◌∷◌, [], IsTrue, take, length};
+ghost use Rattle.std.specs.Prelude.{◌≡◌, ◌≤◌, ◌+◌, ◌++◌, take, length};
 ghost use Rattle.tg_format.specs.Canonical as canonical;
 
 /// How many bytes of a string are written at once, at most.
@@ -56,25 +56,6 @@ static SIZES: [u8; 256] = [
     4, 4, 4, 4, 4, 4, 4, 4, 4, 4, 4, 4, 4, 4, 4, 4, 4, 4, 4, 4, 4, 4, 4, 4, 4, 4, 4, 4, 4, 4, 4, 4,
     4, 4, 4, 4, 4, 4, 4, 4, 4, 4, 4, 4, 4, 4, 4, 4, 4, 4, 4, 4, 4, 4, 4, 4, 4, 4, 4, 4, 4, 4, 4, 4,
 ];
-
-/// Whether each byte of a stretch stands for itself. It looks at all of them, so that the processor
-/// may take sixteen at once.
-pub(crate) fn are_plain(stretch: &[u8]) -> bool
-    ensures { IsTrue result → canonical.quoted_text stretch.now ≡ stretch.now }
-{
-    let mut plain = true;
-    for byte in stretch {
-        plain &= is_plain(*byte);
-    }
-    plain
-}
-
-/// Whether a byte of a string stands for itself.
-fn is_plain(byte: u8) -> bool
-    ensures { IsTrue result → canonical.quoted_byte byte ≡ byte ∷ [] }
-{
-    (byte >= b' ') & (byte <= b'~') & (byte != b'"') & (byte != b'\\')
-}
 
 /// Writes a stretch of a string at the front, and returns how many bytes that takes.
 pub(crate) fn write_stretch(written: &mut [u8; ROOM], stretch: &[u8]) -> usize

@@ -1,7 +1,7 @@
-ghost use Rattle.std.specs.Prelude.{◌≡◌, ◌≤◌, ◌++◌, ◌∷◌, [], length, OnOk};
+ghost use Rattle.std.specs.Prelude.{◌≡◌, ◌++◌, ◌∷◌, [], OnOk};
 ghost use Rattle.tg_format.specs.Canonical as canonical;
 
-use crate::escapes::{ROOM, STRETCH, are_plain, write_stretch};
+use crate::escapes::{ROOM, STRETCH, write_stretch};
 use tg_base::Memory;
 
 /// Puts a string at the end, between quotes.
@@ -19,21 +19,8 @@ pub(crate) fn put_string(text: &mut Vec<u8>, bytes: &[u8]) -> Result<(), Memory>
 fn put_quoted(text: &mut Vec<u8>, bytes: &[u8]) -> Result<(), Memory>
     ensures { OnOk result (text.new.items ≡ text.old.items ++ canonical.quoted_text bytes.now) }
 {
+    let mut written = [0; ROOM];
     for stretch in bytes.chunks(STRETCH) {
-        put_stretch(text, stretch)?;
-    }
-    Ok(())
-}
-
-/// Puts a stretch of that at the end.
-fn put_stretch(text: &mut Vec<u8>, stretch: &[u8]) -> Result<(), Memory>
-    requires { length stretch.now ≤ 64 }
-    ensures { OnOk result (text.new.items ≡ text.old.items ++ canonical.quoted_text stretch.now) }
-{
-    if are_plain(stretch) {
-        text.extend_from_slice(stretch)?;
-    } else {
-        let mut written = [0; ROOM];
         let count = write_stretch(&mut written, stretch);
         text.extend_from_slice(&written[..count])?;
     }

@@ -1,4 +1,4 @@
-use Rattle.std.proofs.Common.{ℕ, List, ◌++◌, sym, ap, ◌∙◌, arith, append_assoc}
+use Rattle.std.proofs.Common.{ℕ, ◌≡◌, List, ◌++◌, sym, ap, ◌∙◌, arith, append_assoc}
 use Rattle.std.specs.Slice.Iter.{chunks_rest}
 use Rattle.tg_format.specs.Canonical.{quoted_text}
 use Rattle.tg_format.proofs.Steps.{quoted_append}
@@ -10,6 +10,8 @@ loop-stretch-preserved c =
     let stretch = c.in-Some.stretch.now in
     let rest = chunks_rest c.next.new.self in
     let steps = c.in-Some.ensures.steps in
+    let put : c.extend_from_slice.new.self.items ≡ text ++ quoted_text stretch =
+    c.in_ok-extend_from_slice.ensures.items ∙ ap (λ (l : List ℕ). text ++ l) c.write_stretch-count.ensures.text in
     record {
       goes_on = omega (arith, steps.0, c.loop-stretch.invariant.size);
       ends = tt;
@@ -18,6 +20,5 @@ loop-stretch-preserved c =
           c.loop-stretch.invariant.text
           ∙ (ap (λ (l : List ℕ). text ++ quoted_text l) steps.1.0
           ∙ (ap (λ (l : List ℕ). text ++ l) (quoted_append stretch rest)
-          ∙ (sym (append_assoc text (quoted_text stretch) (quoted_text rest))
-          ∙ ap (λ (l : List ℕ). l ++ quoted_text rest) (sym c.in_ok-put_stretch.ensures))));
+          ∙ (sym (append_assoc text (quoted_text stretch) (quoted_text rest)) ∙ ap (λ (l : List ℕ). l ++ quoted_text rest) (sym put))));
     }
