@@ -13,5 +13,5 @@ mod worklists;
 
 pub use graphs::Graph;
 pub use laws::{lists_stay_apart, registers_interfere};
-pub use lists::{COLOURS, empty_lists, numbers};
+pub use lists::{COLOURS, numbers};
 pub use worklists::{Worklist, Worklists};

@@ -32,7 +32,7 @@ pub const COLOURS: u32 = 25;
 const ROOM: usize = 16;
 
 /// As many empty lists. They take no memory of their own.
-pub fn empty_lists(alloc: Global, count: usize) -> Result<Vec<Vec<u32>>, Memory>
+pub(crate) fn empty_lists(alloc: Global, count: usize) -> Result<Vec<Vec<u32>>, Memory>
     ensures { IfOk result (λ v. lists_of v.items ≡ replicate count []) }
 {
     let mut lists = Vec::with_capacity(alloc, count)?;

@@ -18,7 +18,6 @@ ghost use Rattle.tg_syntax.specs.Tree.{
   Field as PlainField,
   Index as PlainIndex,
   Neg as PlainNeg,
-  Binary as PlainBinary,
   Seq as PlainSeq,
   Call as PlainCall,
   exp,
@@ -26,7 +25,7 @@ ghost use Rattle.tg_syntax.specs.Tree.{
 };
 
 use crate::tokens::Ident;
-use crate::trees::{Dec, Decs, Exp, Exps, Init, Inits, Kind, Op, Var};
+use crate::trees::{Dec, Decs, Exp, Exps, Init, Inits, Kind, Var};
 use std::alloc::Global;
 use tg_base::{Bytes, Memory, Span};
 
@@ -48,25 +47,6 @@ pub fn negate(alloc: Global, span: Span, a: Exp) -> Result<Exp, Memory>
     Ok(Exp {
         span,
         kind: Kind::Neg(a),
-    })
-}
-
-/// Two operands and the operator between them, whose first byte is `at`.
-pub fn binary(
-    alloc: Global,
-    span: Span,
-    op: Op,
-    at: u32,
-    left: Exp,
-    right: Exp,
-) -> Result<Exp, Memory>
-    ensures { IfOk result (λ e. plain e ≡ PlainBinary span op at (plain left) (plain right)) }
-{
-    let left = Box::new(alloc, left)?;
-    let right = Box::new(alloc, right)?;
-    Ok(Exp {
-        span,
-        kind: Kind::Binary(op, at, left, right),
     })
 }
 
