@@ -8,8 +8,8 @@ use Rattle.tg_isa.specs.declared.keywords.AsmRule.TheVariants.{A4, A8}
 use Rattle.tg_isa.specs.Lines.{lines}
 use Rattle.tg_isa.specs.Items.{Item, Nothing, Section, Words, Data'}
 use Rattle.tg_isa.specs.Assembly.{Layout, Reading, spot_among, Fault, blank, reading, add_label, add_item, add_reading, add_line, layout}
-use Rattle.tg_asm.specs.Entries.{Finds, Lined, Rises, unlined, first_again}
-use Rattle.tg_asm.specs.Layouts.{IsLaidOut, IsSmall, lined_at, lined_of_reading, lined_of_line, put_labels, put_reading, put_line, told}
+use Rattle.tg_asm.specs.Entries.{AreFirst, Finds, Lined, Rises, unlined, first_again}
+use Rattle.tg_asm.specs.Layouts.{IsLaidOut, IsSmall, TellsAgain, lined_at, lined_of_reading, lined_of_line, put_labels, put_reading, put_line, told}
 use Rattle.tg_asm.proofs.LayoutLoops.{or_later, labels_by, first_again-append, labels_told, again_here}
 
 -- what is left to lay out behind a line
@@ -145,6 +145,25 @@ pub laid_bad : (text rest line : List ℕ) (more : List (List ℕ)) (es es' : Li
 laid_bad text rest line more es es' l n r i s e f =
     line_told text rest line more es l n i s ∙ ap (λ q. told (first_again [] (es ++ lined_of_line n l line)) (behind n q more)) e
     ∙ ap (λ k. told (first_again [] k) (Err (record { rule = r; line = n }))) (sym f)
+
+-- where memory is wanting within a line, a label that stands again before that is the fault
+again_first : (es fs : List Lined) (m : ℕ) → AreFirst es fs → first_again [] es ≡ Some m → first_again [] fs ≡ Some m
+again_first es fs m f e = ap (first_again []) (sym f.same) ∙ first_again-append [] es f.rest ∙ ap (λ o. or_later o (first_again (unlined es) f.rest)) e
+
+rises_first : (n : ℕ) (es rest : List Lined) → Rises n (es ++ rest) → Rises n es
+rises_first n [] rest r = tt
+rises_first n (e ∷ es) rest r = (r.0, rises_first e.1 es rest r.1)
+
+pub laid_again : (text rest line : List ℕ) (more : List (List ℕ)) (es es' : List Lined) (l : Layout) (n : ℕ) → LaidOut text rest es l n → lines rest ≡ line ∷ more →
+    AreFirst es' (es ++ lined_of_line n l line) → TellsAgain (layout 1 blank (lines text)) es'
+laid_again text rest line more es es' l n i s f m e =
+    line_told text rest line more es l n i s
+    ∙ ap (λ o. told o (behind n (put_line l line) more)) (again_first es' (es ++ lined_of_line n l line) m f e)
+
+pub laid_rises_first : (text rest line : List ℕ) (es es' : List Lined) (l : Layout) (n : ℕ) → LaidOut text rest es l n → AreFirst es' (es ++ lined_of_line n l line) →
+    Rises 0 es'
+laid_rises_first text rest line es es' l n i f =
+    rises_first 0 es' f.rest (subst (Rises 0) (sym f.same) (laid_rises text rest line es (es ++ lined_of_line n l line) l n i refl))
 
 -- the layout of all lines, where no label stands again
 pub laid_out : (meant : Result Layout Fault) (es : List Lined) (l k : Layout) → meant ≡ told (first_again [] es) (Ok l) → Finds es k.labels → l.labels ≡ unlined es →

@@ -1,6 +1,6 @@
 -- A search among labels in the order of their names finds what one by one does.
-use Rattle.std.proofs.Common.{◌≡◌, ◌<◌, ◌+◌, ℕ, zero, suc, Bool, true, false, List, [], ◌∷◌, length, map, Some, None, refl, sym, ap, ◌∙◌, arith, get_or}
-use Rattle.std.specs.Prelude.{nat_lt}
+use Rattle.std.proofs.Common.{◌≡◌, ◌<◌, ◌+◌, ◌-◌, ℕ, zero, suc, min, Bool, true, false, List, [], ◌∷◌, length, map, drop, Some, None, refl, sym, ap, ◌∙◌, arith, get_or}
+use Rattle.std.specs.Prelude.{nat_lt, slice_range}
 use Rattle.std.specs.Str.{bytes_eq}
 use Rattle.std.specs.Ordering.{ordering_index, ordering_reverse, is_eq, is_lt}
 use Rattle.std.specs.List.{AllWithin}
@@ -8,7 +8,7 @@ use Rattle.std.specs.List.Sorted.{IsNonDecreasingBy, IsSortedBy, IsStrictlySorte
 use Rattle.std.specs.declared.cmp.Ordering.TheVariants.{Less, Equal, Greater}
 use Rattle.std.proofs.lemmas.Cmp.{alike_right}
 use Rattle.std.proofs.lemmas.Map.Keys.{sorted_head, sorted_tail, Less-from_sorted}
-use Rattle.std.proofs.lemmas.List.{get_or-map, length-map}
+use Rattle.std.proofs.lemmas.List.{get_or-map, get_or-take, get_or-drop, length-map, length-take, length-drop}
 use Rattle.std.proofs.lemmas.List.Elements.{All-from_recursion}
 use Rattle.std.proofs.lemmas.List.Sorted.{searchable_from_sorted}
 use Rattle.std.proofs.lemmas.Bool.Decides.{nat_tests}
@@ -49,6 +49,14 @@ found_at (x ∷ s) k (suc at) d o f l e =
     let on : by_key x.key k ≡ Less = sym (alike_right by_key_total y.key k x.key e) ∙ less in
     let other = flipped x.key.1.now k.1.now (names_differ x k f on) in
     rw other (found_at s k at d (sorted_tail by_key x.key (map key_of s) o) f inside e)
+
+-- the same of a search among those between two places
+pub found_between : (s : List Entry) (k : Key) (from to at : ℕ) (d : Entry) → AreStrict s → k.0 ≡ front_number k.1.now → at < length (slice_range s from to) →
+    by_key (get_or (slice_range s from to) at d).key k ≡ Equal → spot_among (map label_of s) k.1.now ≡ Some (spot_of (get_or s (from + at) d).spot)
+found_between s k from to at d o f l e =
+    let short : length (slice_range s from to) ≡ min (to - from) (length s - from) = length-take (to - from) (drop from s) ∙ ap (min (to - from)) (length-drop from s) in
+    let same = get_or-take (to - from) (drop from s) at d (omega (arith, l, short)) ∙ get_or-drop from s at d in
+    found_at s k (from + at) d o f (omega (arith, l, short)) (ap (λ x. by_key x.key k) (sym same) ∙ e)
 
 -- none is found where all names differ
 pub none_found : (s : List Entry) (k : Key) → k.0 ≡ front_number k.1.now → ((i : ℕ) (d : Entry) → i < length s → is_eq (by_key (get_or s i d).key k) ≡ false) →

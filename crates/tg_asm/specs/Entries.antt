@@ -45,6 +45,11 @@ abbrev pub Rises : ℕ → List Lined → Type 0
 Rises n [] = ⊤
 Rises n (e ∷ es) = (n ≤ e.1) × Rises e.1 es
 
+-- the first of some labels, in their order
+pub record AreFirst (es fs : List Lined) : Type 0 where
+  pub rest : List Lined
+  pub same : es ++ rest ≡ fs
+
 -- the line of the first label that stands before, or among those that were seen
 abbrev pub first_again : (seen : List (List ℕ × assembly.LabelTarget)) → List Lined → Option ℕ
 first_again seen [] = None

@@ -6,7 +6,7 @@ use Rattle.tg_isa.specs.Assembly as assembly
 use Rattle.tg_isa.specs.declared.keywords.AsmRule.{AsmRule}
 use Rattle.tg_isa.specs.declared.keywords.AsmRule.TheVariants.{A4}
 use Rattle.tg_isa.specs.declared.keywords.Segment.TheVariants.{Code}
-use Rattle.tg_asm.specs.Entries.{Lined, label_of, lined_of}
+use Rattle.tg_asm.specs.Entries.{Lined, first_again, label_of, lined_of}
 use Rattle.tg_asm.specs.declared.faults.AsmFault.{AsmFault}
 use Rattle.tg_asm.specs.declared.faults.AsmFault.TheVariants as fault
 use Rattle.tg_asm.specs.declared.faults.Refused.{Refused}
@@ -80,6 +80,11 @@ abbrev pub told : Option ℕ → Result assembly.Layout assembly.Fault →
     Result assembly.Layout assembly.Fault
 told None r = r
 told (Some n) r = Err (record { rule = A4; line = n })
+
+-- A label that stands again among the first ones is the fault.
+abbrev pub TellsAgain : Result assembly.Layout assembly.Fault → List Lined → Type 0
+TellsAgain meant es =
+    (n : ℕ) → first_again [] es ≡ Some n → meant ≡ Err (record { rule = A4; line = n })
 
 -- Layouts with the same places, in which a search for a label finds the same.
 pub record IsAlike (m l : assembly.Layout) : Type 0 where

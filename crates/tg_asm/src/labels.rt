@@ -1,4 +1,4 @@
-ghost use Rattle.std.specs.Prelude.{◌≡◌, [], Some, MatchResult, map};
+ghost use Rattle.std.specs.Prelude.{◌≡◌, [], IfSome, Some, MatchResult, map};
 ghost use Rattle.tg_isa.specs.Assembly.{spot_among};
 ghost use Rattle.tg_asm.specs.Entries.{
   Finds,
@@ -12,18 +12,27 @@ ghost use Rattle.tg_asm.specs.Entries.{
   next_again,
   sooner,
 };
-ghost use Rattle.tg_asm.specs.Spots.{found_spot};
+ghost use Rattle.tg_asm.specs.Fronts.{front_number};
+ghost use Rattle.tg_asm.specs.Spots.{found_spot, spot_of};
 
 use crate::entries::{Entry, front};
 use crate::spots::LabelTarget;
+use std::alloc::Global;
 use std::cmp::Ordering;
 use std::marker::Model;
+
+/// How many labels stand behind a mark, at most: what a few rows of the processor's cache hold.
+const STRETCH: usize = 64;
 
 /// The labels of a text, which contracts see as a list of names and spots. They stand in the order
 /// of their names, so that no choice of names makes a search long.
 #[derive(Drop)]
 pub(crate) struct Labels<'a> {
     entries: Vec<Entry<'a>>,
+    /// The name of the first label of each stretch. A search among these few tells where a label
+    /// stands if it is there, mostly without a look at memory that is far away. No answer rests on
+    /// them.
+    marks: Vec<(u64, &'a [u8])>,
 }
 
 impl<'a> Model for Labels<'a> {
@@ -104,10 +113,27 @@ fn first_line_again(entries: &[Entry<'_>]) -> Option<u64>
     first
 }
 
+/// The names of the first labels of all stretches, or of some where memory is wanting.
+fn marks_of<'a>(alloc: Global, entries: &[Entry<'a>]) -> Vec<(u64, &'a [u8])> {
+    let mut marks = Vec::new(alloc);
+    for entry in entries.iter().step_by(STRETCH) {
+        if marks.push(entry.key).is_err() {
+            break;
+        }
+    }
+    marks
+}
+
+/// Where the stretch begins in which a name stands if it is a label.
+fn stretch_of(marks: &[(u64, &[u8])], key: (u64, &[u8])) -> usize {
+    let begun = marks.partition_point(|mark| compare(*mark, key).is_le());
+    begun.saturating_sub(1).saturating_mul(STRETCH)
+}
+
 impl<'a> Labels<'a> {
     /// The labels of a text, which are given in its order; or the first line at which a label stands
     /// again.
-    pub(crate) fn sorted(mut entries: Vec<Entry<'a>>) -> Result<Labels<'a>, u64>
+    pub(crate) fn sorted(alloc: Global, mut entries: Vec<Entry<'a>>) -> Result<Labels<'a>, u64>
         requires { Rises 0 (map lined_of entries.items) }
         ensures { MatchResult result (Finds (map lined_of entries.entry.items))
             (λ line. first_again [] (map lined_of entries.entry.items) ≡ Some line) }
@@ -115,7 +141,37 @@ impl<'a> Labels<'a> {
         entries.sort_unstable_by(|one, other| compare_entries(one, other));
         match first_line_again(&entries) {
             Some(line) => Err(line),
-            None => Ok(Labels { entries }),
+            None => {
+                let marks = marks_of(alloc, &entries);
+                Ok(Labels { entries, marks })
+            }
+        }
+    }
+
+    /// The spot of a label that stands in the stretch from a place on.
+    fn find_behind(&self, place: usize, key: (u64, &'a [u8])) -> Option<LabelTarget>
+        requires { key.0 ≡ front_number key.1.now }
+        ensures { IfSome result (λ spot. spot_among self.now key.entry.1.now ≡ Some (spot_of spot)) }
+    {
+        let from = place.min(self.entries.len());
+        let to = from + (self.entries.len() - from).min(STRETCH);
+        match self.entries[from..to].binary_search_by(|entry| compare(entry.key, key)) {
+            Ok(at) => Some(self.entries[from + at].spot),
+            Err(_) => None,
+        }
+    }
+
+    /// The spot of a label, by a search among all.
+    fn find_among_all(&self, key: (u64, &'a [u8])) -> Option<LabelTarget>
+        requires { key.0 ≡ front_number key.1.now }
+        ensures { found_spot result ≡ spot_among self.now key.entry.1.now }
+    {
+        match self
+            .entries
+            .binary_search_by(|entry| compare(entry.key, key))
+        {
+            Ok(at) => Some(self.entries[at].spot),
+            Err(_) => None,
         }
     }
 
@@ -124,12 +180,9 @@ impl<'a> Labels<'a> {
         ensures { found_spot result ≡ spot_among self.now name.now }
     {
         let key = (front(name), name);
-        match self
-            .entries
-            .binary_search_by(|entry| compare(entry.key, key))
-        {
-            Ok(at) => Some(self.entries[at].spot),
-            Err(_) => None,
+        match self.find_behind(stretch_of(&self.marks, key), key) {
+            Some(spot) => Some(spot),
+            None => self.find_among_all(key),
         }
     }
 }

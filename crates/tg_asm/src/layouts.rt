@@ -1,12 +1,27 @@
-ghost use Rattle.std.specs.Prelude.{◌≡◌, ◌≤◌, ◌++◌, ◌∷◌, [], map, min, length, OnOk, IfNone, IfOk, Ok};
+ghost use Rattle.std.specs.Prelude.{
+  ◌≡◌,
+  ◌≤◌,
+  ◌++◌,
+  ◌∷◌,
+  [],
+  map,
+  min,
+  length,
+  OnErr,
+  OnOk,
+  IfNone,
+  IfOk,
+  Ok,
+};
 ghost use Rattle.tg_base.specs.State.{most_bytes};
 ghost use Rattle.tg_isa.specs.Assembly as assembly;
 ghost use Rattle.tg_isa.specs.Items as items;
 ghost use Rattle.tg_asm.specs.Cuts.{labels_of, operand_of};
-ghost use Rattle.tg_asm.specs.Entries.{Rises, first_again};
+ghost use Rattle.tg_asm.specs.Entries.{AreFirst, Rises, first_again};
 ghost use Rattle.tg_asm.specs.Layouts.{
   GivesLayout,
   IsSmall,
+  TellsAgain,
   UnlessMemory,
   ended,
   laid_of,
@@ -47,6 +62,10 @@ use tg_isa::{AsmRule, Keyword, Segment};
 
 /// More bytes than any segment takes.
 const CAP: u64 = 1099511627776;
+
+/// How many labels are kept, at most. No text of 64 MiB has so many that differ, so where it has
+/// more labels, one of those that are kept stands again.
+const MOST_LABELS: usize = 16777216;
 
 /// Where items and labels stand, as far as the lines were read.
 #[derive(Drop)]
@@ -151,7 +170,11 @@ impl<'a> Draft<'a> {
             ≡ assembly.add_label (laid_of self.old) name.now) }
         ensures lined { OnOk result (lined_labels self.new ≡ lined_labels self.old
             ++ lined_at number (laid_of self.old) name.now ∷ []) }
+        ensures kept { OnErr result (lined_labels self.new ≡ lined_labels self.old) }
     {
+        if self.entries.len() >= MOST_LABELS {
+            return Err(Memory);
+        }
         let entry = Entry {
             key: (front(name), name),
             line: number,
@@ -167,6 +190,8 @@ impl<'a> Draft<'a> {
             ≡ put_labels (laid_of self.old) (labels_of line.now)) }
         ensures lined { OnOk result (lined_labels self.new ≡ lined_labels self.old
             ++ map (lined_at number (laid_of self.old)) (labels_of line.now)) }
+        ensures begun { OnErr result (AreFirst (lined_labels self.new) (lined_labels self.old
+            ++ map (lined_at number (laid_of self.old)) (labels_of line.now))) }
     {
         let mut rest = skip(line);
         while let Some((name, more)) = label_at(rest) {
@@ -242,6 +267,8 @@ impl<'a> Draft<'a> {
             (laid_of self.new) }
         ensures lined { UnlessMemory result (lined_labels self.new ≡ lined_labels self.old
             ++ lined_of_reading number (laid_of self.old) (Ok (reading_of reading.now))) }
+        ensures begun { AreFirst (lined_labels self.new) (lined_labels self.old
+            ++ lined_of_reading number (laid_of self.old) (Ok (reading_of reading.now))) }
         ensures small { OnOk result (IsSmall (laid_of self.new)) }
     {
         self.add_labels(number, reading.line)?;
@@ -254,6 +281,8 @@ impl<'a> Draft<'a> {
         ensures added { Leaves (put_line (laid_of self.old) line.now) result (laid_of self.new) }
         ensures lined { UnlessMemory result (lined_labels self.new ≡ lined_labels self.old
             ++ lined_of_line number (laid_of self.old) line.now) }
+        ensures begun { AreFirst (lined_labels self.new) (lined_labels self.old
+            ++ lined_of_line number (laid_of self.old) line.now) }
         ensures small { OnOk result (IsSmall (laid_of self.new)) }
     {
         let reading = read_line(alloc, self.segment, line)?;
@@ -261,14 +290,16 @@ impl<'a> Draft<'a> {
     }
 
     /// Adds all lines of a text, up to the first that has a fault of A1, A2, A3, A7 and A8, which is
-    /// told with its number.
+    /// told with its number. Where memory is wanting, the labels so far are a front of all.
     #[tactic(auto, using(crate::proofs::LinePass::laid_first, crate::proofs::LinePass::laid_more, crate::proofs::LinePass::laid_last, crate::proofs::LinePass::laid_bad, crate::proofs::LinePass::laid_rises))]
     fn add_lines(&mut self, alloc: Global, text: &'a [u8]) -> Result<Option<(AsmRule, u64)>, Memory>
         requires laid { laid_of self.old ≡ assembly.blank }
         requires lined { lined_labels self.old ≡ [] }
         ensures told { IfOk result (λ fault. assembly.layout 1 assembly.blank (lines text.now)
             ≡ told (first_again [] (lined_labels self.new)) (ended fault (laid_of self.new))) }
-        ensures rises { OnOk result (Rises 0 (lined_labels self.new)) }
+        ensures again { OnErr result (TellsAgain (assembly.layout 1 assembly.blank (lines text.now))
+            (lined_labels self.new)) }
+        ensures rises { Rises 0 (lined_labels self.new) }
         ensures small { IfOk result (λ fault. IfNone fault (IsSmall (laid_of self.new))) }
     {
         let mut rest = text;
@@ -292,13 +323,14 @@ impl<'a> Draft<'a> {
 }
 
 /// The layout of a text, or its first fault of A1, A2, A3, A7, A4 and A8. Labels are compared when
-/// all lines are laid out: one that stands again is a fault before any other that was found.
+/// all lines are laid out, or as many as memory was found for: one that stands again is a fault
+/// before any other that was found.
 pub(crate) fn lay_out<'a>(alloc: Global, text: &'a [u8]) -> Result<Layout<'a>, AsmFault>
     ensures laid_out { GivesLayout (assembly.layout 1 assembly.blank (lines text.now)) result }
     ensures small { IfOk result (λ l. IsSmall (layout_of l)) }
 {
     let mut draft = Draft::blank(alloc);
-    let fault = draft.add_lines(alloc, text)?;
+    let ended = draft.add_lines(alloc, text);
     let Draft {
         segment: _,
         words,
@@ -306,13 +338,18 @@ pub(crate) fn lay_out<'a>(alloc: Global, text: &'a [u8]) -> Result<Layout<'a>, A
         size,
         entries,
     } = draft;
-    match (Labels::sorted(entries), fault) {
-        (Err(line), _) => Err(AsmFault::Bad {
-            rule: AsmRule::A4,
-            line,
-        }),
-        (Ok(_), Some((rule, line))) => Err(AsmFault::Bad { rule, line }),
-        (Ok(labels), None) => Ok(Layout {
+    let labels = match Labels::sorted(alloc, entries) {
+        Ok(labels) => labels,
+        Err(line) => {
+            return Err(AsmFault::Bad {
+                rule: AsmRule::A4,
+                line,
+            });
+        }
+    };
+    match ended? {
+        Some((rule, line)) => Err(AsmFault::Bad { rule, line }),
+        None => Ok(Layout {
             words,
             starts,
             size,

@@ -6,6 +6,6 @@ use Rattle.tg_asm.proofs.layouts.lay_out.Goals as goal
 
 pub returns-clause-laid_out : goal.returns-clause-laid_out
 returns-clause-laid_out c =
-    let told_is = rw c.in-Ok-None.is-1 at c.in_ok-fault.ensures.told in
-    laid_out _ (lined_labels c.add_lines.new.self) (laid_of c.add_lines.new.self) _ told_is c.in-Ok-None.ensures
-    (sym (unlined_of c.add_lines.new.self.entries.items)) refl refl refl
+    let told_is = rw c.in-None.is at c.in_ok-rule.ensures.told in
+    laid_out _ (lined_labels c.add_lines-ended.new.self) (laid_of c.add_lines-ended.new.self) _ told_is c.in-Ok.ensures
+    (sym (unlined_of c.add_lines-ended.new.self.entries.items)) refl refl refl

@@ -1,5 +1,5 @@
 use Rattle.tg_asm.specs.Layouts.{laid_of, lined_labels}
-use Rattle.tg_asm.proofs.LinePass.{laid_first, laid_more, laid_bad, laid_rises, lines_on}
+use Rattle.tg_asm.proofs.LinePass.{laid_again, laid_first, laid_more, laid_bad, laid_rises, laid_rises_first, lines_on}
 use Rattle.tg_asm.proofs.layouts.Draft.add_lines.Goals as goal
 
 pub loop-rule-init : goal.loop-rule-init
@@ -16,6 +16,14 @@ pub returns-in-Err-Rule-clause-rises : goal.returns-in-Err-Rule-clause-rises
 returns-in-Err-Rule-clause-rises c =
     let lined = rw c.in-Err-Rule.field-0-is at c.in-Err-Rule.ensures.lined in
     laid_rises _ _ c.split_line.result.0.now _ _ _ _ c.loop-rule.invariant lined
+
+pub returns-in-Err-Memory-clause-again : goal.returns-in-Err-Memory-clause-again
+returns-in-Err-Memory-clause-again c =
+    laid_again _ _ c.split_line.result.0.now _ _ _ _ _ c.loop-rule.invariant
+    (lines_on c.loop-rule.rest.now c.split_line.result.0.now c.split_line.result.1 c.split_line.ensures.lines) c.add_line.ensures.begun
+
+pub returns-in-Err-Memory-clause-rises : goal.returns-in-Err-Memory-clause-rises
+returns-in-Err-Memory-clause-rises c = laid_rises_first _ _ c.split_line.result.0.now _ _ _ _ c.loop-rule.invariant c.add_line.ensures.begun
 
 pub loop-rule-preserved : goal.loop-rule-preserved
 loop-rule-preserved c =
