@@ -51,7 +51,7 @@ same_key j k f g = sym (tied_then (nat_cmp j.0 k.0) (slice_cmp nat_cmp j.1.now k
 same_name : (x y : Entry) → is_eq (by_key x.key y.key) ≡ bytes_eq x.key.1.now y.key.1.now
 same_name x y = same_key x.key y.key x.fronted y.fronted
 
-tied : (o : Ordering) → is_eq o ≡ true → o ≡ Equal
+pub tied : (o : Ordering) → is_eq o ≡ true → o ≡ Equal
 tied Less h = cc
 tied Equal h = refl
 tied Greater h = cc

@@ -18,7 +18,7 @@ use Rattle.tg_asm.specs.declared.entries.Entry.{Entry}
 use Rattle.tg_asm.specs.Fronts.{front_number}
 use Rattle.tg_asm.specs.Spots.{spot_of}
 use Rattle.tg_asm.specs.Entries.{Key, key_of, by_key, label_of}
-use Rattle.tg_asm.proofs.Orders.{by_key_total, same_key}
+use Rattle.tg_asm.proofs.Orders.{by_key_total, same_key, tied}
 
 abbrev pub AreStrict : List Entry → Type 0
 AreStrict s = IsStrictlySortedBy by_key (map key_of s)
@@ -50,13 +50,14 @@ found_at (x ∷ s) k (suc at) d o f l e =
     let other = flipped x.key.1.now k.1.now (names_differ x k f on) in
     rw other (found_at s k at d (sorted_tail by_key x.key (map key_of s) o) f inside e)
 
--- the same of a search among those between two places
+-- the same of one among those between two places
 pub found_between : (s : List Entry) (k : Key) (from to at : ℕ) (d : Entry) → AreStrict s → k.0 ≡ front_number k.1.now → at < length (slice_range s from to) →
-    by_key (get_or (slice_range s from to) at d).key k ≡ Equal → spot_among (map label_of s) k.1.now ≡ Some (spot_of (get_or s (from + at) d).spot)
+    is_eq (by_key (get_or (slice_range s from to) at d).key k) ≡ true → spot_among (map label_of s) k.1.now ≡ Some (spot_of (get_or (slice_range s from to) at d).spot)
 found_between s k from to at d o f l e =
     let short : length (slice_range s from to) ≡ min (to - from) (length s - from) = length-take (to - from) (drop from s) ∙ ap (min (to - from)) (length-drop from s) in
     let same = get_or-take (to - from) (drop from s) at d (omega (arith, l, short)) ∙ get_or-drop from s at d in
-    found_at s k (from + at) d o f (omega (arith, l, short)) (ap (λ x. by_key x.key k) (sym same) ∙ e)
+    let tie = ap (λ x. by_key x.key k) (sym same) ∙ tied _ e in
+    found_at s k (from + at) d o f (omega (arith, l, short)) tie ∙ ap (λ x. Some (spot_of x.spot)) (sym same)
 
 -- none is found where all names differ
 pub none_found : (s : List Entry) (k : Key) → k.0 ≡ front_number k.1.now → ((i : ℕ) (d : Entry) → i < length s → is_eq (by_key (get_or s i d).key k) ≡ false) →

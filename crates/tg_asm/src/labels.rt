@@ -21,8 +21,8 @@ use std::alloc::Global;
 use std::cmp::Ordering;
 use std::marker::Model;
 
-/// How many labels stand behind a mark, at most: what a few rows of the processor's cache hold.
-const STRETCH: usize = 64;
+/// How many labels a mark stands for, at most: so few that the processor reads them all at once.
+const STRETCH: usize = 16;
 
 /// The labels of a text, which contracts see as a list of names and spots. They stand in the order
 /// of their names, so that no choice of names makes a search long.
@@ -155,10 +155,12 @@ impl<'a> Labels<'a> {
     {
         let from = place.min(self.entries.len());
         let to = from + (self.entries.len() - from).min(STRETCH);
-        match self.entries[from..to].binary_search_by(|entry| compare(entry.key, key)) {
-            Ok(at) => Some(self.entries[from + at].spot),
-            Err(_) => None,
+        for entry in &self.entries[from..to] {
+            if compare(entry.key, key).is_eq() {
+                return Some(entry.spot);
+            }
         }
+        None
     }
 
     /// The spot of a label, by a search among all.
