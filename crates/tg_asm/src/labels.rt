@@ -22,7 +22,7 @@ use std::cmp::Ordering;
 use std::marker::Model;
 
 /// How many labels a mark stands for, at most: so few that the processor reads them all at once.
-const STRETCH: usize = 16;
+const STRETCH: usize = 32;
 
 /// The labels of a text, which contracts see as a list of names and spots. They stand in the order
 /// of their names, so that no choice of names makes a search long.
