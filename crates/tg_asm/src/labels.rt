@@ -21,7 +21,8 @@ use std::alloc::Global;
 use std::cmp::Ordering;
 use std::marker::Model;
 
-/// How many labels a mark stands for, at most: so few that the processor reads them all at once.
+/// How many labels a mark stands for, at most, and how many marks a signpost: so few that the
+/// processor reads them all at once.
 const STRETCH: usize = 32;
 
 /// The labels of a text, which contracts see as a list of names and spots. They stand in the order
@@ -29,10 +30,11 @@ const STRETCH: usize = 32;
 #[derive(Drop)]
 pub(crate) struct Labels<'a> {
     entries: Vec<Entry<'a>>,
-    /// The name of the first label of each stretch. A search among these few tells where a label
-    /// stands if it is there, mostly without a look at memory that is far away. No answer rests on
-    /// them.
+    /// The name of the first label of each stretch, and of the first mark of each. They tell where a
+    /// label stands if it is there, mostly without a look at memory that is far away. No answer
+    /// rests on them.
     marks: Vec<(u64, &'a [u8])>,
+    signposts: Vec<(u64, &'a [u8])>,
 }
 
 impl<'a> Model for Labels<'a> {
@@ -124,10 +126,35 @@ fn marks_of<'a>(alloc: Global, entries: &[Entry<'a>]) -> Vec<(u64, &'a [u8])> {
     marks
 }
 
-/// Where the stretch begins in which a name stands if it is a label.
-fn stretch_of(marks: &[(u64, &[u8])], key: (u64, &[u8])) -> usize {
-    let begun = marks.partition_point(|mark| compare(*mark, key).is_le());
-    begun.saturating_sub(1).saturating_mul(STRETCH)
+/// The first marks of all stretches, or of some where memory is wanting.
+fn signposts_of<'a>(alloc: Global, marks: &[(u64, &'a [u8])]) -> Vec<(u64, &'a [u8])> {
+    let mut signposts = Vec::new(alloc);
+    for mark in marks.iter().step_by(STRETCH) {
+        if signposts.push(*mark).is_err() {
+            break;
+        }
+    }
+    signposts
+}
+
+/// Where the marks begin of a signpost, the last that isn't behind a name.
+fn first_mark(signposts: &[(u64, &[u8])], key: (u64, &[u8])) -> usize {
+    let passed = signposts.partition_point(|signpost| compare(*signpost, key).is_le());
+    passed.saturating_sub(1).saturating_mul(STRETCH)
+}
+
+/// Where the stretch begins in which a name stands if it is a label: that of the last mark from a
+/// place on that isn't behind the name.
+fn stretch_of(marks: &[(u64, &[u8])], place: usize, key: (u64, &[u8])) -> usize {
+    let from = place.min(marks.len());
+    let mut last = from;
+    for at in from..from + (marks.len() - from).min(STRETCH) {
+        if compare(marks[at], key).is_gt() {
+            break;
+        }
+        last = at;
+    }
+    last.saturating_mul(STRETCH)
 }
 
 impl<'a> Labels<'a> {
@@ -143,7 +170,12 @@ impl<'a> Labels<'a> {
             Some(line) => Err(line),
             None => {
                 let marks = marks_of(alloc, &entries);
-                Ok(Labels { entries, marks })
+                let signposts = signposts_of(alloc, &marks);
+                Ok(Labels {
+                    entries,
+                    marks,
+                    signposts,
+                })
             }
         }
     }
@@ -182,7 +214,8 @@ impl<'a> Labels<'a> {
         ensures { found_spot result ≡ spot_among self.now name.now }
     {
         let key = (front(name), name);
-        match self.find_behind(stretch_of(&self.marks, key), key) {
+        let mark = first_mark(&self.signposts, key);
+        match self.find_behind(stretch_of(&self.marks, mark, key), key) {
             Some(spot) => Some(spot),
             None => self.find_among_all(key),
         }
