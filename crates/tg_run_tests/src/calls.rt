@@ -131,36 +131,70 @@ pub(crate) fn call_with(
     outside: Outside,
     tools: Tools,
 ) -> Result<Seen, Fail> {
+    let mut objects = Objects::of(alloc, outside)?;
+    let words = words_of(alloc, line)?;
+    let status = tiger(
+        alloc,
+        &words,
+        &mut objects.shelf,
+        &mut objects.input,
+        &mut objects.out,
+        &mut objects.err,
+        tools,
+    );
+    objects.seen(alloc, status, outside)
+}
+
+/// What the program makes its calls on.
+#[derive(Drop)]
+struct Objects {
+    shelf: MapShelf,
+    input: ListSource,
+    out: RoomSink,
+    err: RoomSink,
+}
+
+impl Objects {
+    fn of(alloc: Global, outside: Outside) -> Result<Objects, Fail> {
+        Ok(Objects {
+            shelf: shelf(alloc, outside)?,
+            input: ListSource::new(
+                outside.input.to_vec(alloc)?,
+                outside.fails(alloc, Object::Input)?,
+            ),
+            out: sink(alloc, outside.room, outside.fails(alloc, Object::Out)?)?,
+            err: sink(alloc, outside.err_room, outside.fails(alloc, Object::Err)?)?,
+        })
+    }
+
+    /// What a call that ended with this status left.
+    fn seen(self, alloc: Global, status: u8, outside: Outside) -> Result<Seen, Fail> {
+        Ok(Seen {
+            status,
+            error: self.err.taken().to_vec(alloc)?,
+            out: self.out.taken().to_vec(alloc)?,
+            files_asked: self.shelf.calls(),
+            files_failed: self.shelf.faults(),
+            reads: self.input.calls(),
+            reads_failed: self.input.faults(),
+            writes: self.out.calls(),
+            writes_failed: self.out.faults(),
+            lines: self.err.calls(),
+            lines_failed: self.err.faults(),
+            read: outside.input.len().saturating_sub(left_in(self.input)?),
+        })
+    }
+}
+
+/// The one file FILE.
+fn shelf(alloc: Global, outside: Outside) -> Result<MapShelf, Fail> {
     let mut files = BTreeMap::new(alloc);
     files.insert(
         String::from_str(alloc, "FILE")?,
         outside.text.to_vec(alloc)?,
     )?;
-    let mut shelf = MapShelf::new(files, outside.fails(alloc, Object::Shelf)?);
-    let mut input = ListSource::new(
-        outside.input.to_vec(alloc)?,
-        outside.fails(alloc, Object::Input)?,
-    );
-    let mut out = sink(alloc, outside.room, outside.fails(alloc, Object::Out)?)?;
-    let mut err = sink(alloc, outside.err_room, outside.fails(alloc, Object::Err)?)?;
-    let words = words_of(alloc, line)?;
-    let status = tiger(
-        alloc, &words, &mut shelf, &mut input, &mut out, &mut err, tools,
-    );
-    Ok(Seen {
-        status,
-        error: err.taken().to_vec(alloc)?,
-        out: out.taken().to_vec(alloc)?,
-        files_asked: shelf.calls(),
-        files_failed: shelf.faults(),
-        reads: input.calls(),
-        reads_failed: input.faults(),
-        writes: out.calls(),
-        writes_failed: out.faults(),
-        lines: err.calls(),
-        lines_failed: err.faults(),
-        read: outside.input.len().saturating_sub(left_in(input)?),
-    })
+    let fails = outside.fails(alloc, Object::Shelf)?;
+    Ok(MapShelf::new(files, fails))
 }
 
 /// How many bytes a source has left, at most 64; the next read of it doesn't fail.
