@@ -84,15 +84,19 @@ fn program(rt: &impl Abort, alloc: Global, text: &str) -> Result<Machine, Fail> 
     }
 }
 
+/// How the program of a text ends, as it is shown.
+fn end_of(rt: &impl Abort, alloc: Global, text: &str) -> Result<String, Fail> {
+    let mut input = PlainSource::new(Vec::new(alloc));
+    let mut out = RoomSink::new(alloc, 0, Vec::new(alloc))?;
+    let end = program(rt, alloc, text)?.run(&mut input, &mut out, 20);
+    Ok(format!(in alloc; "{end:?}")?)
+}
+
 #[test]
 fn ends(rt: HostRuntime) -> Result<(), Fail> {
-    let alloc = rt.alloc();
     for row in ENDS {
         let (want, text) = row.split_once('|').ok_or("a row without its text")?;
-        let mut input = PlainSource::new(Vec::new(alloc));
-        let mut out = RoomSink::new(alloc, 0, Vec::new(alloc))?;
-        let end = program(&rt, alloc, text)?.run(&mut input, &mut out, 20);
-        let shown = format!(in alloc; "{end:?}")?;
+        let shown = end_of(&rt, rt.alloc(), text)?;
         assert_eq!(rt; shown.as_str(), want, "{text}");
     }
     Ok(())
@@ -103,26 +107,63 @@ const WRITER: &str =
     ".data\nm: .ascii \"ok\"\n.text\nmain: li $a0, 65\nli $v0, 11\nsyscall\nli $a0, -42\n\
 li $v0, 1\nsyscall\nlui $a0, 0x1001\nli $v0, 4\nsyscall\nli $v0, 10\nsyscall";
 
+/// Runs the writer into a sink, again and again, and gives how many bytes it wrote.
+fn written(
+    rt: &impl Abort,
+    alloc: Global,
+    out: &mut RoomSink,
+    ends: &[RunEnd],
+) -> Result<u64, Fail> {
+    let mut run = program(rt, alloc, WRITER)?;
+    let mut input = PlainSource::new(Vec::new(alloc));
+    for want in ends {
+        assert_eq!(rt; run.run(&mut input, out, 20), *want);
+    }
+    Ok(run.written())
+}
+
 #[test]
 fn writes(rt: HostRuntime) -> Result<(), Fail> {
     let alloc = rt.alloc();
-    let mut input = PlainSource::new(Vec::new(alloc));
     let mut out = RoomSink::new(alloc, 100, Vec::new(alloc))?;
-    let mut run = program(&rt, alloc, WRITER)?;
-    assert_eq!(rt; run.run(&mut input, &mut out, 20), RunEnd::Exit(0));
-    assert_eq!(rt; (out.taken(), run.written()), (b"A-42ok".as_slice(), 6));
-    let mut failing = RoomSink::new(alloc, 100, [2].as_slice().to_vec(alloc)?)?;
-    let mut run = program(&rt, alloc, WRITER)?;
-    assert_eq!(rt; run.run(&mut input, &mut failing, 20), RunEnd::WriteFault);
-    assert_eq!(rt; run.run(&mut input, &mut failing, 20), RunEnd::WriteFault);
-    assert_eq!(rt; (failing.calls(), run.written()), (2, 1));
-    assert_eq!(rt; failing.taken(), b"A".as_slice());
+    let count = written(&rt, alloc, &mut out, &[RunEnd::Exit(0)])?;
+    assert_eq!(rt; (out.taken(), count), (b"A-42ok".as_slice(), 6));
+    Ok(())
+}
+
+#[test]
+fn writes_until_a_write_fails(rt: HostRuntime) -> Result<(), Fail> {
+    let alloc = rt.alloc();
+    let mut out = RoomSink::new(alloc, 100, [2].as_slice().to_vec(alloc)?)?;
+    let count = written(
+        &rt,
+        alloc,
+        &mut out,
+        &[RunEnd::WriteFault, RunEnd::WriteFault],
+    )?;
+    assert_eq!(rt; (out.calls(), count), (2, 1));
+    assert_eq!(rt; out.taken(), b"A".as_slice());
     Ok(())
 }
 
 /// A program that reads twice and exits with the last answer.
 const READER: &str =
     "main: li $v0, 12\nsyscall\nli $v0, 12\nsyscall\nmove $a0, $v0\nli $v0, 17\nsyscall";
+
+/// Runs the reader to its end, and then asks it again.
+fn read_and_ask(
+    rt: &impl Abort,
+    alloc: Global,
+    input: &mut ListSource,
+    out: &mut RoomSink,
+    want: RunEnd,
+) -> Result<(), Fail> {
+    let mut run = program(rt, alloc, READER)?;
+    assert_eq!(rt; run.run(input, out, 20), want);
+    assert_eq!(rt; run.run(input, out, 20), want);
+    assert_eq!(rt; run.step(input, out), Status::Ended(want));
+    Ok(())
+}
 
 #[test]
 fn reads(rt: HostRuntime) -> Result<(), Fail> {
@@ -131,10 +172,7 @@ fn reads(rt: HostRuntime) -> Result<(), Fail> {
     let bytes = [6, 7, 8].as_slice().to_vec(alloc)?;
     let mut input = ListSource::new(bytes, [5].as_slice().to_vec(alloc)?);
     for want in [RunEnd::Exit(7), RunEnd::Exit(-1), RunEnd::ReadFault] {
-        let mut run = program(&rt, alloc, READER)?;
-        assert_eq!(rt; run.run(&mut input, &mut out, 20), want);
-        assert_eq!(rt; run.run(&mut input, &mut out, 20), want);
-        assert_eq!(rt; run.step(&mut input, &mut out), Status::Ended(want));
+        read_and_ask(&rt, alloc, &mut input, &mut out, want)?;
     }
     assert_eq!(rt; input.calls(), 5);
     Ok(())
@@ -166,17 +204,22 @@ fn random_image(alloc: Global, seed: u32) -> Result<Image, Fail> {
     })
 }
 
+/// Runs the image of a seed to its end, and then asks it again.
+fn run_and_ask(rt: &impl Abort, alloc: Global, seed: u32) -> Result<(), Fail> {
+    let mut run = machine(rt, alloc, &random_image(alloc, seed)?)?;
+    let mut input = PlainSource::new(Vec::new(alloc));
+    let mut out = RoomSink::new(alloc, 64, Vec::new(alloc))?;
+    let end = run.run(&mut input, &mut out, 1000);
+    if end != RunEnd::StepLimit {
+        assert_eq!(rt; run.run(&mut input, &mut out, 1000), end);
+    }
+    Ok(())
+}
+
 #[test]
 fn random_words_as_code(rt: HostRuntime) -> Result<(), Fail> {
-    let alloc = rt.alloc();
     for seed in 0..200 {
-        let mut run = machine(&rt, alloc, &random_image(alloc, seed)?)?;
-        let mut input = PlainSource::new(Vec::new(alloc));
-        let mut out = RoomSink::new(alloc, 64, Vec::new(alloc))?;
-        let end = run.run(&mut input, &mut out, 1000);
-        if end != RunEnd::StepLimit {
-            assert_eq!(rt; run.run(&mut input, &mut out, 1000), end);
-        }
+        run_and_ask(&rt, rt.alloc(), seed)?;
     }
     Ok(())
 }

@@ -2,7 +2,7 @@ use crate::reading::read;
 use std::alloc::Global;
 use std::test::Fail;
 use tg_escape::{escapes, links};
-use tg_types::check;
+use tg_types::{Checked, check};
 
 // A text, and the bytes at which the variables are declared that escape.
 static ESCAPING: [(&str, &[u32]); 9] = [
@@ -40,7 +40,12 @@ static ESCAPING: [(&str, &[u32]); 9] = [
 fn escaping_bytes(alloc: Global, text: &str) -> Result<Vec<u32>, Fail> {
     let source = read(alloc, text)?;
     let checked = check(alloc, &source.program, &source.names)?;
-    let found = escapes(alloc, &checked)?;
+    escaping_in(alloc, &checked)
+}
+
+// The bytes at which variables of a program are declared that escape.
+fn escaping_in(alloc: Global, checked: &Checked) -> Result<Vec<u32>, Fail> {
+    let found = escapes(alloc, checked)?;
     Ok((0..200u32).filter(|at| found.has(*at)).collect(alloc)?)
 }
 
@@ -93,7 +98,12 @@ static LINKING: [(&str, &[u32]); 8] = [
 fn linking_bytes(alloc: Global, text: &str) -> Result<Vec<u32>, Fail> {
     let source = read(alloc, text)?;
     let checked = check(alloc, &source.program, &source.names)?;
-    let found = links(alloc, &checked)?;
+    linking_in(alloc, &checked)
+}
+
+// The bytes at which functions of a program are declared whose links nested ones go through.
+fn linking_in(alloc: Global, checked: &Checked) -> Result<Vec<u32>, Fail> {
+    let found = links(alloc, checked)?;
     Ok((0..200u32).filter(|at| found.has(*at)).collect(alloc)?)
 }
 

@@ -49,20 +49,20 @@ fn fold_bodies(alloc: Global, functions: Vec<Fragment>) -> Result<(), Memory> {
     Ok(())
 }
 
+// The functions of a text's program, its body and the runtime's.
+fn functions_of(alloc: Global, text: &str) -> Result<Vec<Fragment>, Fail> {
+    let source = read(alloc, text)?;
+    let checked = check(alloc, &source.program, &source.names)?;
+    Ok(fragments(alloc, &checked)?.functions)
+}
+
 // The program's body is one more, and the runtime has 13.
 #[test]
 fn bodies_of_sources_fold(rt: HostRuntime) -> Result<(), Fail> {
-    let alloc = rt.alloc();
     for (functions, text) in SOURCES {
-        let source = read(alloc, text)?;
-        let checked = check(alloc, &source.program, &source.names)?;
-        let program = fragments(alloc, &checked)?;
-        assert_eq!(rt;
-            program.functions.len(),
-            functions.saturating_add(14),
-            "{text}"
-        );
-        fold_bodies(alloc, program.functions)?;
+        let found = functions_of(rt.alloc(), text)?;
+        assert_eq!(rt; found.len(), functions.saturating_add(14), "{text}");
+        fold_bodies(rt.alloc(), found)?;
     }
     Ok(())
 }

@@ -9,7 +9,7 @@ use tg_base::Memory;
 use tg_compile::{choose, fragments, instructions_name_their_own};
 use tg_spill::{Allocation, in_frame};
 use tg_tree::Fragment;
-use tg_types::check;
+use tg_types::{Checked, check};
 
 /// The code of a function with every temporary in the frame.
 fn place(alloc: Global, one: Fragment) -> Result<Allocation, Memory>
@@ -33,14 +33,23 @@ fn place_all(alloc: Global, functions: Vec<Fragment>) -> Result<Vec<Allocation>,
     Ok(all)
 }
 
+/// A text's program and the functions of the runtime, with every temporary in the frame.
+fn placed(alloc: Global, text: &str) -> Result<Vec<Allocation>, Fail> {
+    let source = read(alloc, text)?;
+    let checked = check(alloc, &source.program, &source.names)?;
+    Ok(place_program(alloc, &checked)?)
+}
+
+/// The same of a program whose types are checked.
+fn place_program(alloc: Global, checked: &Checked) -> Result<Vec<Allocation>, Memory> {
+    place_all(alloc, fragments(alloc, checked)?.functions)
+}
+
 // The program's body and the thirteen functions of the runtime: none keeps a temporary in a
 // register, and each has a slot for each of its temporaries.
 #[test]
 fn whole_programs_go_to_the_frame(rt: HostRuntime) -> Result<(), Fail> {
-    let source = read(rt.alloc(), "print(\"hello\\n\")")?;
-    let checked = check(rt.alloc(), &source.program, &source.names)?;
-    let program = fragments(rt.alloc(), &checked)?;
-    let all = place_all(rt.alloc(), program.functions)?;
+    let all = placed(rt.alloc(), "print(\"hello\\n\")")?;
     assert_eq!(rt; all.len(), 14);
     for one in all.iter() {
         assert!(rt; one.all_in_frame);

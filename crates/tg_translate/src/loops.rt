@@ -7,6 +7,7 @@ ghost use Rattle.tg_translate.specs.Constructs as constructs;
 use crate::homes::Within;
 use crate::operands::{Operand, hold, keep};
 use crate::places::{assign_value, own_place, read};
+use crate::returning::in_turn;
 use crate::states::{TranslationState, next};
 use crate::wants::{nothing, push};
 use std::alloc::Global;
@@ -83,9 +84,19 @@ fn turns(
     ensures { IfOk result (λ s. plain_ts s ≡
         constructs.turns variable low high (plain_ts turn)) }
 {
-    let first = assign_home(alloc, variable, first_minus_one(alloc, low)?)?;
     let turn = turn_of(alloc, variable, high, turn)?;
-    Ok(sequence(vec![in alloc; first, repeat(alloc, turn)?]?))
+    let again = repeat(alloc, turn)?;
+    let first = start(alloc, variable, low)?;
+    in_turn(alloc, first, again)
+}
+
+/// The variable of a loop that counts becomes one below its first value.
+fn start(alloc: Global, variable: Access, low: Operand) -> Result<Ts, Memory>
+    ensures { IfOk result (λ s. plain_ts s ≡
+        constructs.assign_value (constructs.own_place variable)
+        (constructs.first_minus_one low)) }
+{
+    assign_home(alloc, variable, first_minus_one(alloc, low)?)
 }
 
 /// A turn of a loop that counts.

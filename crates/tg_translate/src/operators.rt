@@ -2,6 +2,7 @@ ghost use Rattle.std.specs.Prelude.{◌≡◌, IfOk};
 ghost use Rattle.tg_syntax.specs.Plain.{plain};
 ghost use Rattle.tg_tree.specs.Plain.{plain_tx, plain_cond, plain_ts};
 ghost use Rattle.tg_tree.specs.Lists.{stms_of};
+ghost use Rattle.tg_tree.specs.Tree as tree;
 ghost use Rattle.tg_translate.specs.States.{drawn, state_of};
 ghost use Rattle.tg_translate.specs.Wants as wants;
 ghost use Rattle.tg_translate.specs.Wants.{plain_made};
@@ -55,18 +56,22 @@ pub(crate) fn chosen(
     ensures { IfOk result (λ s. plain_ts s ≡
         choices.chosen op arms (plain_cond left) (plain_made right)) }
 {
-    match op {
-        Op::And => {
-            let this = as_statement(alloc, arms, right)?;
-            let other = as_statement(alloc, arms, Made::Value(Tx::Const(0)))?;
-            Ok(if_else(alloc, left, this, other)?)
-        }
-        _ => {
-            let this = as_statement(alloc, arms, Made::Value(Tx::Const(1)))?;
-            let other = as_statement(alloc, arms, right)?;
-            Ok(if_else(alloc, left, this, other)?)
-        }
-    }
+    let (this, other) = match op {
+        Op::And => (right, Made::Value(Tx::Const(0))),
+        _ => (Made::Value(Tx::Const(1)), right),
+    };
+    choice(alloc, arms, left, this, other)
+}
+
+/// One of two arms, by a condition.
+fn choice(alloc: Global, arms: Want, test: Cond, this: Made, other: Made) -> Result<Ts, Memory>
+    ensures { IfOk result (λ s. plain_ts s ≡ tree.If (plain_cond test)
+        (wants.as_statement arms (plain_made this))
+        (wants.as_statement arms (plain_made other))) }
+{
+    let this = as_statement(alloc, arms, this)?;
+    let other = as_statement(alloc, arms, other)?;
+    if_else(alloc, test, this, other)
 }
 
 /// Whether an expression is the number 0.

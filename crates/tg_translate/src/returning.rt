@@ -78,7 +78,8 @@ fn one_of(one: bool, other: bool) -> bool
     one || other
 }
 
-fn in_turn(alloc: Global, first: Ts, second: Ts) -> Result<Ts, Memory>
+/// One statement behind another.
+pub(crate) fn in_turn(alloc: Global, first: Ts, second: Ts) -> Result<Ts, Memory>
     ensures { IfOk result (λ s. plain_ts s ≡
         returning.in_turn (plain_ts first) (plain_ts second)) }
 {
