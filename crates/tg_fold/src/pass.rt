@@ -9,7 +9,7 @@ use crate::passing::pass_on;
 use crate::renaming::descend;
 use crate::tests::{Tested, both_of, chosen, compared, either_of, negated};
 use std::alloc::Global;
-use tg_base::Memory;
+use tg_base::{Memory, keep_with};
 use tg_tree::{Cond, Stms, Ts, Tx, Txs, after, call, load, load_byte, repeat, sequence, service};
 
 /// So deep trees may be nested, counting each walk into a part as one.
@@ -27,7 +27,8 @@ fn fold_value(alloc: Global, value: Tx, height: u32) -> Result<Tx, Memory>
         Tx::FrameAddress => Ok(Tx::FrameAddress),
         Tx::Binary(op, x, y) => {
             let x = fold_value(alloc, Box::into_inner(x), lower)?;
-            let y = fold_value(alloc, Box::into_inner(y), lower)?;
+            let y = fold_value(alloc, Box::into_inner(y), lower);
+            let (x, y) = keep_with(x, y)?;
             Ok(operated(alloc, op, x, y)?)
         }
         Tx::Load(x) => {
@@ -48,7 +49,8 @@ fn fold_value(alloc: Global, value: Tx, height: u32) -> Result<Tx, Memory>
         }
         Tx::After(first, x) => {
             let x = fold_value(alloc, Box::into_inner(x), lower)?;
-            let first = fold_statement(alloc, Box::into_inner(first), lower)?;
+            let first = fold_statement(alloc, Box::into_inner(first), lower);
+            let (x, first) = keep_with(x, first)?;
             Ok(after(alloc, first, x)?)
         }
     }
@@ -78,7 +80,8 @@ fn fold_test(alloc: Global, test: Cond, height: u32) -> Result<Tested, Memory>
     match test {
         Cond::Compare(rel, x, y) => {
             let x = fold_value(alloc, Box::into_inner(x), lower)?;
-            let y = fold_value(alloc, Box::into_inner(y), lower)?;
+            let y = fold_value(alloc, Box::into_inner(y), lower);
+            let (x, y) = keep_with(x, y)?;
             Ok(compared(alloc, rel, x, y)?)
         }
         Cond::Not(inner) => {
@@ -87,12 +90,14 @@ fn fold_test(alloc: Global, test: Cond, height: u32) -> Result<Tested, Memory>
         }
         Cond::Both(left, right) => {
             let left = fold_test(alloc, Box::into_inner(left), lower)?;
-            let right = fold_test(alloc, Box::into_inner(right), lower)?;
+            let right = fold_test(alloc, Box::into_inner(right), lower);
+            let (left, right) = keep_with(left, right)?;
             Ok(both_of(alloc, left, right)?)
         }
         Cond::Either(left, right) => {
             let left = fold_test(alloc, Box::into_inner(left), lower)?;
-            let right = fold_test(alloc, Box::into_inner(right), lower)?;
+            let right = fold_test(alloc, Box::into_inner(right), lower);
+            let (left, right) = keep_with(left, right)?;
             Ok(either_of(alloc, left, right)?)
         }
     }
@@ -106,20 +111,22 @@ fn fold_statement(alloc: Global, statement: Ts, height: u32) -> Result<Ts, Memor
     match statement {
         Ts::Move(to, x) => Ok(Ts::Move(to, fold_value(alloc, x, lower)?)),
         Ts::Store(x, y) => {
-            let x = fold_value(alloc, x, lower)?;
-            let y = fold_value(alloc, y, lower)?;
+            let (y, x) = keep_with(y, fold_value(alloc, x, lower))?;
+            let (x, y) = keep_with(x, fold_value(alloc, y, lower))?;
             Ok(Ts::Store(x, y))
         }
         Ts::StoreByte(x, y) => {
-            let x = fold_value(alloc, x, lower)?;
-            let y = fold_value(alloc, y, lower)?;
+            let (y, x) = keep_with(y, fold_value(alloc, x, lower))?;
+            let (x, y) = keep_with(x, fold_value(alloc, y, lower))?;
             Ok(Ts::StoreByte(x, y))
         }
         Ts::Do(x) => Ok(Ts::Do(fold_value(alloc, x, lower)?)),
         Ts::If(test, this, other) => {
             let test = fold_test(alloc, test, lower)?;
-            let this = fold_statement(alloc, Box::into_inner(this), lower)?;
-            let other = fold_statement(alloc, Box::into_inner(other), lower)?;
+            let this = fold_statement(alloc, Box::into_inner(this), lower);
+            let (test, this) = keep_with(test, this)?;
+            let other = fold_statement(alloc, Box::into_inner(other), lower);
+            let ((test, this), other) = keep_with((test, this), other)?;
             Ok(chosen(alloc, test, this, other)?)
         }
         Ts::Loop(turn) => {

@@ -5,7 +5,7 @@ ghost use Rattle.tg_fold.specs.Copies as copies;
 
 use crate::reading::CopyOf;
 use std::alloc::Global;
-use tg_base::{Memory, Temp};
+use tg_base::{Memory, Temp, keep_with};
 use tg_tree::{
     Cond, Stms, Ts, Tx, Txs, after, binary, both, call, compare, either, if_else, load, load_byte,
     negate, repeat, sequence, service,
@@ -41,7 +41,8 @@ fn rename_value(alloc: Global, copy: CopyOf, value: Tx, height: u32) -> Result<T
         Tx::FrameAddress => Ok(Tx::FrameAddress),
         Tx::Binary(op, x, y) => {
             let x = rename_value(alloc, copy, Box::into_inner(x), lower)?;
-            let y = rename_value(alloc, copy, Box::into_inner(y), lower)?;
+            let y = rename_value(alloc, copy, Box::into_inner(y), lower);
+            let (x, y) = keep_with(x, y)?;
             Ok(binary(alloc, op, x, y)?)
         }
         Tx::Load(x) => {
@@ -62,7 +63,8 @@ fn rename_value(alloc: Global, copy: CopyOf, value: Tx, height: u32) -> Result<T
         }
         Tx::After(first, x) => {
             let x = rename_value(alloc, copy, Box::into_inner(x), lower)?;
-            let first = rename(alloc, copy, Box::into_inner(first), lower)?;
+            let first = rename(alloc, copy, Box::into_inner(first), lower);
+            let (x, first) = keep_with(x, first)?;
             Ok(after(alloc, first, x)?)
         }
     }
@@ -98,7 +100,8 @@ fn rename_test(alloc: Global, copy: CopyOf, test: Cond, height: u32) -> Result<C
     match test {
         Cond::Compare(rel, x, y) => {
             let x = rename_value(alloc, copy, Box::into_inner(x), lower)?;
-            let y = rename_value(alloc, copy, Box::into_inner(y), lower)?;
+            let y = rename_value(alloc, copy, Box::into_inner(y), lower);
+            let (x, y) = keep_with(x, y)?;
             Ok(compare(alloc, rel, x, y)?)
         }
         Cond::Not(inner) => {
@@ -107,12 +110,14 @@ fn rename_test(alloc: Global, copy: CopyOf, test: Cond, height: u32) -> Result<C
         }
         Cond::Both(left, right) => {
             let left = rename_test(alloc, copy, Box::into_inner(left), lower)?;
-            let right = rename_test(alloc, copy, Box::into_inner(right), lower)?;
+            let right = rename_test(alloc, copy, Box::into_inner(right), lower);
+            let (left, right) = keep_with(left, right)?;
             Ok(both(alloc, left, right)?)
         }
         Cond::Either(left, right) => {
             let left = rename_test(alloc, copy, Box::into_inner(left), lower)?;
-            let right = rename_test(alloc, copy, Box::into_inner(right), lower)?;
+            let right = rename_test(alloc, copy, Box::into_inner(right), lower);
+            let (left, right) = keep_with(left, right)?;
             Ok(either(alloc, left, right)?)
         }
     }
@@ -128,20 +133,22 @@ pub(crate) fn rename(alloc: Global, copy: CopyOf, statement: Ts, height: u32) ->
     match statement {
         Ts::Move(to, x) => Ok(Ts::Move(to, rename_value(alloc, copy, x, lower)?)),
         Ts::Store(x, y) => {
-            let x = rename_value(alloc, copy, x, lower)?;
-            let y = rename_value(alloc, copy, y, lower)?;
+            let (y, x) = keep_with(y, rename_value(alloc, copy, x, lower))?;
+            let (x, y) = keep_with(x, rename_value(alloc, copy, y, lower))?;
             Ok(Ts::Store(x, y))
         }
         Ts::StoreByte(x, y) => {
-            let x = rename_value(alloc, copy, x, lower)?;
-            let y = rename_value(alloc, copy, y, lower)?;
+            let (y, x) = keep_with(y, rename_value(alloc, copy, x, lower))?;
+            let (x, y) = keep_with(x, rename_value(alloc, copy, y, lower))?;
             Ok(Ts::StoreByte(x, y))
         }
         Ts::Do(x) => Ok(Ts::Do(rename_value(alloc, copy, x, lower)?)),
         Ts::If(test, this, other) => {
             let test = rename_test(alloc, copy, test, lower)?;
-            let this = rename(alloc, copy, Box::into_inner(this), lower)?;
-            let other = rename(alloc, copy, Box::into_inner(other), lower)?;
+            let this = rename(alloc, copy, Box::into_inner(this), lower);
+            let (test, this) = keep_with(test, this)?;
+            let other = rename(alloc, copy, Box::into_inner(other), lower);
+            let ((test, this), other) = keep_with((test, this), other)?;
             Ok(if_else(alloc, test, this, other)?)
         }
         Ts::Loop(turn) => {

@@ -69,14 +69,21 @@ const ENDS: [&str; 48] = [
     "StepLimit|main: j main",
 ];
 
-/// A machine with an image, 16 bytes of heap and 64 of stack.
-fn machine(rt: &impl Abort, alloc: Global, image: &Image) -> Result<Machine, Fail> {
+/// A sink with so much room, whose calls of these numbers fail.
+fn sink(alloc: Global, room: usize, fails: &[u64]) -> Result<Box<RoomSink>, Fail> {
+    let fails = fails.to_vec(alloc)?;
+    Ok(Box::new(alloc, RoomSink::new(alloc, room, fails)?)?)
+}
+
+/// A machine with an image, 16 bytes of heap and 64 of stack. In a box, as sinks are here, which a
+/// check lets go by a call.
+fn machine(rt: &impl Abort, alloc: Global, image: &Image) -> Result<Box<Machine>, Fail> {
     assert!(rt; image.code.as_slice().len() <= 100 && image.statics.as_slice().len() <= 100);
-    Ok(load(alloc, image, 16, 64)?)
+    Ok(Box::new(alloc, load(alloc, image, 16, 64)?)?)
 }
 
 /// A machine with the program of a text.
-fn program(rt: &impl Abort, alloc: Global, text: &str) -> Result<Machine, Fail> {
+fn program(rt: &impl Abort, alloc: Global, text: &str) -> Result<Box<Machine>, Fail> {
     match assemble(alloc, text.as_bytes()) {
         Ok(image) => machine(rt, alloc, &image),
         Err(AsmFault::Bad { .. }) => Err("a fault")?,
@@ -87,8 +94,8 @@ fn program(rt: &impl Abort, alloc: Global, text: &str) -> Result<Machine, Fail> 
 /// How the program of a text ends, as it is shown.
 fn end_of(rt: &impl Abort, alloc: Global, text: &str) -> Result<String, Fail> {
     let mut input = PlainSource::new(Vec::new(alloc));
-    let mut out = RoomSink::new(alloc, 0, Vec::new(alloc))?;
-    let end = program(rt, alloc, text)?.run(&mut input, &mut out, 20);
+    let mut out = sink(alloc, 0, &[])?;
+    let end = program(rt, alloc, text)?.run(&mut input, &mut *out, 20);
     Ok(format!(in alloc; "{end:?}")?)
 }
 
@@ -125,8 +132,8 @@ fn written(
 #[test]
 fn writes(rt: HostRuntime) -> Result<(), Fail> {
     let alloc = rt.alloc();
-    let mut out = RoomSink::new(alloc, 100, Vec::new(alloc))?;
-    let count = written(&rt, alloc, &mut out, &[RunEnd::Exit(0)])?;
+    let mut out = sink(alloc, 100, &[])?;
+    let count = written(&rt, alloc, &mut *out, &[RunEnd::Exit(0)])?;
     assert_eq!(rt; (out.taken(), count), (b"A-42ok".as_slice(), 6));
     Ok(())
 }
@@ -134,11 +141,11 @@ fn writes(rt: HostRuntime) -> Result<(), Fail> {
 #[test]
 fn writes_until_a_write_fails(rt: HostRuntime) -> Result<(), Fail> {
     let alloc = rt.alloc();
-    let mut out = RoomSink::new(alloc, 100, [2].as_slice().to_vec(alloc)?)?;
+    let mut out = sink(alloc, 100, &[2])?;
     let count = written(
         &rt,
         alloc,
-        &mut out,
+        &mut *out,
         &[RunEnd::WriteFault, RunEnd::WriteFault],
     )?;
     assert_eq!(rt; (out.calls(), count), (2, 1));
@@ -168,11 +175,11 @@ fn read_and_ask(
 #[test]
 fn reads(rt: HostRuntime) -> Result<(), Fail> {
     let alloc = rt.alloc();
-    let mut out = RoomSink::new(alloc, 0, Vec::new(alloc))?;
+    let mut out = sink(alloc, 0, &[])?;
     let bytes = [6, 7, 8].as_slice().to_vec(alloc)?;
     let mut input = ListSource::new(bytes, [5].as_slice().to_vec(alloc)?);
     for want in [RunEnd::Exit(7), RunEnd::Exit(-1), RunEnd::ReadFault] {
-        read_and_ask(&rt, alloc, &mut input, &mut out, want)?;
+        read_and_ask(&rt, alloc, &mut input, &mut *out, want)?;
     }
     assert_eq!(rt; input.calls(), 5);
     Ok(())
@@ -182,10 +189,10 @@ fn reads(rt: HostRuntime) -> Result<(), Fail> {
 fn stops_and_goes_on(rt: HostRuntime) -> Result<(), Fail> {
     let alloc = rt.alloc();
     let mut input = PlainSource::new(Vec::new(alloc));
-    let mut out = RoomSink::new(alloc, 0, Vec::new(alloc))?;
+    let mut out = sink(alloc, 0, &[])?;
     let mut run = program(&rt, alloc, "main: li $a0, 5\nli $v0, 17\nsyscall")?;
-    assert_eq!(rt; run.run(&mut input, &mut out, 2), RunEnd::StepLimit);
-    assert_eq!(rt; run.run(&mut input, &mut out, 1), RunEnd::Exit(5));
+    assert_eq!(rt; run.run(&mut input, &mut *out, 2), RunEnd::StepLimit);
+    assert_eq!(rt; run.run(&mut input, &mut *out, 1), RunEnd::Exit(5));
     Ok(())
 }
 
@@ -208,10 +215,10 @@ fn random_image(alloc: Global, seed: u32) -> Result<Image, Fail> {
 fn run_and_ask(rt: &impl Abort, alloc: Global, seed: u32) -> Result<(), Fail> {
     let mut run = machine(rt, alloc, &random_image(alloc, seed)?)?;
     let mut input = PlainSource::new(Vec::new(alloc));
-    let mut out = RoomSink::new(alloc, 64, Vec::new(alloc))?;
-    let end = run.run(&mut input, &mut out, 1000);
+    let mut out = sink(alloc, 64, &[])?;
+    let end = run.run(&mut input, &mut *out, 1000);
     if end != RunEnd::StepLimit {
-        assert_eq!(rt; run.run(&mut input, &mut out, 1000), end);
+        assert_eq!(rt; run.run(&mut input, &mut *out, 1000), end);
     }
     Ok(())
 }

@@ -101,9 +101,9 @@ pub(crate) fn words_of(alloc: Global, line: &str) -> Result<Vec<String>, AllocEr
     Ok(words)
 }
 
-fn sink(alloc: Global, room: usize, fails: Vec<u64>) -> Result<RoomSink, Fail> {
+fn sink(alloc: Global, room: usize, fails: Vec<u64>) -> Result<Box<RoomSink>, Fail> {
     match RoomSink::new(alloc, room, fails) {
-        Ok(sink) => Ok(sink),
+        Ok(sink) => Ok(Box::new(alloc, sink)?),
         Err(_) => Err(Fail::from("no memory")),
     }
 }
@@ -136,39 +136,38 @@ pub(crate) fn call_with(
     let status = tiger(
         alloc,
         &words,
-        &mut objects.shelf,
-        &mut objects.input,
-        &mut objects.out,
-        &mut objects.err,
+        &mut *objects.shelf,
+        &mut *objects.input,
+        &mut *objects.out,
+        &mut *objects.err,
         tools,
     );
     objects.seen(alloc, status, outside)
 }
 
-/// What the program makes its calls on.
+/// What the program makes its calls on. In boxes, which a check lets go by a call.
 #[derive(Drop)]
 struct Objects {
-    shelf: MapShelf,
-    input: ListSource,
-    out: RoomSink,
-    err: RoomSink,
+    shelf: Box<MapShelf>,
+    input: Box<ListSource>,
+    out: Box<RoomSink>,
+    err: Box<RoomSink>,
 }
 
 impl Objects {
     fn of(alloc: Global, outside: Outside) -> Result<Objects, Fail> {
+        let out = outside.fails(alloc, Object::Out)?;
+        let err = outside.fails(alloc, Object::Err)?;
         Ok(Objects {
             shelf: shelf(alloc, outside)?,
-            input: ListSource::new(
-                outside.input.to_vec(alloc)?,
-                outside.fails(alloc, Object::Input)?,
-            ),
-            out: sink(alloc, outside.room, outside.fails(alloc, Object::Out)?)?,
-            err: sink(alloc, outside.err_room, outside.fails(alloc, Object::Err)?)?,
+            input: input(alloc, outside)?,
+            out: sink(alloc, outside.room, out)?,
+            err: sink(alloc, outside.err_room, err)?,
         })
     }
 
     /// What a call that ended with this status left.
-    fn seen(self, alloc: Global, status: u8, outside: Outside) -> Result<Seen, Fail> {
+    fn seen(mut self, alloc: Global, status: u8, outside: Outside) -> Result<Seen, Fail> {
         Ok(Seen {
             status,
             error: self.err.taken().to_vec(alloc)?,
@@ -181,25 +180,34 @@ impl Objects {
             writes_failed: self.out.faults(),
             lines: self.err.calls(),
             lines_failed: self.err.faults(),
-            read: outside.input.len().saturating_sub(left_in(self.input)?),
+            read: outside
+                .input
+                .len()
+                .saturating_sub(left_in(&mut self.input)?),
         })
     }
 }
 
 /// The one file FILE.
-fn shelf(alloc: Global, outside: Outside) -> Result<MapShelf, Fail> {
+fn shelf(alloc: Global, outside: Outside) -> Result<Box<MapShelf>, Fail> {
     let mut files = BTreeMap::new(alloc);
     files.insert(
         String::from_str(alloc, "FILE")?,
         outside.text.to_vec(alloc)?,
     )?;
     let fails = outside.fails(alloc, Object::Shelf)?;
-    Ok(MapShelf::new(files, fails))
+    Ok(Box::new(alloc, MapShelf::new(files, fails))?)
+}
+
+/// The input.
+fn input(alloc: Global, outside: Outside) -> Result<Box<ListSource>, Fail> {
+    let bytes = outside.input.to_vec(alloc)?;
+    let fails = outside.fails(alloc, Object::Input)?;
+    Ok(Box::new(alloc, ListSource::new(bytes, fails))?)
 }
 
 /// How many bytes a source has left, at most 64; the next read of it doesn't fail.
-fn left_in(input: ListSource) -> Result<usize, Fail> {
-    let mut input = input;
+fn left_in(input: &mut ListSource) -> Result<usize, Fail> {
     let mut rest = [0; 64];
     match input.read(&mut rest) {
         Ok(left) => Ok(left),

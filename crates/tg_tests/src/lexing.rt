@@ -31,9 +31,9 @@ fn number(token: &Token) -> Option<u32> {
 #[test]
 fn tokens_are_as_long_as_possible(rt: HostRuntime) -> Result<(), Fail> {
     let text = b"b:=if<>ifs_9/*\xff/**/*/a*/\"\\065\\^a\\ \n\\\xff\"2147483647";
-    let mut names = Names::new(rt.alloc());
+    let mut names = Box::new(rt.alloc(), Names::new(rt.alloc()))?;
     names.intern("a")?;
-    let tokens = lex(rt.alloc(), text, &mut names)?;
+    let tokens = lex(rt.alloc(), text, &mut *names)?;
     assert_eq!(rt; tokens.len(), TOKENS.len());
     for (token, want) in tokens.iter().zip(TOKENS) {
         let span = token.span;

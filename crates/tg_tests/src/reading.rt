@@ -16,8 +16,14 @@ pub(crate) struct Source {
     pub(crate) names: Names,
 }
 
-/// The tree of a text, whose types aren't looked at.
-pub(crate) fn read(alloc: Global, text: &str) -> Result<Source, Fail>
+/// The tree of a text, whose types aren't looked at. In a box, which a check lets go by a call.
+pub(crate) fn read(alloc: Global, text: &str) -> Result<Box<Source>, Fail>
+    ensures { IfOk result (λ s. IsCheckable s.value.names (plain s.value.program.body)) }
+{
+    Ok(Box::new(alloc, source_of(alloc, text)?)?)
+}
+
+fn source_of(alloc: Global, text: &str) -> Result<Source, Fail>
     ensures { IfOk result (λ s. IsCheckable s.names (plain s.program.body)) }
 {
     let mut names = Names::new(alloc);
@@ -27,7 +33,7 @@ pub(crate) fn read(alloc: Global, text: &str) -> Result<Source, Fail>
 }
 
 /// The program that a text is.
-pub(crate) fn program_of(alloc: Global, text: &str) -> Result<Program, Fail> {
-    let Source { program, names: _ } = read(alloc, text)?;
-    Ok(program)
+pub(crate) fn program_of(alloc: Global, text: &str) -> Result<Box<Program>, Fail> {
+    let Source { program, names: _ } = Box::into_inner(read(alloc, text)?);
+    Ok(Box::new(alloc, program)?)
 }

@@ -41,7 +41,7 @@ use crate::updates::begins_with;
 use crate::wants::{
     Made, Want, arms, as_statement, behind, deliver, dropped, nothing, push, test_of, value_of,
 };
-use tg_base::{Label, Memory};
+use tg_base::{Label, Memory, keep_with};
 use tg_runtime::Routine;
 use tg_syntax::{Dec, Decs, Exp, Exps, FunDec, FunDecs, Ident, Inits, Kind, Op, Var};
 use tg_tree::{Cond, Ts, Tx, if_else};
@@ -95,9 +95,10 @@ pub(crate) fn expression(
             if is_conjunction(want, other) {
                 return Ok(connective(findings, state, this, Op::And, test, want, within)?);
             }
-            let arms = arms(state, want)?;
-            let this = arm(findings, state, this, arms, within)?;
-            let other = arm(findings, state, other, arms, within)?;
+            let (test, arms) = keep_with(test, arms(state, want))?;
+            let (test, this) = keep_with(test, arm(findings, state, this, arms, within))?;
+            let held = (test, this);
+            let ((test, this), other) = keep_with(held, arm(findings, state, other, arms, within))?;
             let choice = if_else(state.alloc, test, this, other)?;
             Ok(deliver(state.alloc, want, arms, choice)?)
         }
@@ -111,7 +112,7 @@ pub(crate) fn expression(
         }
         Kind::For(x, low, high, body) => {
             let low = value(findings, state, low, within)?;
-            let high = value(findings, state, high, within)?;
+            let (low, high) = keep_with(low, value(findings, state, high, within))?;
             Ok(counted(findings, state, body, *x, low, high, within)?)
         }
         Kind::Let(decs, body) => {

@@ -11,7 +11,7 @@ use crate::returning::in_turn;
 use crate::states::{TranslationState, next};
 use crate::wants::{nothing, push};
 use std::alloc::Global;
-use tg_base::{Memory, sub};
+use tg_base::{Memory, keep_with, sub};
 use tg_frame::Access;
 use tg_tree::{Bin, Cond, Rel, Ts, Tx, binary, compare, if_else, repeat, sequence, when};
 
@@ -86,7 +86,7 @@ fn turns(
 {
     let turn = turn_of(alloc, variable, high, turn)?;
     let again = repeat(alloc, turn)?;
-    let first = start(alloc, variable, low)?;
+    let (again, first) = keep_with(again, start(alloc, variable, low))?;
     in_turn(alloc, first, again)
 }
 
@@ -129,9 +129,9 @@ pub(crate) fn count(
         (state_of state.old) ≡ drawn (plain_ts s) (state_of state.new)) }
 {
     let mut done = Vec::new(state.alloc);
-    let low = hold(state, false, &mut done, low)?;
-    let high = keep(state, &mut done, high)?;
-    Ok(count_of(state.alloc, done, variable, low, high, turn)?)
+    let ((high, turn), low) = keep_with((high, turn), hold(state, false, &mut done, low))?;
+    let (turn, high) = keep_with(turn, keep(state, &mut done, high))?;
+    count_of(state.alloc, done, variable, low, high, turn)
 }
 
 fn count_of(
@@ -145,8 +145,9 @@ fn count_of(
     ensures { IfOk result (λ s. plain_ts s ≡
         constructs.count_of (stms_of done.items) variable low high (plain_ts turn)) }
 {
-    let is_run = compare(alloc, Rel::GreaterEqual, high.tree(), low.tree())?;
     let turns = turns(alloc, variable, low, high, turn)?;
+    let test = compare(alloc, Rel::GreaterEqual, high.tree(), low.tree());
+    let (turns, is_run) = keep_with(turns, test)?;
     push(&mut done, when(alloc, is_run, turns)?)?;
     Ok(sequence(done))
 }

@@ -18,7 +18,7 @@ use crate::operands::{Operand, hold};
 use crate::states::TranslationState;
 use crate::wants::{Made, Want, as_statement, push, test_of, value_behind};
 use std::alloc::Global;
-use tg_base::{Memory, Temp, sub};
+use tg_base::{Memory, Temp, keep_with, sub};
 use tg_runtime::Routine;
 use tg_syntax::{Exp, Kind, Op};
 use tg_tree::{Bin, Cond, Rel, Ts, Tx, binary, both, compare, either, if_else};
@@ -69,8 +69,8 @@ fn choice(alloc: Global, arms: Want, test: Cond, this: Made, other: Made) -> Res
         (wants.as_statement arms (plain_made this))
         (wants.as_statement arms (plain_made other))) }
 {
-    let this = as_statement(alloc, arms, this)?;
-    let other = as_statement(alloc, arms, other)?;
+    let ((test, other), this) = keep_with((test, other), as_statement(alloc, arms, this))?;
+    let ((test, this), other) = keep_with((test, this), as_statement(alloc, arms, other))?;
     if_else(alloc, test, this, other)
 }
 

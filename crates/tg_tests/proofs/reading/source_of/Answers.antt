@@ -2,7 +2,7 @@ use Rattle.std.proofs.Common.{subst}
 use Rattle.tg_syntax.specs.Grammar.{IsProgram}
 use Rattle.tg_syntax.specs.Plain.{plain}
 use Rattle.tg_tests.proofs.Checkable.{checkable}
-use Rattle.tg_tests.proofs.reading.read.Goals as goal
+use Rattle.tg_tests.proofs.reading.source_of.Goals as goal
 
 pub returns : goal.returns
 returns c =
