@@ -8,7 +8,7 @@ ghost use Rattle.tg_canon.specs.Views.{plain_part, plain_lifted, plain_two, plai
 use crate::parts::{Part, is_nothing, nothing};
 use crate::supply::Supply;
 use std::alloc::Global;
-use tg_base::{Label, Memory};
+use tg_base::{Label, Memory, keep_with};
 use tg_tree::{Bin, Ts, Tx, Txs, binary, call, load, load_byte, service};
 
 /// What is left of an expression, a flat one or a call or service of flat ones, behind what is
@@ -146,11 +146,10 @@ fn hold_for_sum(
         supply.old.next (plain_lifted a) supply.new.next) }
 {
     if is_sum(op) && is_constant(&right) {
-        let held = hold_unless_it_stays(supply, part, left)?;
-        Ok(Lifted {
-            front: held.front,
-            rest: binary(supply.alloc, op, held.rest, right)?,
-        })
+        let (right, held) = keep_with(right, hold_unless_it_stays(supply, part, left))?;
+        let sum = binary(supply.alloc, op, held.rest, right);
+        let (front, rest) = keep_with(held.front, sum)?;
+        Ok(Lifted { front, rest })
     } else {
         let sum = binary(supply.alloc, op, left, right)?;
         Ok(hold(supply, sum)?)
@@ -223,30 +222,24 @@ pub(crate) fn operate(alloc: Global, op: Bin, both: Two) -> Result<Lifted, Memor
     ensures { IfOk result (λ a.
         plain_lifted a ≡ canon.over_two (tree.Binary op) (plain_two both)) }
 {
-    Ok(Lifted {
-        front: both.front,
-        rest: binary(alloc, op, both.left, both.right)?,
-    })
+    let (front, rest) = keep_with(both.front, binary(alloc, op, both.left, both.right))?;
+    Ok(Lifted { front, rest })
 }
 
 /// The word at a lifted address.
 pub(crate) fn load_from(alloc: Global, a: Lifted) -> Result<Lifted, Memory>
     ensures { IfOk result (λ b. plain_lifted b ≡ canon.over tree.Load (plain_lifted a)) }
 {
-    Ok(Lifted {
-        front: a.front,
-        rest: load(alloc, a.rest)?,
-    })
+    let (front, rest) = keep_with(a.front, load(alloc, a.rest))?;
+    Ok(Lifted { front, rest })
 }
 
 /// The byte at a lifted address.
 pub(crate) fn load_byte_from(alloc: Global, a: Lifted) -> Result<Lifted, Memory>
     ensures { IfOk result (λ b. plain_lifted b ≡ canon.over tree.LoadByte (plain_lifted a)) }
 {
-    Ok(Lifted {
-        front: a.front,
-        rest: load_byte(alloc, a.rest)?,
-    })
+    let (front, rest) = keep_with(a.front, load_byte(alloc, a.rest))?;
+    Ok(Lifted { front, rest })
 }
 
 /// A service with a lifted argument.
@@ -254,10 +247,8 @@ pub(crate) fn serve(alloc: Global, number: u32, a: Lifted) -> Result<Lifted, Mem
     ensures { IfOk result (λ b.
         plain_lifted b ≡ canon.over (tree.Service number) (plain_lifted a)) }
 {
-    Ok(Lifted {
-        front: a.front,
-        rest: service(alloc, number, a.rest)?,
-    })
+    let (front, rest) = keep_with(a.front, service(alloc, number, a.rest))?;
+    Ok(Lifted { front, rest })
 }
 
 /// A call with lifted arguments.

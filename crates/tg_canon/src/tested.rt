@@ -8,8 +8,8 @@ ghost use Rattle.tg_canon.specs.Views.{plain_part, plain_two, plain_tested};
 use crate::lifted::Two;
 use crate::parts::{Part, nothing};
 use std::alloc::Global;
-use tg_base::Memory;
-use tg_tree::{Cond, Rel, Ts, Tx, both, either, if_else, negate};
+use tg_base::{Memory, keep_with};
+use tg_tree::{Cond, Rel, Ts, Tx, both, compare, either, if_else, negate};
 
 /// A flat condition behind what is lifted out of it.
 #[derive(Drop)]
@@ -58,12 +58,9 @@ pub(crate) fn compare_both(alloc: Global, rel: Rel, operands: Two) -> Result<Tes
     ensures { IfOk result (λ t.
         plain_tested t ≡ canon.compared (tree.Compare rel) (plain_two operands)) }
 {
-    let left = Box::new(alloc, operands.left)?;
-    let right = Box::new(alloc, operands.right)?;
-    Ok(Tested {
-        front: operands.front,
-        condition: Cond::Compare(rel, left, right),
-    })
+    let test = compare(alloc, rel, operands.left, operands.right);
+    let (front, condition) = keep_with(operands.front, test)?;
+    Ok(Tested { front, condition })
 }
 
 impl Tested {
@@ -71,10 +68,8 @@ impl Tested {
     pub(crate) fn opposite(self, alloc: Global) -> Result<Tested, Memory>
         ensures { IfOk result (λ t. plain_tested t ≡ canon.opposite (plain_tested self)) }
     {
-        Ok(Tested {
-            front: self.front,
-            condition: negate(alloc, self.condition)?,
-        })
+        let (front, condition) = keep_with(self.front, negate(alloc, self.condition))?;
+        Ok(Tested { front, condition })
     }
 
     /// Whether this one and another hold.
@@ -82,10 +77,10 @@ impl Tested {
         ensures { IfOk result (λ t.
             plain_tested t ≡ canon.joined tree.Both (plain_tested self) (plain_tested other)) }
     {
-        Ok(Tested {
-            front: self.front.before(alloc, other.front)?,
-            condition: both(alloc, self.condition, other.condition)?,
-        })
+        let tests = (self.condition, other.condition);
+        let ((left, right), front) = keep_with(tests, self.front.before(alloc, other.front))?;
+        let (front, condition) = keep_with(front, both(alloc, left, right))?;
+        Ok(Tested { front, condition })
     }
 
     /// Whether this one or another holds.
@@ -93,10 +88,10 @@ impl Tested {
         ensures { IfOk result (λ t.
             plain_tested t ≡ canon.joined tree.Either (plain_tested self) (plain_tested other)) }
     {
-        Ok(Tested {
-            front: self.front.before(alloc, other.front)?,
-            condition: either(alloc, self.condition, other.condition)?,
-        })
+        let tests = (self.condition, other.condition);
+        let ((left, right), front) = keep_with(tests, self.front.before(alloc, other.front))?;
+        let (front, condition) = keep_with(front, either(alloc, left, right))?;
+        Ok(Tested { front, condition })
     }
 
     /// One of two statements, by the condition.
@@ -104,12 +99,16 @@ impl Tested {
         ensures { IfOk result (λ p. plain_part p ≡
             canon.choice (plain_tested self) (plain_part this) (plain_part other)) }
     {
+        let least = this.least.min(other.least);
+        let greatest = this.greatest.max(other.greatest);
+        let choice = if_else(alloc, self.condition, this.statement, other.statement);
+        let (front, statement) = keep_with(self.front, choice)?;
         let chosen = Part {
-            least: this.least.min(other.least),
-            greatest: this.greatest.max(other.greatest),
-            statement: if_else(alloc, self.condition, this.statement, other.statement)?,
+            statement,
+            least,
+            greatest,
         };
-        Ok(self.front.before(alloc, chosen)?)
+        front.before(alloc, chosen)
     }
 
     /// Leaves so many loops and one more where the condition comes out so, and goes on where it
