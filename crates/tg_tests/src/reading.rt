@@ -34,6 +34,6 @@ fn source_of(alloc: Global, text: &str) -> Result<Source, Fail>
 
 /// The program that a text is.
 pub(crate) fn program_of(alloc: Global, text: &str) -> Result<Box<Program>, Fail> {
-    let Source { program, names: _ } = Box::into_inner(read(alloc, text)?);
+    let Source { program, names: _ } = source_of(alloc, text)?;
     Ok(Box::new(alloc, program)?)
 }
