@@ -14,14 +14,14 @@ ghost use Rattle.tg_syntax.specs.Tree.{
   While as PlainWhile,
   For as PlainFor,
   Neg as PlainNeg,
+  Index as PlainIndex,
 };
 ghost use Rattle.tg_grammar.specs.Reading.{binary as plain_binary};
 
 use std::alloc::Global;
 use tg_base::{Memory, Span};
 use tg_syntax::{
-    Dec, Exp, Ident, Init, Kind, Op, Var, assign, call, fill, for_to, if_else, if_then, let_in,
-    make, negate, sequence, while_do,
+    Dec, Exp, Ident, Init, Kind, Op, Var, assign, call, let_in, make, negate, sequence,
 };
 
 /// From one's first byte to another's last.
@@ -59,21 +59,13 @@ pub(crate) fn build_negation(alloc: Global, first: Span, a: Exp) -> Result<Exp, 
 
 /// Two operands and the operator between them, whose first byte is `at`.
 #[inline(always)]
-pub(crate) fn build_operation(
-    alloc: Global,
-    op: Op,
-    at: u32,
-    left: Exp,
-    right: Box<Exp>,
-) -> Result<Exp, Memory>
-    ensures { IfOk result (λ e. plain e ≡ plain_binary op at (plain left) (plain right.value)) }
+pub(crate) fn build_operation(op: Op, at: u32, left: Box<Exp>, right: Box<Exp>) -> Exp
+    ensures { plain result ≡ plain_binary op at (plain left.value) (plain right.value) }
 {
-    let span = up_to(span_of(&left), &right);
-    let left = Box::new(alloc, left)?;
-    Ok(Exp {
-        span,
+    Exp {
+        span: up_to(span_of(&left), &right),
         kind: Kind::Binary(op, at, left, right),
-    })
+    }
 }
 
 /// An assignment.
@@ -91,65 +83,84 @@ pub(crate) fn build_assignment(
     assign(alloc, span, place, value)
 }
 
-/// An array that is made.
-pub(crate) fn build_array(alloc: Global, name: Ident, size: Exp, value: Exp) -> Result<Exp, Memory>
-    ensures { IfOk result (λ e. plain e
-        ≡ PlainFill (joined_span name.span (plain_span_of (plain value)))
-        name (plain size) (plain value)) }
+/// An element of an array.
+pub(crate) fn build_element(alloc: Global, of: Var, at: Box<Exp>) -> Result<Var, Memory>
+    ensures { IfOk result (λ v. plain_place v
+        ≡ PlainIndex (plain_place of) (plain at.value)) }
 {
-    let span = up_to(name.span, &value);
-    fill(alloc, span, name, size, value)
+    let of = Box::new(alloc, of)?;
+    Ok(Var::Index(of, at))
+}
+
+/// An array that is made.
+pub(crate) fn build_array(name: Ident, size: Box<Exp>, value: Box<Exp>) -> Exp
+    ensures { plain result
+        ≡ PlainFill (joined_span name.span (plain_span_of (plain value.value)))
+        name (plain size.value) (plain value.value) }
+{
+    Exp {
+        span: up_to(name.span, &value),
+        kind: Kind::Fill(name, size, value),
+    }
 }
 
 /// An `if` without `else`.
-pub(crate) fn build_choice(alloc: Global, first: Span, test: Exp, this: Exp) -> Result<Exp, Memory>
-    ensures { IfOk result (λ e. plain e
-        ≡ PlainWhen (joined_span first (plain_span_of (plain this))) (plain test) (plain this)) }
+pub(crate) fn build_choice(first: Span, test: Box<Exp>, this: Box<Exp>) -> Exp
+    ensures { plain result
+        ≡ PlainWhen (joined_span first (plain_span_of (plain this.value)))
+        (plain test.value) (plain this.value) }
 {
-    let span = up_to(first, &this);
-    if_then(alloc, span, test, this)
+    Exp {
+        span: up_to(first, &this),
+        kind: Kind::If(test, this, None),
+    }
 }
 
 /// An `if` with `else`.
 pub(crate) fn build_choice_of_two(
-    alloc: Global,
     first: Span,
-    test: Exp,
-    this: Exp,
-    other: Exp,
-) -> Result<Exp, Memory>
-    ensures { IfOk result (λ e. plain e
-        ≡ PlainIf (joined_span first (plain_span_of (plain other)))
-        (plain test) (plain this) (plain other)) }
+    test: Box<Exp>,
+    this: Box<Exp>,
+    other: Box<Exp>,
+) -> Exp
+    ensures { plain result
+        ≡ PlainIf (joined_span first (plain_span_of (plain other.value)))
+        (plain test.value) (plain this.value) (plain other.value) }
 {
-    let span = up_to(first, &other);
-    if_else(alloc, span, test, this, other)
+    Exp {
+        span: up_to(first, &other),
+        kind: Kind::If(test, this, Some(other)),
+    }
 }
 
 /// A `while` loop.
-pub(crate) fn build_while(alloc: Global, first: Span, test: Exp, body: Exp) -> Result<Exp, Memory>
-    ensures { IfOk result (λ e. plain e
-        ≡ PlainWhile (joined_span first (plain_span_of (plain body))) (plain test) (plain body)) }
+pub(crate) fn build_while(first: Span, test: Box<Exp>, body: Box<Exp>) -> Exp
+    ensures { plain result
+        ≡ PlainWhile (joined_span first (plain_span_of (plain body.value)))
+        (plain test.value) (plain body.value) }
 {
-    let span = up_to(first, &body);
-    while_do(alloc, span, test, body)
+    Exp {
+        span: up_to(first, &body),
+        kind: Kind::While(test, body),
+    }
 }
 
 /// A `for` loop.
 pub(crate) fn build_for(
-    alloc: Global,
     first: Span,
     variable: Ident,
-    low: Exp,
-    high: Exp,
-    body: Exp,
-) -> Result<Exp, Memory>
-    ensures { IfOk result (λ e. plain e
-        ≡ PlainFor (joined_span first (plain_span_of (plain body)))
-        variable (plain low) (plain high) (plain body)) }
+    low: Box<Exp>,
+    high: Box<Exp>,
+    body: Box<Exp>,
+) -> Exp
+    ensures { plain result
+        ≡ PlainFor (joined_span first (plain_span_of (plain body.value)))
+        variable (plain low.value) (plain high.value) (plain body.value) }
 {
-    let span = up_to(first, &body);
-    for_to(alloc, span, variable, low, high, body)
+    Exp {
+        span: up_to(first, &body),
+        kind: Kind::For(variable, low, high, body),
+    }
 }
 
 /// A sequence, between the tokens that enclose it.

@@ -30,12 +30,21 @@ pub(crate) fn push_type(alloc: Global, decs: &mut Vec<Dec>, dec: TypeDec) -> Res
     Ok(())
 }
 
+/// A list of one. Its type is open, so that what it holds is let go by a call where a list can't be
+/// had.
+pub(crate) fn list_of_one<T: Drop>(alloc: Global, one: T) -> Result<Vec<T>, Memory>
+    ensures { IfOk result (λ list. list.items ≡ one ∷ []) }
+{
+    let mut list = Vec::with_capacity(alloc, 1)?;
+    list.push(one)?;
+    Ok(list)
+}
+
 fn type_alone(alloc: Global, dec: TypeDec) -> Result<Dec, Memory>
     ensures { IfOk result (λ d. decs_of (d ∷ [])
         ≡ snoc_dec (decs_of []) (one_type (plain_type dec))) }
 {
-    let mut group = Vec::new(alloc);
-    group.push(dec)?;
+    let group = list_of_one(alloc, dec)?;
     Ok(Dec::Types(ListOf::from_vec(group)))
 }
 
@@ -81,7 +90,6 @@ fn function_alone(alloc: Global, dec: FunDec) -> Result<Dec, Memory>
     ensures { IfOk result (λ d. decs_of (d ∷ [])
         ≡ snoc_dec (decs_of []) (one_function dec.name dec.params dec.result (plain dec.body))) }
 {
-    let mut group = Vec::new(alloc);
-    group.push(dec)?;
-    Ok(Dec::Functions(FunDecs { items: group }))
+    let items = list_of_one(alloc, dec)?;
+    Ok(Dec::Functions(FunDecs { items }))
 }

@@ -47,12 +47,13 @@ ghost use Rattle.tg_parser.specs.Opens.{BeginsJob, BeginsTwo, Completes};
 ghost use Rattle.tg_parser.specs.Heads.{one_of};
 
 use crate::building::{
-    build_array, build_assignment, build_call, build_choice, build_choice_of_two, build_for,
-    build_let, build_negation, build_operation, build_record, build_sequence, build_while, join,
+    build_array, build_assignment, build_call, build_choice, build_choice_of_two, build_element,
+    build_for, build_let, build_negation, build_operation, build_record, build_sequence,
+    build_while, join,
 };
 use crate::faults::Stop;
 use crate::forms::type_dec;
-use crate::groups::{push_function, push_type, push_variable};
+use crate::groups::{list_of_one, push_function, push_type, push_variable};
 use crate::heads::{
     DeclarationKind, Start, Target, atom, begins, counter, declared_next, function_head, is_over,
     operator_behind, skip, target_of, variable_head, wants_else,
@@ -62,7 +63,7 @@ use crate::taking::{Reading, next, take, take_name};
 use std::alloc::Global;
 use tg_base::Span;
 use tg_grammar::Mark;
-use tg_syntax::{Dec, Exp, FunDec, Ident, Init, Sign, Spanned, Var, Word, field, index, read};
+use tg_syntax::{Dec, Exp, FunDec, Ident, Init, Sign, Spanned, Var, Word, field, read};
 
 /// A program: one expression, and the end.
 pub(crate) fn program(alloc: Global, tokens: &[Spanned]) -> Reading<Exp>
@@ -151,6 +152,18 @@ fn whole(alloc: Global, tokens: &[Spanned]) -> Reading<Exp>
     }
 }
 
+/// An expression, which may be an assignment, in a box.
+#[cycle(descent)]
+fn boxed_whole(alloc: Global, tokens: &[Spanned]) -> Reading<Box<Exp>>
+    ensures given { AnswersJob (At WholeLevel) (λ x. plain x.0.value) (λ x. x.1.now) result
+        (job (At WholeLevel)) tokens.now }
+    ensures shorter { IfOk result (λ x. length x.1.now < length tokens.now) }
+{
+    let (e, rest) = whole(alloc, tokens)?;
+    let expression = Box::new(alloc, e)?;
+    Ok((expression, rest))
+}
+
 /// An l-value alone, or what is assigned to it.
 #[cycle(descent)]
 fn assignment(alloc: Global, span: Span, place: Var, tokens: &[Spanned]) -> Reading<Exp>
@@ -191,9 +204,9 @@ fn operators(alloc: Global, rank: Rank, left: Exp, tokens: &[Spanned]) -> Readin
         let Some((operator, after)) = operator_behind(&left, rank, rest)? else {
             return Ok((left, rest));
         };
+        let first = Box::new(alloc, left)?;
         let (right, behind) = operand(alloc, below(rank), after)?;
-        let e = build_operation(alloc, operator.op, operator.at, left, right)?;
-        left = e;
+        left = build_operation(operator.op, operator.at, first, right);
         rest = behind;
     }
 }
@@ -209,8 +222,9 @@ fn comparison(alloc: Global, left: Exp, tokens: &[Spanned]) -> Reading<Exp>
     let Some((operator, after)) = operator_behind(&first, Rank::Comparison, rest)? else {
         return Ok((first, rest));
     };
+    let left = Box::new(alloc, first)?;
     let (right, rest) = operand(alloc, Rank::Sum, after)?;
-    let e = build_operation(alloc, operator.op, operator.at, first, right)?;
+    let e = build_operation(operator.op, operator.at, left, right);
     Ok((e, rest))
 }
 
@@ -267,16 +281,14 @@ fn choosing(alloc: Global, tokens: &[Spanned]) -> Reading<Exp>
         choosing_steps tokens.now }
     ensures shorter { IfOk result (λ x. length x.1.now < length tokens.now) }
 {
-    let (first, test, rest) = clause(alloc, Mark::OfWord(Word::WIf), tokens)?;
-    let (_, this, rest) = clause(alloc, Mark::OfWord(Word::WThen), rest)?;
+    let (first, test, rest) = boxed_clause(alloc, Mark::OfWord(Word::WIf), tokens)?;
+    let (_, this, rest) = boxed_clause(alloc, Mark::OfWord(Word::WThen), rest)?;
     let goes_on = wants_else(&this, rest)?;
     if !goes_on {
-        let e = build_choice(alloc, first, test, this)?;
-        return Ok((e, rest));
+        return Ok((build_choice(first, test, this), rest));
     }
-    let (_, other, rest) = clause(alloc, Mark::OfWord(Word::WElse), rest)?;
-    let e = build_choice_of_two(alloc, first, test, this, other)?;
-    Ok((e, rest))
+    let (_, other, rest) = boxed_clause(alloc, Mark::OfWord(Word::WElse), rest)?;
+    Ok((build_choice_of_two(first, test, this, other), rest))
 }
 
 #[cycle(descent)]
@@ -285,10 +297,9 @@ fn looping(alloc: Global, tokens: &[Spanned]) -> Reading<Exp>
         looping_steps tokens.now }
     ensures shorter { IfOk result (λ x. length x.1.now < length tokens.now) }
 {
-    let (first, test, rest) = clause(alloc, Mark::OfWord(Word::WWhile), tokens)?;
-    let (_, body, rest) = clause(alloc, Mark::OfWord(Word::WDo), rest)?;
-    let e = build_while(alloc, first, test, body)?;
-    Ok((e, rest))
+    let (first, test, rest) = boxed_clause(alloc, Mark::OfWord(Word::WWhile), tokens)?;
+    let (_, body, rest) = boxed_clause(alloc, Mark::OfWord(Word::WDo), rest)?;
+    Ok((build_while(first, test, body), rest))
 }
 
 #[cycle(descent)]
@@ -298,11 +309,10 @@ fn counting(alloc: Global, tokens: &[Spanned]) -> Reading<Exp>
     ensures shorter { IfOk result (λ x. length x.1.now < length tokens.now) }
 {
     let (first, variable, rest) = counter(tokens)?;
-    let (_, low, rest) = clause(alloc, Mark::OfSign(Sign::Assign), rest)?;
-    let (_, high, rest) = clause(alloc, Mark::OfWord(Word::WTo), rest)?;
-    let (_, body, rest) = clause(alloc, Mark::OfWord(Word::WDo), rest)?;
-    let e = build_for(alloc, first, variable, low, high, body)?;
-    Ok((e, rest))
+    let (_, low, rest) = boxed_clause(alloc, Mark::OfSign(Sign::Assign), rest)?;
+    let (_, high, rest) = boxed_clause(alloc, Mark::OfWord(Word::WTo), rest)?;
+    let (_, body, rest) = boxed_clause(alloc, Mark::OfWord(Word::WDo), rest)?;
+    Ok((build_for(first, variable, low, high, body), rest))
 }
 
 #[cycle(descent)]
@@ -349,14 +359,13 @@ fn indexing(alloc: Global, name: Ident, tokens: &[Spanned]) -> Reading<Exp>
         (indexing_steps name) tokens.now }
     ensures shorter { IfOk result (λ x. length x.1.now < length tokens.now) }
 {
-    let (inside, rest) = whole(alloc, tokens)?;
+    let (inside, rest) = boxed_whole(alloc, tokens)?;
     let (last, rest) = take(Mark::OfSign(Sign::RightBracket), rest)?;
     if let Some((_, after)) = skip(Mark::OfWord(Word::WOf), rest)? {
-        let (value, behind) = whole(alloc, after)?;
-        let e = build_array(alloc, name, inside, value)?;
-        return Ok((e, behind));
+        let (value, behind) = boxed_whole(alloc, after)?;
+        return Ok((build_array(name, inside, value), behind));
     }
-    let place = index(alloc, Var::Simple(name), inside)?;
+    let place = build_element(alloc, Var::Simple(name), inside)?;
     let (span, place, rest) = suffixes(alloc, join(name.span, last), place, rest)?;
     Ok((read(span, place), rest))
 }
@@ -380,9 +389,9 @@ fn suffixes(
         return suffixes(alloc, join(span, name.span), place, rest);
     }
     if let Some((_, after)) = skip(Mark::OfSign(Sign::LeftBracket), tokens)? {
-        let (inside, rest) = whole(alloc, after)?;
+        let (inside, rest) = boxed_whole(alloc, after)?;
         let (last, rest) = take(Mark::OfSign(Sign::RightBracket), rest)?;
-        let place = index(alloc, place, inside)?;
+        let place = build_element(alloc, place, inside)?;
         return suffixes(alloc, join(span, last), place, rest);
     }
     Ok((span, place, tokens))
@@ -397,6 +406,22 @@ fn clause(alloc: Global, mark: Mark, tokens: &[Spanned]) -> Result<(Span, Exp, &
 {
     let (span, rest) = take(mark, tokens)?;
     let (e, rest) = whole(alloc, rest)?;
+    Ok((span, e, rest))
+}
+
+/// A mark and the expression behind it, in a box.
+#[cycle(descent)]
+fn boxed_clause(
+    alloc: Global,
+    mark: Mark,
+    tokens: &[Spanned],
+) -> Result<(Span, Box<Exp>, &[Spanned]), Stop>
+    ensures given { BeginsTwo (λ x. x.0) (λ x. plain x.1.value) (λ x. x.2.now) result
+        (λ j f. want mark (λ s. call (At WholeLevel) (λ e. f s e))) tokens.now }
+    ensures shorter { IfOk result (λ x. length x.2.now < length tokens.now) }
+{
+    let (span, rest) = take(mark, tokens)?;
+    let (e, rest) = boxed_whole(alloc, rest)?;
     Ok((span, e, rest))
 }
 
@@ -431,8 +456,7 @@ fn items(alloc: Global, separator: Sign, first: Exp, tokens: &[Spanned]) -> Read
         (job (Items separator (exp (plain first) no_exps))) tokens.now }
     ensures shorter { IfOk result (λ x. length x.1.now ≤ length tokens.now) }
 {
-    let mut items = Vec::with_capacity(alloc, 1)?;
-    items.push(first)?;
+    let mut items = list_of_one(alloc, first)?;
     let mut rest = tokens;
     'items: loop {
         let Some((_, after)) = skip(Mark::OfSign(separator), rest)? else {
@@ -481,8 +505,7 @@ fn inits(alloc: Global, first: Init, tokens: &[Spanned]) -> Reading<Vec<Init>>
         (job (MoreInits (init first.field (plain first.value) no_inits))) tokens.now }
     ensures shorter { IfOk result (λ x. length x.1.now ≤ length tokens.now) }
 {
-    let mut inits = Vec::with_capacity(alloc, 1)?;
-    inits.push(first)?;
+    let mut inits = list_of_one(alloc, first)?;
     let mut rest = tokens;
     'inits: loop {
         let Some((_, after)) = skip(Mark::OfSign(Sign::Comma), rest)? else {

@@ -12,8 +12,8 @@ mod trees;
 
 pub use faults::LexRule;
 pub use making::{
-    assign, break_out, call, call_of_one, field, fill, for_to, if_else, if_then, index, int,
-    let_in, make, negate, nil, read, sequence, sequence_of_one, text, while_do,
+    assign, break_out, call, call_of_one, field, int, let_in, make, negate, nil, read, sequence,
+    sequence_of_one, text,
 };
 pub use measures::nodes;
 pub use programs::program_nodes;

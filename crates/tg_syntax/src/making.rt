@@ -8,15 +8,9 @@ ghost use Rattle.tg_syntax.specs.Tree.{
   Text as PlainText,
   Read as PlainRead,
   Make as PlainMake,
-  Fill as PlainFill,
   Assign as PlainAssign,
-  If as PlainIf,
-  When as PlainWhen,
-  While as PlainWhile,
-  For as PlainFor,
   Let as PlainLet,
   Field as PlainField,
-  Index as PlainIndex,
   Neg as PlainNeg,
   Seq as PlainSeq,
   Call as PlainCall,
@@ -138,18 +132,6 @@ pub fn make(span: Span, name: Ident, inits: Vec<Init>) -> Exp
     }
 }
 
-/// An array that is made.
-pub fn fill(alloc: Global, span: Span, name: Ident, size: Exp, value: Exp) -> Result<Exp, Memory>
-    ensures { IfOk result (λ e. plain e ≡ PlainFill span name (plain size) (plain value)) }
-{
-    let size = Box::new(alloc, size)?;
-    let value = Box::new(alloc, value)?;
-    Ok(Exp {
-        span,
-        kind: Kind::Fill(name, size, value),
-    })
-}
-
 /// An assignment.
 pub fn assign(alloc: Global, span: Span, place: Var, value: Exp) -> Result<Exp, Memory>
     ensures { IfOk result (λ e. plain e ≡ PlainAssign span (plain_place place) (plain value)) }
@@ -158,64 +140,6 @@ pub fn assign(alloc: Global, span: Span, place: Var, value: Exp) -> Result<Exp, 
     Ok(Exp {
         span,
         kind: Kind::Assign(place, value),
-    })
-}
-
-/// An `if` without `else`.
-pub fn if_then(alloc: Global, span: Span, test: Exp, this: Exp) -> Result<Exp, Memory>
-    ensures { IfOk result (λ e. plain e ≡ PlainWhen span (plain test) (plain this)) }
-{
-    let test = Box::new(alloc, test)?;
-    let this = Box::new(alloc, this)?;
-    Ok(Exp {
-        span,
-        kind: Kind::If(test, this, None),
-    })
-}
-
-/// An `if` with `else`.
-pub fn if_else(alloc: Global, span: Span, test: Exp, this: Exp, other: Exp) -> Result<Exp, Memory>
-    ensures { IfOk result (λ e. plain e ≡ PlainIf span (plain test) (plain this) (plain other)) }
-{
-    let test = Box::new(alloc, test)?;
-    let this = Box::new(alloc, this)?;
-    let other = Box::new(alloc, other)?;
-    Ok(Exp {
-        span,
-        kind: Kind::If(test, this, Some(other)),
-    })
-}
-
-/// A `while` loop.
-pub fn while_do(alloc: Global, span: Span, test: Exp, body: Exp) -> Result<Exp, Memory>
-    ensures { IfOk result (λ e. plain e ≡ PlainWhile span (plain test) (plain body)) }
-{
-    let test = Box::new(alloc, test)?;
-    let body = Box::new(alloc, body)?;
-    Ok(Exp {
-        span,
-        kind: Kind::While(test, body),
-    })
-}
-
-/// A `for` loop.
-pub fn for_to(
-    alloc: Global,
-    span: Span,
-    variable: Ident,
-    low: Exp,
-    high: Exp,
-    body: Exp,
-) -> Result<Exp, Memory>
-    ensures { IfOk result
-        (λ e. plain e ≡ PlainFor span variable (plain low) (plain high) (plain body)) }
-{
-    let low = Box::new(alloc, low)?;
-    let high = Box::new(alloc, high)?;
-    let body = Box::new(alloc, body)?;
-    Ok(Exp {
-        span,
-        kind: Kind::For(variable, low, high, body),
     })
 }
 
@@ -235,13 +159,4 @@ pub fn field(alloc: Global, of: Var, name: Ident) -> Result<Var, Memory>
 {
     let of = Box::new(alloc, of)?;
     Ok(Var::Field(of, name))
-}
-
-/// An element of an array.
-pub fn index(alloc: Global, of: Var, at: Exp) -> Result<Var, Memory>
-    ensures { IfOk result (λ v. plain_place v ≡ PlainIndex (plain_place of) (plain at)) }
-{
-    let of = Box::new(alloc, of)?;
-    let at = Box::new(alloc, at)?;
-    Ok(Var::Index(of, at))
 }

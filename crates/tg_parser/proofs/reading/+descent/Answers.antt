@@ -1,4 +1,4 @@
-use Rattle.std.proofs.Common.{arith, sym, ◌∙◌, ap}
+use Rattle.std.proofs.Common.{arith, refl, sym, ◌∙◌, ap}
 use Rattle.tg_syntax.specs.declared.tokens.Sign.TheVariants.{Comma, Semicolon, RightParen, Equal}
 use Rattle.tg_syntax.specs.declared.tokens.Word.TheVariants.{WEnd}
 use Rattle.tg_syntax.specs.Plain.{plain, plain_place}
@@ -8,7 +8,7 @@ use Rattle.tg_syntax.specs.Groups.{one_function}
 use Rattle.tg_syntax.specs.Grammar.{Whole, Disjunction, Comparison, Sum, Unary}
 use Rattle.tg_grammar.specs.declared.marks.Mark.TheVariants.{OfSign, OfWord}
 use Rattle.tg_grammar.specs.Steps.{Got, At, After, Suffix, Listed, Items, OneInit, ListedInits, MoreInits, VarDec, FunDec, MoreDecs, want, call, give}
-use Rattle.tg_grammar.specs.Reading.{give_got, call_got, below, last}
+use Rattle.tg_grammar.specs.Reading.{give_got, call_got, below, last, binary}
 use Rattle.tg_parser.specs.Given.{no_memory}
 use Rattle.tg_parser.specs.Ranks.{level_of}
 use Rattle.tg_parser.specs.Heads.{plain_of}
@@ -33,6 +33,12 @@ whole-returns-in-Other-clause-given t c = gives (then (call_leads (At Whole) (At
 pub whole-returns-in-LValue-clause-given : goal.whole-returns-in-LValue-clause-given
 whole-returns-in-LValue-clause-given t c = carry c.assignment.result _ _
     (then (call_leads (At Whole) (At Disjunction) c.in_ok-left.ensures.given) (same_leads (At Whole) c.in-LValue.ensures)) c.assignment.ensures.given
+
+pub boxed_whole-returns-in_err-e-clause-given : goal.boxed_whole-returns-in_err-e-clause-given
+boxed_whole-returns-in_err-e-clause-given t c = ended _ _ _ _ _ _ c.from_residual.ensures c.in_err-e.ensures.given
+
+pub boxed_whole-returns-in_err-expression-clause-given : goal.boxed_whole-returns-in_err-expression-clause-given
+boxed_whole-returns-in_err-expression-clause-given t c = ended _ _ _ _ _ _ c.from_residual-in_err-expression.ensures (no_memory (At Whole))
 
 pub assignment-returns-in_default-clause-given : goal.assignment-returns-in_default-clause-given
 assignment-returns-in_default-clause-given t c = got_is (At Whole) c.read.ensures
@@ -109,8 +115,9 @@ operators-returns-in_err-right-clause-given t c = ended _ _ _ _ _ _ c.from_resid
     (call_stops (After (level_of c.args.rank) (plain c.operators.left)) (At (below (level_of c.args.rank)))
     (level_refuses c.below.ensures c.in_err-right.ensures.given))))
 
-pub operators-returns-in_err-e-clause-given : goal.operators-returns-in_err-e-clause-given
-operators-returns-in_err-e-clause-given t c = ended _ _ _ _ _ _ c.from_residual-in_err-e.ensures (no_memory (After (level_of c.args.rank) (plain c.args.left)))
+pub operators-returns-in_err-first-clause-given : goal.operators-returns-in_err-first-clause-given
+operators-returns-in_err-first-clause-given t c =
+    ended _ _ _ _ _ _ c.from_residual-in_err-first.ensures (no_memory (After (level_of c.args.rank) (plain c.args.left)))
 
 pub operators-operators-init : goal.operators-operators-init
 operators-operators-init t c = record { onward = operators_first _ _ _; shorter = omega arith }
@@ -121,7 +128,9 @@ operators-operators-preserved t c =
       onward = operators_more c.operators.invariant.onward
           (then (some_operates _ _ _ _ c.in_ok-operator.ensures.given c.in-Some.is (After (level_of c.args.rank) (plain c.operators.left)) _ _)
           (call_leads (After (level_of c.args.rank) (plain c.operators.left)) (At (below (level_of c.args.rank)))
-          (level_does c.below.ensures c.in_ok-right.ensures.given))) c.in_ok-e.ensures;
+          (level_does c.below.ensures c.in_ok-right.ensures.given)))
+          (c.build_operation-left.ensures ∙ ap (λ l. binary c.in-Some.operator.op c.in-Some.operator.at (plain l) (plain c.in_ok-right.right.value))
+          c.in_ok-first.ensures.ok);
       shorter =
           omega (arith, if_some _ c.in_ok-operator.ensures.shorter c.in-Some.is, c.in_ok-right.ensures.shorter);
     }
@@ -145,13 +154,15 @@ comparison-returns-in_err-right-clause-given t c = λ start d. ended _ _ _ _ _ _
     (some_operates _ _ _ _ c.in_ok-operator.ensures.given c.in-Some.is (At Comparison) _ _)) (call_stops (At Comparison) (At Sum) c.in_err-right.ensures.given))
 
 pub comparison-returns-clause-given : goal.comparison-returns-clause-given
-comparison-returns-clause-given t c = λ start d. got_is (At Comparison) c.in_ok-e.ensures
+comparison-returns-clause-given t c = λ start d. got_is (At Comparison)
+    (c.build_operation-e.ensures ∙ ap (λ l. binary c.in-Some.operator.op c.in-Some.operator.at (plain l) (plain c.in_ok-right.right.value))
+    c.in_ok-left.ensures.ok)
     (gives (then (call_leads (At Comparison) (At Sum) (c.in_ok-first.ensures.given start d))
     (then (some_operates _ _ _ _ c.in_ok-operator.ensures.given c.in-Some.is (At Comparison) _ _)
     (call_leads (At Comparison) (At Sum) c.in_ok-right.ensures.given))))
 
-pub comparison-returns-in_err-e-clause-given : goal.comparison-returns-in_err-e-clause-given
-comparison-returns-in_err-e-clause-given t c = λ start d. ended _ _ _ _ _ _ c.from_residual-in_err-e.ensures (no_memory (At Comparison))
+pub comparison-returns-in_err-left-clause-given : goal.comparison-returns-in_err-left-clause-given
+comparison-returns-in_err-left-clause-given t c = λ start d. ended _ _ _ _ _ _ c.from_residual-in_err-left.ensures (no_memory (At Comparison))
 
 pub unary-returns-in_err-first-clause-given : goal.unary-returns-in_err-first-clause-given
 unary-returns-in_err-first-clause-given t c = ended _ _ _ _ _ _ c.from_residual.ensures (leaf_none (At Unary) c.in_err-first.ensures.first)
@@ -229,28 +240,25 @@ choosing-returns-in_err-this-clause-given t c = ended _ _ _ _ _ _ c.from_residua
 
 pub choosing-returns-in_err-goes_on-clause-given : goal.choosing-returns-in_err-goes_on-clause-given
 choosing-returns-in_err-goes_on-clause-given t c = ended _ _ _ _ _ _ c.from_residual-in_err-goes_on.ensures
-    (raise (then (c.in_ok-first.ensures.given (At Unary) _) (c.in_ok-this.ensures.given (At Unary) _)) (c.in_err-goes_on.ensures (At Unary) _ _))
-
-pub choosing-returns-in_err-e-clause-given : goal.choosing-returns-in_err-e-clause-given
-choosing-returns-in_err-e-clause-given t c = ended _ _ _ _ _ _ c.from_residual-in_err-e.ensures (no_memory (At Unary))
+    (raise (then (c.in_ok-first.ensures.given (At Unary) _) (c.in_ok-this.ensures.given (At Unary) _))
+    ((rw c.deref.ensures at c.in_err-goes_on.ensures) (At Unary) _ _))
 
 pub choosing-returns-then-not-goes_on-clause-given : goal.choosing-returns-then-not-goes_on-clause-given
-choosing-returns-then-not-goes_on-clause-given t c = got_is (At Unary) c.in_ok-e.ensures
+choosing-returns-then-not-goes_on-clause-given t c = got_is (At Unary) c.build_choice.ensures
     (gives (then (c.in_ok-first.ensures.given (At Unary) _) (then (c.in_ok-this.ensures.given (At Unary) _)
-    (elses_no c.in_ok-goes_on.goes_on _ c.in_ok-goes_on.ensures c.if-not-goes_on.true (At Unary) _ _))))
+    (elses_no c.in_ok-goes_on.goes_on _ (rw c.deref.ensures at c.in_ok-goes_on.ensures) c.if-not-goes_on.true (At Unary) _ _))))
 
 pub choosing-returns-in_err-other-clause-given : goal.choosing-returns-in_err-other-clause-given
 choosing-returns-in_err-other-clause-given t c = ended _ _ _ _ _ _ c.from_residual-in_err-other.ensures
     (raise (then (c.in_ok-first.ensures.given (At Unary) _) (then (c.in_ok-this.ensures.given (At Unary) _)
-    (elses_yes c.in_ok-goes_on.goes_on _ c.in_ok-goes_on.ensures c.if-not-goes_on.false (At Unary) _ _))) (c.in_err-other.ensures.given (At Unary) _))
-
-pub choosing-returns-in_err-e-2-clause-given : goal.choosing-returns-in_err-e-2-clause-given
-choosing-returns-in_err-e-2-clause-given t c = ended _ _ _ _ _ _ c.from_residual-in_err-e-2.ensures (no_memory (At Unary))
+    (elses_yes c.in_ok-goes_on.goes_on _ (rw c.deref.ensures at c.in_ok-goes_on.ensures) c.if-not-goes_on.false (At Unary) _ _)))
+    (c.in_err-other.ensures.given (At Unary) _))
 
 pub choosing-returns-clause-given : goal.choosing-returns-clause-given
-choosing-returns-clause-given t c = got_is (At Unary) c.in_ok-e-2.ensures
+choosing-returns-clause-given t c = got_is (At Unary) c.build_choice_of_two.ensures
     (gives (then (c.in_ok-first.ensures.given (At Unary) _) (then (c.in_ok-this.ensures.given (At Unary) _)
-    (then (elses_yes c.in_ok-goes_on.goes_on _ c.in_ok-goes_on.ensures c.if-not-goes_on.false (At Unary) _ _) (c.in_ok-other.ensures.given (At Unary) _)))))
+    (then (elses_yes c.in_ok-goes_on.goes_on _ (rw c.deref.ensures at c.in_ok-goes_on.ensures) c.if-not-goes_on.false (At Unary) _ _)
+    (c.in_ok-other.ensures.given (At Unary) _)))))
 
 pub looping-returns-in_err-first-clause-given : goal.looping-returns-in_err-first-clause-given
 looping-returns-in_err-first-clause-given t c = ended _ _ _ _ _ _ c.from_residual.ensures (c.in_err-first.ensures.given (At Unary) _)
@@ -259,11 +267,8 @@ pub looping-returns-in_err-body-clause-given : goal.looping-returns-in_err-body-
 looping-returns-in_err-body-clause-given t c = ended _ _ _ _ _ _ c.from_residual-in_err-body.ensures
     (raise (c.in_ok-first.ensures.given (At Unary) _) (c.in_err-body.ensures.given (At Unary) _))
 
-pub looping-returns-in_err-e-clause-given : goal.looping-returns-in_err-e-clause-given
-looping-returns-in_err-e-clause-given t c = ended _ _ _ _ _ _ c.from_residual-in_err-e.ensures (no_memory (At Unary))
-
 pub looping-returns-clause-given : goal.looping-returns-clause-given
-looping-returns-clause-given t c = got_is (At Unary) c.in_ok-e.ensures
+looping-returns-clause-given t c = got_is (At Unary) c.build_while.ensures
     (gives (then (c.in_ok-first.ensures.given (At Unary) _) (c.in_ok-body.ensures.given (At Unary) _)))
 
 pub counting-returns-in_err-first-clause-given : goal.counting-returns-in_err-first-clause-given
@@ -282,11 +287,8 @@ counting-returns-in_err-body-clause-given t c = ended _ _ _ _ _ _ c.from_residua
     (raise (then (c.in_ok-first.ensures.given (At Unary) _) (then (c.in_ok-low.ensures.given (At Unary) _) (c.in_ok-high.ensures.given (At Unary) _)))
     (c.in_err-body.ensures.given (At Unary) _))
 
-pub counting-returns-in_err-e-clause-given : goal.counting-returns-in_err-e-clause-given
-counting-returns-in_err-e-clause-given t c = ended _ _ _ _ _ _ c.from_residual-in_err-e.ensures (no_memory (At Unary))
-
 pub counting-returns-clause-given : goal.counting-returns-clause-given
-counting-returns-clause-given t c = got_is (At Unary) c.in_ok-e.ensures
+counting-returns-clause-given t c = got_is (At Unary) c.build_for.ensures
     (gives (then (c.in_ok-first.ensures.given (At Unary) _) (then (c.in_ok-low.ensures.given (At Unary) _)
     (then (c.in_ok-high.ensures.given (At Unary) _) (c.in_ok-body.ensures.given (At Unary) _)))))
 
@@ -393,7 +395,7 @@ indexing-returns-in_err-value-clause-given t c = ended _ _ _ _ _ _ c.from_residu
     (call_stops (At Unary) (At Whole) c.in_err-value.ensures.given))
 
 pub indexing-returns-in-Some-clause-given : goal.indexing-returns-in-Some-clause-given
-indexing-returns-in-Some-clause-given t c = got_is (At Unary) c.in_ok-e.ensures
+indexing-returns-in-Some-clause-given t c = got_is (At Unary) c.build_array.ensures
     (gives (then (call_leads (At Unary) (At Whole) c.in_ok-inside.ensures.given)
     (then (want_leads (At Unary) c.in_ok-last.ensures.given)
     (then (some_leads _ _ c.in_ok-after.ensures.given c.in-Some.is (At Unary) _ _) (call_leads (At Unary) (At Whole) c.in_ok-value.ensures.given)))))
@@ -410,9 +412,6 @@ indexing-returns-clause-given t c = got_is (At Unary) c.read.ensures
     (then (want_leads (At Unary) c.in_ok-last.ensures.given)
     (then (none_leads _ _ c.in_ok-after.ensures.given c.in_default.is (At Unary) _ _)
     (call_leads (At Unary) (Suffix _ _) (suffix_does c.join.ensures c.in_ok-place.ensures c.in_ok-span.ensures.given))))))
-
-pub indexing-returns-in_err-e-clause-given : goal.indexing-returns-in_err-e-clause-given
-indexing-returns-in_err-e-clause-given t c = ended _ _ _ _ _ _ c.from_residual-in_err-e.ensures (no_memory (At Unary))
 
 pub indexing-returns-in_err-place-clause-given : goal.indexing-returns-in_err-place-clause-given
 indexing-returns-in_err-place-clause-given t c = ended _ _ _ _ _ _ c.from_residual-in_err-place.ensures (no_memory (At Unary))
@@ -474,6 +473,17 @@ clause-returns-in_err-e-clause-given t c = two_ended _ _ _ c.from_residual-in_er
 
 pub clause-returns-clause-given : goal.clause-returns-clause-given
 clause-returns-clause-given t c = λ j f. then (want_leads j c.in_ok-span.ensures.given) (call_leads j (At Whole) c.in_ok-e.ensures.given)
+
+pub boxed_clause-returns-in_err-span-clause-given : goal.boxed_clause-returns-in_err-span-clause-given
+boxed_clause-returns-in_err-span-clause-given t c =
+    two_ended _ _ _ c.from_residual.result c.from_residual.ensures (λ j f. want_stops j c.in_err-span.ensures.given)
+
+pub boxed_clause-returns-in_err-e-clause-given : goal.boxed_clause-returns-in_err-e-clause-given
+boxed_clause-returns-in_err-e-clause-given t c = two_ended _ _ _ c.from_residual-in_err-e.result c.from_residual-in_err-e.ensures
+    (λ j f. want_then j c.in_ok-span.ensures.given (call_stops j (At Whole) c.in_err-e.ensures.given))
+
+pub boxed_clause-returns-clause-given : goal.boxed_clause-returns-clause-given
+boxed_clause-returns-clause-given t c = λ j f. then (want_leads j c.in_ok-span.ensures.given) (call_leads j (At Whole) c.in_ok-e.ensures.given)
 
 pub listed-returns-in-Some-clause-given : goal.listed-returns-in-Some-clause-given
 listed-returns-in-Some-clause-given t c = got_is (Listed c.args.separator c.args.close) (exps_none c.new.ensures.items)
@@ -577,17 +587,11 @@ items-returns-in_err-items-clause-given t c = ended _ _ _ _ _ _ c.from_residual.
 pub items-returns-in_err-push-clause-given : goal.items-returns-in_err-push-clause-given
 items-returns-in_err-push-clause-given t c = ended _ _ _ _ _ _ c.from_residual-in_err-push.ensures (no_memory (Items _ _))
 
-pub items-returns-in_err-push-2-clause-given : goal.items-returns-in_err-push-2-clause-given
-items-returns-in_err-push-2-clause-given t c = ended _ _ _ _ _ _ c.from_residual-in_err-push-2.ensures (no_memory (Items _ _))
-
 pub inits-returns-in_err-inits-clause-given : goal.inits-returns-in_err-inits-clause-given
 inits-returns-in_err-inits-clause-given t c = ended _ _ _ _ _ _ c.from_residual.ensures (no_memory (MoreInits _))
 
 pub inits-returns-in_err-push-clause-given : goal.inits-returns-in_err-push-clause-given
 inits-returns-in_err-push-clause-given t c = ended _ _ _ _ _ _ c.from_residual-in_err-push.ensures (no_memory (MoreInits _))
-
-pub inits-returns-in_err-push-2-clause-given : goal.inits-returns-in_err-push-2-clause-given
-inits-returns-in_err-push-2-clause-given t c = ended _ _ _ _ _ _ c.from_residual-in_err-push-2.ensures (no_memory (MoreInits _))
 
 pub one_init-returns-in_err-field-clause-given : goal.one_init-returns-in_err-field-clause-given
 one_init-returns-in_err-field-clause-given t c = ended _ _ _ _ _ _ c.from_residual.ensures (name_stops OneInit c.in_err-field.ensures.given)
@@ -648,25 +652,25 @@ with_function-returns-clause-given t c =
     (c.in_ok-body.ensures.given FunDec _)))) (same_leads j (ap f (sym c.in_ok-push_function.ensures)))
 
 pub items-items-init : goal.items-items-init
-items-items-init t c = record { onward = items_first _ _ _ _ (exps_one _ c.in_ok-items.ensures.items c.in_ok-push.ensures.items); shorter = omega arith }
+items-items-init t c = record { onward = items_first _ _ _ _ (exps_one _ refl c.in_ok-items.ensures); shorter = omega arith }
 
 pub items-items-preserved : goal.items-items-preserved
 items-items-preserved t c =
     record {
       onward = items_more c.items.invariant.onward (some_leads _ _ c.in_ok-after.ensures.given c.in-Some.is)
-          c.in_ok-e.ensures.given (ap exps_of c.in_ok-push-2.ensures.items ∙ exps_end _ _);
+          c.in_ok-e.ensures.given (ap exps_of c.in_ok-push.ensures.items ∙ exps_end _ _);
       shorter =
           omega (arith, if_some _ c.in_ok-after.ensures.shorter c.in-Some.is, c.in_ok-e.ensures.shorter);
     }
 
 pub inits-inits-init : goal.inits-inits-init
-inits-inits-init t c = record { onward = inits_first _ _ _ (inits_one _ c.in_ok-inits.ensures.items c.in_ok-push.ensures.items); shorter = omega arith }
+inits-inits-init t c = record { onward = inits_first _ _ _ (inits_one _ refl c.in_ok-inits.ensures); shorter = omega arith }
 
 pub inits-inits-preserved : goal.inits-inits-preserved
 inits-inits-preserved t c =
     record {
       onward = inits_more c.inits.invariant.onward (some_leads _ _ c.in_ok-after.ensures.given c.in-Some.is)
-          c.in_ok-init.ensures.given (ap inits_of c.in_ok-push-2.ensures.items ∙ inits_end _ _);
+          c.in_ok-init.ensures.given (ap inits_of c.in_ok-push.ensures.items ∙ inits_end _ _);
       shorter =
           omega (arith, if_some _ c.in_ok-after.ensures.shorter c.in-Some.is, c.in_ok-init.ensures.shorter);
     }
