@@ -94,15 +94,3 @@ same_grouping c k aliases members uses made p q r s = subst IsGrouping (sym same
   where
     same : record { aliases = aliases; members = members; uses = uses; made = made } ≡ c
     same = λ i. record { aliases = p i; members = q i; uses = r i; made = s i }
-
--- other marks of as many classes
-pub made_grouping : (c : Grouping) → IsGrouping c → (made : List Bool) → length made ≡ length c.made →
-    IsGrouping (record c { made = made })
-made_grouping c k made e = record {
-  members_sized = k.members_sized;
-  uses_sized = k.uses_sized;
-  made_sized = e ∙ k.made_sized;
-  aliases_below = k.aliases_below;
-  members_below = k.members_below;
-  few = k.few;
-}

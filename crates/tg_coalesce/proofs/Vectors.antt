@@ -1,7 +1,7 @@
 -- Vectors that are written, and folds over the numbers of a range.
-use Rattle.std.proofs.Common.{◌≡◌, ℕ, ◌+◌, ◌-◌, ◌≤◌, List, [], ◌∷◌, ◌++◌, length, take, drop, sym, ap, ◌∙◌, arith}
+use Rattle.std.proofs.Common.{◌≡◌, ℕ, ◌+◌, ◌-◌, ◌<◌, ◌≤◌, List, [], ◌∷◌, ◌++◌, length, map, get_or, take, drop, sym, ap, ◌∙◌, arith}
 use Rattle.std.specs.List.{range_with_len}
-use Rattle.std.proofs.lemmas.List.{map_push, take_at}
+use Rattle.std.proofs.lemmas.List.{map-append, map_push, take_at, take_more}
 use Rattle.std.proofs.lemmas.List.Sums.{fold_push}
 use Rattle.std.specs.Prelude.{fold}
 use Rattle.std.proofs.lemmas.List.FromFn.{map-range_with_len_more}
@@ -20,8 +20,13 @@ singletons_pushed vs v n e f =
     ∙ (ap (λ (ls : List (List ℕ)). ls ++ v.items ∷ []) e
     ∙ (ap (λ (l : List ℕ). singletons n ++ l ∷ []) f ∙ sym (map-range_with_len_more (λ x. x ∷ []) 0 n n (omega arith))))
 
+-- what was made of the first elements, and of the one behind them
+pub map_taken : {A B : Type 0} (f : A → B) (xs : List A) (i : ℕ) (x : A) → i < length xs →
+    map f (take i xs) ++ f (get_or xs i x) ∷ [] ≡ map f (take (i + 1) xs)
+map_taken f xs i x l = sym (ap (map f) (take_more xs i x l) ∙ map-append f (take i xs) (get_or xs i x ∷ []))
+
 -- all of a vector written through a slice
-pub all_written : (xs ys : List ℕ) (n : ℕ) → length ys ≡ n → take n (ys ++ drop (length ys) xs) ≡ ys
+pub all_written : {A : Type 0} (xs ys : List A) (n : ℕ) → length ys ≡ n → take n (ys ++ drop (length ys) xs) ≡ ys
 all_written xs ys n e = take_at ys (drop (length ys) xs) n e
 
 -- a fold over a range that begins anywhere, one number further

@@ -1,9 +1,10 @@
 -- Classes of nodes by the nodes under which they stand, and what is known of each class.
-use Rattle.std.specs.Prelude.{◌≡◌, ℕ, ◌<◌, ◌^◌, Bool, false, ◌&&◌, List, length, map, sum, All}
-use Rattle.std.specs.Prelude.{slice_index_or, slice_set}
+use Rattle.std.specs.Prelude.{◌≡◌, ℕ, ◌<◌, ◌^◌, Bool, false, List, length, map, sum, All}
+use Rattle.std.specs.Prelude.{slice_index_or}
 use Rattle.std.specs.List.{range_with_len}
 use Rattle.tg_rounds.specs.declared.candidates.Mark.{Mark}
-use Rattle.tg_coalesce.specs.Lists.{list_at, poured, moved_sum, singletons, set_at_all}
+use Rattle.tg_coalesce.specs.Lists.{list_at, poured, moved_sum, conjoined, singletons}
+use Rattle.tg_coalesce.specs.Lists.{set_at_all}
 
 -- the node under which each node's class stands; and for each class its members, the sum of their
 -- uses, and whether spilling has made all of them
@@ -31,7 +32,7 @@ joined kept gone c = record {
   aliases = set_at_all kept (list_at c.members gone) c.aliases;
   members = poured kept gone c.members;
   uses = moved_sum kept gone c.uses;
-  made = slice_set c.made kept (is_made c kept && is_made c gone);
+  made = conjoined kept gone c.made;
 }
 
 -- what is kept of each grouping: aliases and members are nodes, and no sum of uses is too large

@@ -1,5 +1,5 @@
 -- Lists of numbers, and lists of these, that are changed at one place.
-use Rattle.std.specs.Prelude.{ℕ, ◌+◌, ◌-◌, List, [], ◌∷◌, ◌++◌, map, fold}
+use Rattle.std.specs.Prelude.{ℕ, ◌+◌, ◌-◌, Bool, false, ◌&&◌, List, [], ◌∷◌, ◌++◌, map, fold}
 use Rattle.std.specs.Prelude.{slice_index, slice_index_or, slice_set}
 use Rattle.std.specs.List.{range_with_len}
 use Rattle.smallvec.specs.SmallVec.{SmallVec}
@@ -30,6 +30,11 @@ abbrev pub moved_sum : (to from : ℕ) → List ℕ → List ℕ
 moved_sum to from sums =
     let emptied = slice_set sums from 0 in
     slice_set emptied to (slice_index emptied to + slice_index sums from)
+
+-- at one place whether both hold
+abbrev pub conjoined : (to from : ℕ) → List Bool → List Bool
+conjoined to from list =
+    slice_set list to (slice_index_or list to false && slice_index_or list from false)
 
 -- one number more or less by 1
 abbrev pub raised : ℕ → List ℕ → List ℕ

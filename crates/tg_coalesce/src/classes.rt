@@ -14,7 +14,7 @@ ghost use Rattle.std.specs.Prelude.{
 ghost use Rattle.tg_coalesce.specs.Groupings.{apart, is_made, joined};
 ghost use Rattle.tg_coalesce.specs.Lists.{set_at_all};
 
-use crate::lists::{Numbers, move_sum, pour, singletons};
+use crate::lists::{Numbers, conjoin, move_sum, pour, singletons};
 use std::alloc::Global;
 use std::marker::Model;
 use tg_base::Memory;
@@ -54,9 +54,9 @@ impl Classes {
         let nodes = marks.len() as u32;
         Ok(Classes {
             aliases: numbers(alloc, nodes)?,
-            members: singletons(alloc, nodes)?,
             uses: uses_of(alloc, marks)?,
             made: made_of(alloc, marks)?,
+            members: singletons(alloc, nodes)?,
         })
     }
 
@@ -95,7 +95,7 @@ impl Classes {
         relabel(&mut self.aliases, &self.members[gone as usize], kept);
         pour(&mut self.members, kept, gone)?;
         move_sum(&mut self.uses, kept, gone);
-        self.made[kept as usize] = self.made[kept as usize] && self.made[gone as usize];
+        conjoin(&mut self.made, kept, gone);
         Ok(())
     }
 

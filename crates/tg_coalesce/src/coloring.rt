@@ -102,16 +102,34 @@ impl Coalescer {
         requires temporaries { All (λ x. colours ≤ x) self.stack }
         ensures { IfOk result (λ round. round ≡ answer_of self) }
     {
-        let selection = select(alloc, &self.graph, &self.stack)?;
-        let colours = colours_of(alloc, self.classes.aliases(), &selection.colours)?;
+        let (colours, spilled) = self.select(alloc)?;
+        Ok(self.into_round(colours, spilled))
+    }
+
+    /// The colour of each node, and the classes that found none.
+    fn select(&self, alloc: Global) -> Result<(Vec<Option<u8>>, Vec<u32>), Memory>
+        requires below { All (λ x. x < self.now.graph.nodes) self.now.stack }
+        requires temporaries { All (λ x. colours ≤ x) self.now.stack }
+        ensures colours { IfOk result (λ it. it.0.items ≡ (answer_of self.now).colours) }
+        ensures spilled { IfOk result (λ it. it.1.items ≡ (answer_of self.now).spilled) }
+    {
+        let classes = select(alloc, &self.graph, &self.stack)?;
+        let colours = colours_of(alloc, self.classes.aliases(), &classes.colours)?;
+        Ok((colours, classes.spilled))
+    }
+
+    fn into_round(self, colours: Vec<Option<u8>>, spilled: Vec<u32>) -> Round
+        ensures { result
+            ≡ record (answer_of self) { colours = colours.items; spilled = spilled.items } }
+    {
         let (moves, states) = self.moves.into_parts();
-        Ok(Round {
+        Round {
             moves: Moves::from_vec(moves),
             steps: Steps::from_vec(self.steps),
             states: States::from_vec(states),
             aliases: Nodes::from_vec(self.classes.into_aliases()),
             colours: Colours::from_vec(colours),
-            spilled: Nodes::from_vec(selection.spilled),
-        })
+            spilled: Nodes::from_vec(spilled),
+        }
     }
 }

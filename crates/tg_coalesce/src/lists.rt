@@ -17,7 +17,7 @@ ghost use Rattle.std.specs.Prelude.{
   sum,
 };
 ghost use Rattle.tg_coalesce.specs.Lists as lists_by;
-ghost use Rattle.tg_coalesce.specs.Lists.{list_at, numbers_in, poured, pushed};
+ghost use Rattle.tg_coalesce.specs.Lists.{conjoined, list_at, numbers_in, poured, pushed};
 
 use smallvec::SmallVec;
 use std::alloc::Global;
@@ -121,4 +121,13 @@ pub(crate) fn move_sum(sums: &mut [u32], to: u32, from: u32)
     let more = sums[from as usize];
     sums[from as usize] = 0;
     sums[to as usize] += more;
+}
+
+/// Makes one place tell whether both hold.
+pub(crate) fn conjoin(list: &mut [bool], to: u32, from: u32)
+    requires first { to < length list.old }
+    requires second { from < length list.old }
+    ensures { list.new ≡ conjoined to from list.old }
+{
+    list[to as usize] = list[to as usize] && list[from as usize];
 }

@@ -89,8 +89,8 @@ impl Coalescer {
     {
         let nodes = graph.nodes();
         let mut work = Coalescer {
-            lists: Worklists::new(alloc, nodes)?,
             degrees: degrees_of(alloc, &graph)?,
+            lists: Worklists::new(alloc, nodes)?,
             classes: Classes::new(alloc, marks)?,
             moves: MoveTable::new(alloc, moves, nodes)?,
             stack: Vec::new(alloc),

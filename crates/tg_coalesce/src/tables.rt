@@ -75,8 +75,8 @@ impl MoveTable {
             moves: Vec::from_slice(alloc, moves)?,
             states: MoveStates::new(alloc, moves.len())?,
             ready: VecDeque::from(numbers(alloc, moves.len() as u32)?),
-            touching: list_ends(alloc, moves, nodes)?,
             unsettled: count_ends(alloc, moves, nodes)?,
+            touching: list_ends(alloc, moves, nodes)?,
         })
     }
 

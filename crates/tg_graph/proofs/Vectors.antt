@@ -1,7 +1,7 @@
 -- Vectors of lists, where a function tells the list of each, and what a call gives by its result.
 use Rattle.std.specs.Prelude.{◌==◌}
 use Rattle.std.proofs.Common.{◌≡◌, ℕ, ◌-◌, ◌/◌, ◌%◌, ◌<◌, ◌||◌, ◌≤◌, true, false, List, [], ◌∷◌, ◌++◌, length, map, take, get_or, set, Vec, Result, Ok}
-use Rattle.std.proofs.Common.{Err, OnOk, OnErr, is_err, refl, sym, ap, ◌∙◌, arith}
+use Rattle.std.proofs.Common.{Err, OnErr, is_err, refl, sym, ap, ◌∙◌, arith}
 use Rattle.std.specs.declared.alloc.Global.{Global}
 use Rattle.std.proofs.lemmas.List.{map-set, get_or-map, get_or-set_same, set-get_or, set-set, length-map, length_push, take_at}
 use Rattle.tg_graph.specs.Bits.{bit, matrix_bit}
@@ -20,13 +20,6 @@ at_err (Ok x) e h = absurd (no e)
     no p = cc
 at_err (Err x) e h = h
 
-pub at_ok : {T E P : Type 0} (r : Result T E) → false ≡ is_err r → OnOk r P → P
-at_ok (Ok x) e h = h
-at_ok (Err x) e h = absurd (no e)
-  where
-    no : false ≡ true → ⊥
-    no p = cc
-
 -- the list at a place, by what was read there
 pub list_read : {V : Type 0} (f : V → List ℕ) (vs : List V) (i : ℕ) (w : V) → i < length vs → w ≡ get_or vs i w →
     get_or (map f vs) i [] ≡ f w
@@ -37,12 +30,6 @@ lists_sized f vs n e = sym (length-map vs f) ∙ e
 
 pub same_size : (vs ws : List (Vec ℕ Global)) → length vs ≡ length ws → length (lists_of vs) ≡ length (lists_of ws)
 same_size vs ws e = length-map vs (λ v. v.items) ∙ (e ∙ sym (length-map ws (λ v. v.items)))
-
--- as many vectors as lists were, before one of them had one more neighbour
-pub size_with : (vs : List (Vec ℕ Global)) (x y : ℕ) (lists : List (List ℕ)) →
-    lists_of vs ≡ with_neighbour x y lists →
-    length vs ≡ length lists
-size_with vs x y lists e = lists_sized items_of vs (length lists) (ap length e ∙ length_with x y lists)
 
 pub lists_set : {V : Type 0} (f : V → List ℕ) (vs : List V) (i : ℕ) (v : V) → map f (set vs i v) ≡ set (map f vs) i (f v)
 lists_set f vs i v = map-set f vs i v

@@ -23,7 +23,7 @@ ghost use Rattle.tg_graph.specs.Interference.{
   with_edge,
 };
 
-use crate::lists::{COLOURS, count_up, empty_lists, pop_neighbour, push_neighbour};
+use crate::lists::{COLOURS, count_up, empty_lists, push_neighbours};
 use crate::matrices::{has_pair, pair_place, reach_pair, set_pair, tiles_for};
 use std::alloc::Global;
 use std::marker::Model;
@@ -96,11 +96,7 @@ impl Graph {
         }
         let at = pair_place(a.min(b), a.max(b));
         reach_pair(&mut self.pairs, at)?;
-        push_neighbour(&mut self.adjacent, a, b)?;
-        if push_neighbour(&mut self.adjacent, b, a).is_err() {
-            pop_neighbour(&mut self.adjacent, a);
-            return Err(Memory);
-        }
+        push_neighbours(&mut self.adjacent, a, b)?;
         count_up(&mut self.degrees, a);
         count_up(&mut self.degrees, b);
         set_pair(&mut self.pairs, at);

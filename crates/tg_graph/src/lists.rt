@@ -53,13 +53,26 @@ pub fn numbers(alloc: Global, count: u32) -> Result<Vec<u32>, Memory>
     Ok(list)
 }
 
+/// Makes two nodes neighbours of each other. Where memory is short neither gets one.
+#[inline(always)]
+pub(crate) fn push_neighbours(lists: &mut Vec<Vec<u32>>, a: u32, b: u32) -> Result<(), Memory>
+    requires first { a < colours + length lists.old.items }
+    requires second { b < colours + length lists.old.items }
+    ensures ok { OnOk result (lists_of lists.new.items
+        ≡ with_neighbour b a (with_neighbour a b (lists_of lists.old.items))) }
+    ensures err { OnErr result (lists_of lists.new.items ≡ lists_of lists.old.items) }
+{
+    push_neighbour(lists, a, b)?;
+    if push_neighbour(lists, b, a).is_err() {
+        pop_neighbour(lists, a);
+        return Err(Memory);
+    }
+    Ok(())
+}
+
 /// Gives a node one more neighbour; a register keeps no list.
 #[inline(always)]
-pub(crate) fn push_neighbour(
-    lists: &mut Vec<Vec<u32>>,
-    node: u32,
-    neighbour: u32,
-) -> Result<(), Memory>
+fn push_neighbour(lists: &mut Vec<Vec<u32>>, node: u32, neighbour: u32) -> Result<(), Memory>
     requires { node < colours + length lists.old.items }
     ensures ok { OnOk result
         (lists_of lists.new.items ≡ with_neighbour node neighbour (lists_of lists.old.items)) }
@@ -97,7 +110,7 @@ fn take_room(list: &mut Vec<u32>) -> Result<(), Memory>
 }
 
 /// Takes the last neighbour of a node away again.
-pub(crate) fn pop_neighbour(lists: &mut Vec<Vec<u32>>, node: u32)
+fn pop_neighbour(lists: &mut Vec<Vec<u32>>, node: u32)
     requires { node < colours + length lists.old.items }
     ensures { (before : List (List ℕ)) (y : ℕ) →
         lists_of lists.old.items ≡ with_neighbour node y before →

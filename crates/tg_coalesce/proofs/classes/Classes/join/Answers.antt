@@ -2,10 +2,10 @@ use Rattle.std.proofs.Common.{◌≡◌, ℕ, List, ◌++◌, length, take, drop
 use Rattle.std.proofs.lemmas.List.{length-set}
 use Rattle.tg_coalesce.specs.Lists.{numbers_in}
 use Rattle.tg_graph.proofs.Vectors.{list_read, lists_sized}
-use Rattle.tg_coalesce.specs.Groupings.{Grouping, joined}
-use Rattle.tg_coalesce.specs.Lists.{list_at, moved_sum, set_at_all}
+use Rattle.tg_coalesce.specs.Groupings.{Grouping}
+use Rattle.tg_coalesce.specs.Lists.{conjoined, list_at, moved_sum, set_at_all}
 use Rattle.tg_coalesce.specs.ShownClasses.{grouping_of}
-use Rattle.tg_coalesce.proofs.Classing.{joined_grouping, made_grouping, relabelled_grouping, same_grouping}
+use Rattle.tg_coalesce.proofs.Classing.{joined_grouping, relabelled_grouping, same_grouping}
 use Rattle.tg_coalesce.proofs.Listing.{length_moved_sum, length_set_at_all}
 use Rattle.tg_coalesce.proofs.Vectors.{items_of, all_written}
 use Rattle.tg_coalesce.proofs.classes.Classes.join.Goals as goal
@@ -63,11 +63,12 @@ invariant_of-self-2 c =
     let now = joined_grouping g c.self.invariant c.args.kept c.args.gone (omega (arith, size, c.requires.kept))
     (omega (arith, size, c.requires.gone)) in
     let made = i.made.items in
-    same_grouping _
-    (made_grouping (joined c.args.kept c.args.gone g) now _
-    (length-set made c.args.kept c.if-index.value ∙ sym (length-set made c.args.kept _)))
-    _ _ _ _
+    let met = c.conjoin.ensures ∙ ap (conjoined c.args.kept c.args.gone) c.deref_mut-3.ensures.value in
+    let made_long : length c.conjoin.new.list ≡ i.made.len =
+    ap length met ∙ (length-set made c.args.kept _ ∙ sym i.made.ok.0) in
+    same_grouping _ now _ _ _ _
     (aliases_written (goal.at.invariant_of-self-2 c).After-relabel
     ∙ ap (λ (xs : List ℕ). set_at_all c.args.kept xs i.aliases.items) (sym read))
     c.in_ok-pour.ensures.ok
-    (all_written i.uses.items c.move_sum.new.sums i.uses.len as_long ∙ summed) refl
+    (all_written i.uses.items c.move_sum.new.sums i.uses.len as_long ∙ summed)
+    (all_written made c.conjoin.new.list i.made.len made_long ∙ met)

@@ -3,12 +3,12 @@ use Rattle.std.proofs.Common.{◌≡◌, ℕ, ◌+◌, ◌-◌, ◌<◌, ◌/◌
 use Rattle.std.proofs.lemmas.List.{with_items_is}
 use Rattle.std.specs.Vec.{with_items}
 use Rattle.tg_graph.specs.Bits.{area, matrix_bit, pair_place, tiles_for}
-use Rattle.tg_graph.specs.Interference.{Interference, interferes, are_ends, with_neighbour, most_nodes}
+use Rattle.tg_graph.specs.Interference.{Interference, interferes, are_ends, most_nodes}
 use Rattle.tg_graph.specs.Keeping.{IsKept, lists_of, counted_up}
 use Rattle.tg_graph.proofs.Places.{place_at, tile_within}
 use Rattle.tg_graph.proofs.Changes.{counted_few, length_counted}
 use Rattle.tg_graph.proofs.Joining.{CanJoin, can_join, ends_interfere, few_counted, graph_of, joined, kept_at, kept_joined, kept_reached, interferes_joined}
-use Rattle.tg_graph.proofs.Vectors.{items_of, at_err, at_ok, lists_sized, same_size, size_with}
+use Rattle.tg_graph.proofs.Vectors.{items_of, lists_sized, same_size}
 use Rattle.tg_graph.proofs.graphs.Graph.add_edge.Goals as goal
 
 pub returns-then-interferes-clause-pairs : goal.returns-then-interferes-clause-pairs
@@ -29,39 +29,9 @@ invariant_of-self c =
     (same_size c.reach_pair.new.tiles.items c.self.inside.pairs.items c.in_err-reach_pair.ensures.size)
     c.in_err-reach_pair.ensures.bits
 
-pub invariant_of-self-in_err-push_neighbour : goal.invariant_of-self-in_err-push_neighbour
-invariant_of-self-in_err-push_neighbour c =
-    kept_at c.self.inside.nodes _ _ _ _ _ _ (sym c.in_err-push_neighbour.ensures.err) refl refl
-    (kept_reached _ _ _ _ c.self.invariant
-    (same_size c.reach_pair.new.tiles.items c.self.inside.pairs.items c.in_ok-reach_pair.ensures.size)
-    c.in_ok-reach_pair.ensures.bits)
-
-pub push_neighbour-requires-2 : goal.push_neighbour-requires-2
-push_neighbour-requires-2 c =
-    let nodes : c.self.inside.nodes ≡ c.args.self.now.nodes = ap (λ (h : Interference). h.nodes) c.self.view_is in
-    let size : length c.push_neighbour.new.lists.items ≡ c.self.inside.nodes - 25 =
-    size_with c.push_neighbour.new.lists.items c.args.a c.args.b (lists_of c.self.inside.adjacent.items)
-    c.in_ok-push_neighbour.ensures.ok ∙ c.self.invariant.graph.sized in
-    omega (arith, nodes, size, c.requires.second, c.self.invariant.some)
-
-pub pop_neighbour-requires : goal.pop_neighbour-requires
-pop_neighbour-requires c =
-    let nodes : c.self.inside.nodes ≡ c.args.self.now.nodes = ap (λ (h : Interference). h.nodes) c.self.view_is in
-    let failed : lists_of c.push_neighbour-2.new.lists.items ≡ lists_of c.push_neighbour.new.lists.items =
-    at_err c.push_neighbour-2.result c.if-is_err.ensures.value c.push_neighbour-2.ensures.err in
-    let size : length c.push_neighbour-2.new.lists.items ≡ c.self.inside.nodes - 25 =
-    size_with c.push_neighbour-2.new.lists.items c.args.a c.args.b (lists_of c.self.inside.adjacent.items)
-    (failed ∙ c.in_ok-push_neighbour.ensures.ok) ∙ c.self.invariant.graph.sized in
-    omega (arith, nodes, size, c.requires.first, c.self.invariant.some)
-
-pub invariant_of-self-then-is_err : goal.invariant_of-self-then-is_err
-invariant_of-self-then-is_err c =
-    let failed : lists_of c.push_neighbour-2.new.lists.items ≡ lists_of c.push_neighbour.new.lists.items =
-    at_err c.push_neighbour-2.result c.if-is_err.ensures.value c.push_neighbour-2.ensures.err in
-    let back : lists_of c.pop_neighbour.new.lists.items ≡ lists_of c.self.inside.adjacent.items =
-    c.pop_neighbour.ensures (lists_of c.self.inside.adjacent.items) c.args.b (failed
-    ∙ c.in_ok-push_neighbour.ensures.ok) in
-    kept_at c.self.inside.nodes _ _ _ _ _ _ (sym back) refl refl
+pub invariant_of-self-in_err-push_neighbours : goal.invariant_of-self-in_err-push_neighbours
+invariant_of-self-in_err-push_neighbours c =
+    kept_at c.self.inside.nodes _ _ _ _ _ _ (sym c.in_err-push_neighbours.ensures.err) refl refl
     (kept_reached _ _ _ _ c.self.invariant
     (same_size c.reach_pair.new.tiles.items c.self.inside.pairs.items c.in_ok-reach_pair.ensures.size)
     c.in_ok-reach_pair.ensures.bits)
@@ -135,9 +105,7 @@ invariant_of-self-2 c =
     let twice_size : length c.count_up-2.new.degrees ≡ degrees.len =
     ap length twice ∙ (length_counted b (counted_up a degrees.items)
     ∙ (length_counted a degrees.items ∙ sym degrees.ok.0)) in
-    let lists : lists_of c.push_neighbour-2.new.lists.items ≡ (joined g a b).adjacent =
-    at_ok c.push_neighbour-2.result c.if-is_err.ensures.value c.push_neighbour-2.ensures.ok
-    ∙ ap (λ (ls : List (List ℕ)). with_neighbour b a ls) c.in_ok-push_neighbour.ensures.ok in
+    let lists : lists_of c.push_neighbours.new.lists.items ≡ (joined g a b).adjacent = c.in_ok-push_neighbours.ensures.ok in
     kept_at c.self.inside.nodes _ _ _ _ _ _ (sym lists) refl
     (sym twice ∙ sym (with_items_is
     (with_items degrees c.count_up.new.degrees) c.count_up-2.new.degrees twice_size))
@@ -153,8 +121,6 @@ returns-clause-pairs c = λ x y.
     can_join g c.args.self.now (lists_of c.self.inside.pairs.items) c.self.inside.degrees.items a b c.self.invariant
     c.self.view_is c.requires.first c.requires.second c.requires.differ
     (sym c.interferes.ensures ∙ c.if-interferes.false) in
-    let lists : lists_of c.push_neighbour-2.new.lists.items ≡ (joined g a b).adjacent =
-    at_ok c.push_neighbour-2.result c.if-is_err.ensures.value c.push_neighbour-2.ensures.ok
-    ∙ ap (λ (ls : List (List ℕ)). with_neighbour b a ls) c.in_ok-push_neighbour.ensures.ok in
+    let lists : lists_of c.push_neighbours.new.lists.items ≡ (joined g a b).adjacent = c.in_ok-push_neighbours.ensures.ok in
     ap (λ (ls : List (List ℕ)). interferes (graph_of c.self.inside.nodes ls) x y) lists
     ∙ (interferes_joined g a b x y can ∙ ap (λ (h : Interference). are_ends a b x y || interferes h x y) c.self.view_is)

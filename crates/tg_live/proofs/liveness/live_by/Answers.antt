@@ -1,26 +1,23 @@
-use Rattle.std.proofs.Common.{◌≡◌, ◌<◌, ◌+◌, ℕ, suc, not, nat_eq, ◌&&◌, List, length, sym, ap, ◌∙◌, subst, arith}
-use Rattle.tg_instr.specs.declared.instr.Instr.{Instr}
+use Rattle.std.proofs.Common.{◌≡◌, ◌<◌, ◌+◌, ℕ, suc, not, nat_eq, ◌&&◌, length, sym, ap, ◌∙◌, subst, arith}
 use Rattle.tg_instr.specs.declared.operands.Opnd.{Opnd}
-use Rattle.tg_live.specs.Flow.{flow_of}
-use Rattle.tg_live.specs.Live.{Sets, AreLiveSets}
+use Rattle.tg_live.specs.Live.{AreLiveSets}
 use Rattle.tg_live.specs.Tables.{row}
 use Rattle.std.specs.List.{list_any}
 use Rattle.tg_live.specs.Search.{has_stamp, has_stamp_before, IsSearched}
 use Rattle.tg_live.specs.LiveChanges.{ends_in, sets_of}
 use Rattle.tg_live.proofs.Noted.{grown}
 use Rattle.tg_live.proofs.Turned.{table_of_flow}
-use Rattle.tg_live.proofs.Gathered.{AreGathered, gathered_all}
+use Rattle.tg_live.proofs.Gathered.{gathered_all}
 use Rattle.tg_live.proofs.Collected.{collected_from, collected_more, found_within, row_fresh, stamp_fresh}
-use Rattle.tg_live.proofs.liveness.live.Goals as goal
+use Rattle.tg_live.proofs.liveness.live_by.Goals as goal
 
 pub operand_of-one-requires : goal.operand_of-one-requires
-operand_of-one-requires c = omega (arith, c.loop-number-test.true, c.len-number-end.ensures, c.in_ok-sites.ensures.size)
+operand_of-one-requires c = omega (arith, c.loop-number-test.true, c.len-number-end.ensures, c.requires.size)
 
 pub run-requires-clause-before : goal.run-requires-clause-before
 run-requires-clause-before c =
-    table_of_flow c.as_slice-list.result.now c.before-in-loop-number.result.now
-    (sym c.before-in-loop-number.ensures
-    ∙ (c.requires ∙ ap (λ (l : List Instr). flow_of l) (sym c.as_slice-list.ensures)))
+    table_of_flow c.args.list.now c.before-in-loop-number.result.now
+    (sym c.before-in-loop-number.ensures ∙ c.requires.flow)
 
 pub run-requires-clause-size : goal.run-requires-clause-size
 run-requires-clause-size c = c.loop-number.invariant.sized
@@ -31,7 +28,7 @@ run-requires-clause-fresh c =
 
 pub add-requires-clause-within : goal.add-requires-clause-within
 add-requires-clause-within c =
-    found_within c.as_slice-list.result.now c.operand_of-one.result (c.loop-number.number + 1)
+    found_within c.args.list.now c.operand_of-one.result (c.loop-number.number + 1)
     c.loop-number.search.marks c.run.new.self c.in_ok-run.ensures c.loop-number.invariant.sized
 
 pub add-requires-clause-sized_comes : goal.add-requires-clause-sized_comes
@@ -54,12 +51,12 @@ add-requires-clause-fresh_goes c = λ q.
 
 pub loop-number-init : goal.loop-number-init
 loop-number-init c =
-    collected_from c.as_slice-list.result.now _ _ _ c.in_ok-search.ensures c.in_ok-changes.ensures.comes
+    collected_from c.args.list.now _ _ _ c.in_ok-search.ensures c.in_ok-changes.ensures.comes
     c.in_ok-changes.ensures.goes
 
 pub loop-number-preserved : goal.loop-number-preserved
 loop-number-preserved c =
-    let list = c.as_slice-list.result.now in
+    let list = c.args.list.now in
     let n = c.loop-number.number in
     let marks = c.loop-number.search.marks in
     let f = c.run.new.self in
@@ -77,14 +74,10 @@ loop-number-preserved c =
 
 pub returns : goal.returns
 returns c =
-    let code = c.args.code.now in
+    let list = c.args.list.now in
     let n = c.loop-number.number in
     let sets = sets_of c.loop-number.changes.comes c.loop-number.changes.goes in
-    let sites = c.in_ok-sites.sites in
-    let P : List Instr → Type 0 = λ all. AreGathered all n sets in
-    let Q : Sets → Type 0 = λ s. AreLiveSets code.list s in
-    let e : n ≡ length sites =
+    let e : n ≡ length c.args.sites.now =
     omega (arith, c.loop-number-test.false, c.loop-number.auto.number-end, c.len-number-end.ensures) in
-    subst Q (sym c.new-3.ensures)
-    (gathered_all code.list n sets sites (subst P c.as_slice-list.ensures c.loop-number.invariant.gathered)
-    c.in_ok-sites.ensures.sites e)
+    subst (AreLiveSets list) (sym c.new-3.ensures)
+    (gathered_all list n sets c.args.sites.now c.loop-number.invariant.gathered c.requires.sites e)
