@@ -14,13 +14,15 @@ ghost use Rattle.std.specs.Prelude.{
   nat_lt,
   slice_index_or,
 };
+ghost use Rattle.tg_interference.specs.Nodes.{most_temps};
+ghost use Rattle.tg_interference.specs.Pairs.{IsInterference};
 ghost use Rattle.tg_spill.specs.Rewriting.{slot_by, slotted};
 ghost use Rattle.tg_spill.specs.Rounds.{IsOfTemps, IsRoundOf, CodeIsNumbered, stage_of};
 
 use std::alloc::Global;
 use tg_base::Memory;
 use tg_coalesce::color;
-use tg_graph::COLOURS;
+use tg_graph::{COLOURS, Graph};
 use tg_instr::Code;
 use tg_interference::{interference, marks_of, moves_of};
 use tg_live::{flow, live};
@@ -58,12 +60,20 @@ pub fn color_code(
 {
     check_size(code)?;
     rounds_are_of_nodes();
-    let flow = flow(alloc, code)?;
-    let live = live(alloc, code, &flow)?;
-    let graph = interference(alloc, code, &live)?;
     let moves = moves_of(alloc, code)?;
     let marks = marks_of(alloc, code, originals)?;
+    let graph = build_graph(alloc, code)?;
     color(alloc, graph, moves.as_slice(), marks.as_slice(), policy)
+}
+
+/// The interference graph of a code (Appel, chapter 11: `Build`).
+fn build_graph(alloc: Global, code: &Code) -> Result<Graph, Memory>
+    requires { code.now.temps ≤ most_temps }
+    ensures { IfOk result (λ graph. IsInterference code.now.list code.now.temps graph) }
+{
+    let flow = flow(alloc, code)?;
+    let live = live(alloc, code, &flow)?;
+    interference(alloc, code, &live)
 }
 
 /// The spilled classes that hold an original, by the nodes under which they stand.
