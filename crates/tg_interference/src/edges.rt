@@ -5,6 +5,7 @@ ghost use Rattle.std.specs.Prelude.{
   ◌+◌,
   ◌-◌,
   ◌==◌,
+  ◌^◌,
   ◌||◌,
   ℕ,
   length,
@@ -17,7 +18,7 @@ ghost use Rattle.tg_instr.specs.Codes.{has_temps_below, is_below};
 ghost use Rattle.tg_instr.specs.Operands.{is_same};
 ghost use Rattle.tg_instr.specs.Shapes.{shape};
 ghost use Rattle.tg_instr.specs.Uses.{defs_of};
-ghost use Rattle.tg_graph.specs.Interference.{colours, most_nodes, interferes};
+ghost use Rattle.tg_graph.specs.Interference.{bare, colours, most_nodes, interferes};
 ghost use Rattle.tg_live.specs.Live.{AreLiveSets};
 ghost use Rattle.tg_interference.specs.Nodes.{most_temps, operand_at};
 ghost use Rattle.tg_interference.specs.Moves.{move_of};
@@ -42,22 +43,35 @@ pub fn interference(alloc: Global, code: &Code, live: &LiveSets) -> Result<Graph
     requires few { code.now.temps ≤ most_temps }
     ensures { IfOk result (λ graph. IsInterference code.now.list code.now.temps graph) }
 {
-    let list = code.list.as_slice();
-    if list.len() > u32::MAX as usize {
+    if code.list.as_slice().len() > u32::MAX as usize {
         return Err(Memory);
     }
+    let mut graph = Graph::new(alloc, COLOURS + code.temps)?;
+    join_all(alloc, code, live, &mut graph)?;
+    Ok(graph)
+}
+
+// Joins what each instruction defines to what is live out of it, in a graph of the registers' edges
+// alone.
+fn join_all(alloc: Global, code: &Code, live: &LiveSets, graph: &mut Graph) -> Result<(), Memory>
+    requires live { AreLiveSets code.now.list live.now }
+    requires few { code.now.temps ≤ most_temps }
+    requires short { length code.now.list < 2 ^ 32 }
+    requires bare { graph.old ≡ bare (25 + code.now.temps) }
+    ensures { OnOk result (IsInterference code.now.list code.now.temps graph.new) }
+{
+    let list = code.list.as_slice();
     registers_interfere();
     let nodes = COLOURS + code.temps;
-    let mut graph = Graph::new(alloc, nodes)?;
     let mut marks = vec![in alloc; false; nodes as usize]?;
     let crossed = marks.as_mut_slice();
     let mut behind = Vec::new(alloc);
     for at in 0..list.len() {
         live.advance(at as u32, &mut behind)?;
         let lives = behind.as_slice();
-        join_behind(alloc, &list[at], lives, crossed, &mut graph)?;
+        join_behind(alloc, &list[at], lives, crossed, graph)?;
     }
-    Ok(graph)
+    Ok(())
 }
 
 // Joins what an instruction defines to what is live out of it. All calls define the same registers,

@@ -5,7 +5,7 @@ ghost use Rattle.tg_spill.specs.Allocations.{HasFrame, IsAllocation};
 ghost use Rattle.tg_spill.specs.Conditions.{is_fixed};
 ghost use Rattle.tg_spill.specs.InFrame.{code_in_frame, homes_from};
 
-use crate::allocations::{Allocation, Rounds};
+use crate::allocations::Allocation;
 use crate::frames::in_frame;
 use crate::progress::Progress;
 use crate::stages::{color_code, slotted};
@@ -75,9 +75,5 @@ fn all_in_frame(
     ensures registers { IfOk result
         (λ a. IsTrue (list_all (names_registers is_allocated) a.done.code.list)) }
 {
-    let mut rounds = rounds;
-    rounds.push(round)?;
-    let mut allocation = in_frame(alloc, code, frame)?;
-    allocation.rounds = Rounds::from_vec(rounds);
-    Ok(allocation)
+    in_frame(alloc, code, frame)?.behind(rounds, round)
 }

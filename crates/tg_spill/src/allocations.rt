@@ -1,4 +1,6 @@
-use tg_base::ListOf;
+ghost use Rattle.std.specs.Prelude.{◌≡◌, ◌++◌, ◌∷◌, [], IfOk};
+
+use tg_base::{ListOf, Memory};
 use tg_instr::Allocated;
 use tg_rounds::Round;
 
@@ -26,4 +28,17 @@ pub struct Allocation {
     pub rounds: Rounds,
     pub all_in_frame: bool,
     pub slots: u32,
+}
+
+impl Allocation {
+    /// The same, behind these rounds and a last one.
+    pub(crate) fn behind(self, rounds: Vec<Round>, last: Round) -> Result<Allocation, Memory>
+        ensures { IfOk result (λ a. a ≡ record self { rounds = rounds.items ++ last ∷ [] }) }
+    {
+        let mut rounds = rounds;
+        rounds.push(last)?;
+        let mut allocation = self;
+        allocation.rounds = Rounds::from_vec(rounds);
+        Ok(allocation)
+    }
 }

@@ -126,14 +126,31 @@ impl Progress {
         ensures registers { IfOk result
             (λ a. IsTrue (list_all (names_registers is_allocated) a.done.code.list)) }
     {
+        self.colour(alloc, frame, &round)?.behind(rounds, round)
+    }
+
+    /// The code in the colours of a round, with no rounds behind it.
+    fn colour(&self, alloc: Global, frame: Frame, round: &Round) -> Result<Allocation, Memory>
+        requires homes { length self.now.homes.items ≤ self.now.code.temps }
+        requires nodes { IsOfTemps self.now.code.temps round.now }
+        requires slots { frame.slots ≤ self.now.slots }
+        ensures list { IfOk result (λ a.
+            a.done.code.list ≡ code_painted (colour_of round.now) self.now.code.list) }
+        ensures homes { IfOk result (λ a. a.registers ≡
+            map (λ t. home_in (slot_in self.now.homes.items t) (colour_of round.now t))
+            (range_with_len 0 (length self.now.homes.items))) }
+        ensures frame { IfOk result (λ a. HasFrame frame a) }
+        ensures slots { IfOk result (λ a. self.now.slots ≡ frame.slots + a.slots) }
+        ensures coloured { IfOk result (λ a. IsFalse a.all_in_frame) }
+        ensures registers { IfOk result
+            (λ a. IsTrue (list_all (names_registers is_allocated) a.done.code.list)) }
+    {
         let colours = &round.colours.as_slice()[COLOURS as usize..];
         let list = paint(alloc, self.code.list.as_slice(), colours)?;
         let registers = homes_of(alloc, &self.homes, colours)?;
         let slots = self.slots - frame.slots;
         let mut frame = frame;
         frame.slots = self.slots;
-        let mut rounds = rounds;
-        rounds.push(round)?;
         Ok(Allocation {
             done: Allocated {
                 frame,
@@ -143,7 +160,7 @@ impl Progress {
                 },
             },
             registers,
-            rounds: Rounds::from_vec(rounds),
+            rounds: Rounds::from_vec(Vec::new(alloc)),
             all_in_frame: false,
             slots,
         })

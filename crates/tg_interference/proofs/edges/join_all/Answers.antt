@@ -11,7 +11,7 @@ use Rattle.tg_interference.specs.Crossing.{HaveCrossed}
 use Rattle.tg_interference.proofs.Marking.{none_crossed}
 use Rattle.tg_graph.specs.Interference.{Interference, interferes}
 use Rattle.tg_interference.proofs.Interfering.{are_registers, joined_below, joined_step, interference_of}
-use Rattle.tg_interference.proofs.edges.interference.Goals as goal
+use Rattle.tg_interference.proofs.edges.join_all.Goals as goal
 
 pub advance-requires-clause-at : goal.advance-requires-clause-at
 advance-requires-clause-at c =
@@ -46,13 +46,13 @@ loop-at-init c =
     c.in_ok-marks.ensures.items_if_clones_equal (λ y h. search rules) in
     let all = c.as_mut_slice-crossed.ensures.value ∙ none in
     record {
-      nodes = ap (λ (g : Interference). g.nodes) c.in_ok-graph.ensures;
-      pairs = λ x y. ap (λ (g : Interference). interferes g x y) c.in_ok-graph.ensures
+      nodes = ap (λ (g : Interference). g.nodes) c.requires.bare;
+      pairs = λ x y. ap (λ (g : Interference). interferes g x y) c.requires.bare
           ∙ c.registers_interfere.ensures n x y;
       behind = c.new-behind.ensures.items;
       sized = ap (λ (marks : List Bool). length marks) all ∙ length-replicate n false;
-      crossed = subst (λ (marks : List Bool). HaveCrossed marks c.in_ok-graph.graph) (sym all)
-          (none_crossed n c.in_ok-graph.graph);
+      crossed = subst (λ (marks : List Bool). HaveCrossed marks c.args.graph.now) (sym all)
+          (none_crossed n c.args.graph.now);
     }
 
 pub loop-at-preserved : goal.loop-at-preserved

@@ -8,25 +8,25 @@ use Rattle.tg_spill.proofs.Replacing.{same_differing, marks_stand, still_ends}
 use Rattle.tg_spill.proofs.Painted.{are_painted}
 use Rattle.tg_spill.proofs.PaintedNames.{names_allocated, names_alone, slots_stay, painted_behind, homes_behind}
 use Rattle.tg_spill.proofs.Registers.{alone_below}
-use Rattle.tg_spill.proofs.progress.Progress.finish.Goals as goal
+use Rattle.tg_spill.proofs.progress.Progress.colour.Goals as goal
 
 pub returns-clause-list : goal.returns-clause-list
 returns-clause-list c =
     c.from_vec.ensures
-    ∙ (c.in_ok-list.ensures ∙ painted_behind c.args.round c.as_slice.result.now c.args.self.code.list c.as_slice-2.result.now
+    ∙ (c.in_ok-list.ensures ∙ painted_behind c.args.round.now c.as_slice.result.now c.args.self.now.code.list c.as_slice-2.result.now
     c.as_slice.ensures c.as_slice-2.ensures)
 
 pub returns-clause-homes : goal.returns-clause-homes
 returns-clause-homes c =
     c.in_ok-registers.ensures
-    ∙ homes_behind c.args.round c.as_slice.result.now c.args.self.homes.items c.deref.result.now c.as_slice.ensures c.deref.ensures.value
+    ∙ homes_behind c.args.round.now c.as_slice.result.now c.args.self.now.homes.items c.deref.result.now c.as_slice.ensures c.deref.ensures.value
 
 pub invariant_of-result : goal.invariant_of-result
 invariant_of-result c =
-    let code = c.args.self.code in
-    let colour = colour_of c.args.round in
+    let code = c.args.self.now.code in
+    let colour = colour_of c.args.round.now in
     let e : code_painted colour code.list ≡ c.from_vec.result =
-    sym (c.from_vec.ensures ∙ (c.in_ok-list.ensures ∙ painted_behind c.args.round c.as_slice.result.now code.list
+    sym (c.from_vec.ensures ∙ (c.in_ok-list.ensures ∙ painted_behind c.args.round.now c.as_slice.result.now code.list
     c.as_slice-2.result.now c.as_slice.ensures c.as_slice-2.ensures)) in
     let r = are_painted colour code.list in
     record {
@@ -34,29 +34,29 @@ invariant_of-result c =
       marks_stand = subst (λ (l : List Instr). IsTrue (list_all (leads_to_marks l) l)) e (marks_stand r code.marks_stand);
       temps_below =
           subst (λ (l : List Instr). IsTrue (list_all (has_temps_below 0) l)) e
-          (alone_below 0 (code_painted colour code.list) (names_alone colour code.list c.args.self.registers));
+          (alone_below 0 (code_painted colour code.list) (names_alone colour code.list c.args.self.now.registers));
       ends_well = subst (λ (l : List Instr). IsTrue (ends_well l)) e (still_ends r code.ends_well);
     }
 
 pub invariant_of-result-2 : goal.invariant_of-result-2
 invariant_of-result-2 c =
-    let code = c.args.self.code in
-    let colour = colour_of c.args.round in
+    let code = c.args.self.now.code in
+    let colour = colour_of c.args.round.now in
     let e : code_painted colour code.list ≡ c.from_vec.result =
-    sym (c.from_vec.ensures ∙ (c.in_ok-list.ensures ∙ painted_behind c.args.round c.as_slice.result.now code.list
+    sym (c.from_vec.ensures ∙ (c.in_ok-list.ensures ∙ painted_behind c.args.round.now c.as_slice.result.now code.list
     c.as_slice-2.result.now c.as_slice.ensures c.as_slice-2.ensures)) in
     record {
-      registers_alone = subst (λ (l : List Instr). IsTrue (list_all has_registers_alone l)) e (names_alone colour code.list c.args.self.registers);
+      registers_alone = subst (λ (l : List Instr). IsTrue (list_all has_registers_alone l)) e (names_alone colour code.list c.args.self.now.registers);
       slots_below =
-          subst (λ (l : List Instr). IsTrue (list_all (has_slots_below c.args.self.slots) l)) e
-          (slots_stay colour c.args.self.slots code.list c.args.self.slots_below);
+          subst (λ (l : List Instr). IsTrue (list_all (has_slots_below c.args.self.now.slots) l)) e
+          (slots_stay colour c.args.self.now.slots code.list c.args.self.now.slots_below);
     }
 
 pub returns-clause-registers : goal.returns-clause-registers
 returns-clause-registers c =
-    let code = c.args.self.code in
-    let colour = colour_of c.args.round in
+    let code = c.args.self.now.code in
+    let colour = colour_of c.args.round.now in
     let e : code_painted colour code.list ≡ c.from_vec.result =
-    sym (c.from_vec.ensures ∙ (c.in_ok-list.ensures ∙ painted_behind c.args.round c.as_slice.result.now code.list
+    sym (c.from_vec.ensures ∙ (c.in_ok-list.ensures ∙ painted_behind c.args.round.now c.as_slice.result.now code.list
     c.as_slice-2.result.now c.as_slice.ensures c.as_slice-2.ensures)) in
-    subst (λ (l : List Instr). IsTrue (list_all (names_registers is_allocated) l)) e (names_allocated colour code.list c.args.self.registers)
+    subst (λ (l : List Instr). IsTrue (list_all (names_registers is_allocated) l)) e (names_allocated colour code.list c.args.self.now.registers)

@@ -3,7 +3,7 @@ use Rattle.tg_graph.specs.Interference.{interferes}
 use Rattle.tg_live.specs.LiveChanges.{set_before}
 use Rattle.tg_interference.specs.Crossing.{HaveCrossed}
 use Rattle.tg_interference.proofs.Interfering.{joined_below, are_registers}
-use Rattle.tg_interference.proofs.edges.interference.Given as goal
+use Rattle.tg_interference.proofs.edges.join_all.Given as goal
 
 abbrev pub invariant-loop-at : goal.invariant-loop-at
 invariant-loop-at l = record {
