@@ -1,11 +1,10 @@
-ghost use Rattle.std.specs.Prelude.{◌≡◌, ◌<◌, ◌++◌, length, map, IfOk, OnOk};
+ghost use Rattle.std.specs.Prelude.{◌≡◌, map, IfOk};
 ghost use Rattle.tg_instr.specs.Uses.{defs_of};
-ghost use Rattle.tg_live.specs.Tables.{row};
 
 use crate::tables::OperandTable;
 use std::alloc::Global;
 use tg_base::Memory;
-use tg_instr::{Instr, Opnd};
+use tg_instr::Instr;
 
 /// For each place what its instruction defines. A search asks for it at each place that it visits,
 /// so it is made once for all operands.
@@ -14,8 +13,7 @@ pub(crate) fn definitions(alloc: Global, list: &[Instr]) -> Result<OperandTable,
 {
     let mut table = OperandTable::with_room(alloc, list.len())?;
     for one in list {
-        let defs = one.defs(alloc);
-        table.push_row(alloc, defs.as_slice())?;
+        table.push_definitions(alloc, one)?;
     }
     Ok(table)
 }

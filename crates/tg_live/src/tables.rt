@@ -1,11 +1,12 @@
 ghost use Rattle.std.specs.Prelude.{◌≡◌, ◌<◌, [], ◌∷◌, ◌++◌, length, replicate, OnOk, IfOk};
+ghost use Rattle.tg_instr.specs.Uses.{defs_of};
 ghost use Rattle.tg_live.specs.Tables.{row, push_at};
 
 use smallvec::SmallVec;
 use std::alloc::Global;
 use std::marker::Model;
 use tg_base::Memory;
-use tg_instr::Opnd;
+use tg_instr::{Instr, Opnd};
 
 /// Rows of places. Most rows are short, and then they take no memory of their own.
 #[derive(Drop)]
@@ -123,11 +124,13 @@ impl OperandTable {
         Ok(())
     }
 
-    /// Puts a row of these operands behind the last row.
-    pub(crate) fn push_row(&mut self, alloc: Global, operands: &[Opnd]) -> Result<(), Memory>
-        ensures { OnOk result (self.new ≡ self.old ++ operands.now ∷ []) }
+    /// Puts the row of what an instruction defines behind the last row.
+    pub(crate) fn push_definitions(&mut self, alloc: Global, one: &Instr) -> Result<(), Memory>
+        ensures { OnOk result (self.new ≡ self.old ++ defs_of one.now ∷ []) }
     {
-        self.rows.push(SmallVec::from_slice(alloc, operands)?)?;
+        let defs = one.defs(alloc);
+        self.rows
+            .push(SmallVec::from_slice(alloc, defs.as_slice())?)?;
         Ok(())
     }
 }
