@@ -1,9 +1,11 @@
 """The program that the benchmarks run, and the time that it takes."""
+import collections
 import os
 import re
 import resource
 import subprocess
 import sys
+import tempfile
 
 
 def tiger():
@@ -37,11 +39,21 @@ def least_times(commands, turns):
     return [min(times) for times in zip(*([accepted_time(command) for command in commands] for _ in range(turns)))]
 
 
+def counted(command):
+    """The processor's instructions that a command takes, counted by valgrind's callgrind: the same in every run; and how
+    often each function is called that the program has a name for."""
+    with tempfile.NamedTemporaryFile("r", errors="replace") as file:
+        words = ["valgrind", "--tool=callgrind", f"--callgrind-out-file={file.name}", "--compress-strings=no", *command]
+        ran = subprocess.run(words, stdin=subprocess.DEVNULL, stdout=subprocess.DEVNULL, stderr=subprocess.PIPE)
+        calls = collections.Counter()
+        for name, times in re.findall(r"(?m)^cfn=(.*)\ncalls=(\d+)", file.read()):
+            calls[name] += int(times)
+    return int(re.search(rb"Collected : (\d+)", ran.stderr)[1]), calls
+
+
 def instructions(command):
-    """The processor's instructions that a command takes, counted by valgrind's callgrind: the same in every run."""
-    words = ["valgrind", "--tool=callgrind", "--callgrind-out-file=/dev/null", *command]
-    ran = subprocess.run(words, stdin=subprocess.DEVNULL, stdout=subprocess.DEVNULL, stderr=subprocess.PIPE)
-    return int(re.search(rb"Collected : (\d+)", ran.stderr)[1])
+    """The processor's instructions alone."""
+    return counted(command)[0]
 
 
 def least_steps(command, most):
