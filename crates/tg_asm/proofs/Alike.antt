@@ -1,12 +1,12 @@
 -- The second pass asks a layout only for places: of layouts that are alike it makes the same.
 use Rattle.std.proofs.Common.{◌≡◌, ◌+◌, ℕ, List, [], ◌∷◌, ◌++◌, length, Option, Some, None, Result, Ok, Err, refl, ap, ◌∙◌}
 use Rattle.std.specs.Prelude.{codes, slice_index_or}
-use Rattle.tg_base.specs.State.{statics_base}
+use Rattle.tg_state.specs.State.{statics_base}
 use Rattle.tg_base.specs.Words.{add}
 use Rattle.tg_isa.specs.declared.mips.Mips.{Mips}
-use Rattle.tg_isa.specs.declared.keywords.AsmRule.{AsmRule}
-use Rattle.tg_isa.specs.Items as items
-use Rattle.tg_isa.specs.Assembly.{Layout, LabelTarget, InCode, InStatics, Reading, Made, address, address_of, spot_of, jump_to, branch_to, upper, lower, word, place_bytes, datum_bytes, make_words, make_data, pad, make_item, make_reading, make_line, make, reading, entry, entry_at}
+use Rattle.tg_asm_text.specs.declared.keywords.AsmRule.{AsmRule}
+use Rattle.tg_asm_text.specs.Items as items
+use Rattle.tg_asm_text.specs.Assembly.{Layout, LabelTarget, InCode, InStatics, Reading, Made, address, address_of, spot_of, jump_to, branch_to, upper, lower, word, place_bytes, datum_bytes, make_words, make_data, pad, make_item, make_reading, make_line, make, reading, entry, entry_at}
 use Rattle.tg_asm.specs.Layouts.{IsAlike}
 
 same_address : (m l : Layout) → IsAlike m l → (s : LabelTarget) → address m s ≡ address l s

@@ -3,11 +3,11 @@ use Rattle.std.proofs.Common.{◌≡◌, ◌<◌, ◌≤◌, ◌+◌, ℕ, suc, 
 use Rattle.std.proofs.Common.{refl, sym, ap, ◌∙◌, arith, append-nil, append_assoc, drop-cons, add-one}
 use Rattle.std.specs.Prelude.{slice_index, ◌&&◌, ◌==◌}
 use Rattle.std.proofs.lemmas.List.{drop_all}
-use Rattle.tg_isa.specs.declared.keywords.Keyword.{Keyword}
-use Rattle.tg_isa.specs.declared.keywords.AsmRule.TheVariants.{A3, A7}
-use Rattle.tg_isa.specs.Items as items
-use Rattle.tg_isa.specs.Lines as lines
-use Rattle.tg_isa.specs.Operands.{string, before_string}
+use Rattle.tg_asm_text.specs.declared.keywords.Keyword.{Keyword}
+use Rattle.tg_asm_text.specs.declared.keywords.AsmRule.TheVariants.{A3, A7}
+use Rattle.tg_asm_text.specs.Items as items
+use Rattle.tg_asm_text.specs.Lines as lines
+use Rattle.tg_asm_text.specs.Operands.{string, before_string}
 use Rattle.tg_asm.specs.Cuts.{operand_of}
 use Rattle.tg_asm.specs.Means.{all_values, datum_stored, is_value, meant_by}
 use Rattle.tg_asm.specs.declared.cuts.Operand.{Operand}

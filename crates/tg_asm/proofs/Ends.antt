@@ -1,8 +1,8 @@
 -- What the passes give is what the definition gives.
 use Rattle.std.proofs.Common.{◌≡◌, ◌≤◌, ◌∙◌, ℕ, List, length, Ok, Err, Some, None, refl, sym}
-use Rattle.tg_isa.specs.declared.keywords.AsmRule.TheVariants.{A9}
-use Rattle.tg_isa.specs.Lines.{lines}
-use Rattle.tg_isa.specs.Assembly.{Layout, Made, blank, unmade, layout, make, entry, last_line, assembled}
+use Rattle.tg_asm_text.specs.declared.keywords.AsmRule.TheVariants.{A9}
+use Rattle.tg_asm_text.specs.Lines.{lines}
+use Rattle.tg_asm_text.specs.Assembly.{Layout, Made, blank, unmade, layout, make, entry, last_line, assembled}
 use Rattle.tg_asm.specs.Layouts.{GivesLayout, IsLaidOut, IsSmall}
 use Rattle.tg_asm.specs.Images.{GivesMade, GivesImage}
 use Rattle.tg_asm.specs.declared.faults.AsmFault.{AsmFault}

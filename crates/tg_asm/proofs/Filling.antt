@@ -1,9 +1,9 @@
 -- Operands are filled in one by one.
 use Rattle.std.proofs.Common.{◌≡◌, ◌<◌, ◌+◌, ℕ, suc, List, [], ◌∷◌, length, map, drop, get_or, Option, Some, None, refl, sym, ap, ◌∙◌, drop-cons, add-one}
 use Rattle.std.proofs.lemmas.List.{length-map}
-use Rattle.tg_isa.specs.declared.keywords.Slot.{Slot}
-use Rattle.tg_isa.specs.Lines as lines
-use Rattle.tg_isa.specs.Operands.{Fields, fill, fill_all, unfilled}
+use Rattle.tg_asm_text.specs.declared.keywords.Slot.{Slot}
+use Rattle.tg_asm_text.specs.Lines as lines
+use Rattle.tg_asm_text.specs.Operands.{Fields, fill, fill_all, unfilled}
 use Rattle.tg_asm.specs.Cuts.{operand_of}
 use Rattle.tg_asm.specs.declared.cuts.Operand.{Operand}
 

@@ -2,12 +2,12 @@
 use Rattle.std.proofs.Common.{◌≡◌, ◌≢◌, ℕ, Bool, true, false, List, [], ◌∷◌, Option, Some, None, refl, sym, ap, ◌∙◌}
 use Rattle.std.specs.Str.{bytes_eq}
 use Rattle.std.proofs.lemmas.Slice.Eq.{bytes_eq-Decides}
-use Rattle.tg_isa.specs.declared.keywords.Keyword.{Keyword}
-use Rattle.tg_isa.specs.declared.keywords.Keyword.TheVariants.{Sll, Srl, Sra, Jr, Jalr, Syscall, Break, Mfhi, Mflo, Mult, Div, Add, Sub, Addu, Subu}
-use Rattle.tg_isa.specs.declared.keywords.Keyword.TheVariants.{And, Or, Xor, Nor, Slt, Sltu, J, Jal, Beq, Bne, Blez, Bgtz, Bltz, Bgez, Addi, Addiu}
-use Rattle.tg_isa.specs.declared.keywords.Keyword.TheVariants.{Slti, Sltiu, Andi, Ori, Xori, Lui, Lb, Lbu, Lw, Sb, Sw, Nop, Move, Li, La, Text, Data}
-use Rattle.tg_isa.specs.declared.keywords.Keyword.TheVariants.{Globl, Word, Byte, Ascii, Asciiz, Space, Align}
-use Rattle.tg_isa.specs.Items.{spelling, keywords, among, keyword}
+use Rattle.tg_asm_text.specs.declared.keywords.Keyword.{Keyword}
+use Rattle.tg_asm_text.specs.declared.keywords.Keyword.TheVariants.{Sll, Srl, Sra, Jr, Jalr, Syscall, Break, Mfhi, Mflo, Mult, Div, Add, Sub, Addu, Subu}
+use Rattle.tg_asm_text.specs.declared.keywords.Keyword.TheVariants.{And, Or, Xor, Nor, Slt, Sltu, J, Jal, Beq, Bne, Blez, Bgtz, Bltz, Bgez, Addi, Addiu}
+use Rattle.tg_asm_text.specs.declared.keywords.Keyword.TheVariants.{Slti, Sltiu, Andi, Ori, Xori, Lui, Lb, Lbu, Lw, Sb, Sw, Nop, Move, Li, La, Text, Data}
+use Rattle.tg_asm_text.specs.declared.keywords.Keyword.TheVariants.{Globl, Word, Byte, Ascii, Asciiz, Space, Align}
+use Rattle.tg_asm_text.specs.Items.{spelling, keywords, among, keyword}
 
 spelled_first : (k : Keyword) → keyword (spelling k) ≡ Some k
 spelled_first Sll = refl

@@ -1,7 +1,7 @@
 -- The last line is counted by newlines with a byte behind them.
 use Rattle.std.proofs.Common.{◌≡◌, ◌+◌, ◌==◌, ℕ, Bool, true, false, cond, List, [], ◌∷◌, ◌++◌, count_by, refl, sym, ap, ◌∙◌, arith}
 use Rattle.std.proofs.lemmas.List.Sums.{sum_by-cons}
-use Rattle.tg_isa.specs.Assembly.{last_line, count_line}
+use Rattle.tg_asm_text.specs.Assembly.{last_line, count_line}
 
 abbrev is_newline : ℕ → Bool
 is_newline c = c == 10

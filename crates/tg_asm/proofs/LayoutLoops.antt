@@ -3,14 +3,14 @@ use Rattle.std.proofs.Common.{◌≡◌, ◌<◌, ◌≤◌, ◌+◌, ℕ, suc, 
 use Rattle.std.proofs.Common.{sym, ap, ◌∙◌, arith, drop-cons, add-one, append_assoc, append-nil}
 use Rattle.std.specs.Prelude.{is_some, unwrap_or}
 use Rattle.std.proofs.lemmas.List.{drop_all}
-use Rattle.tg_isa.specs.declared.keywords.AsmRule.{AsmRule}
-use Rattle.tg_isa.specs.declared.keywords.AsmRule.TheVariants.{A4}
-use Rattle.tg_isa.specs.Items as items
-use Rattle.tg_isa.specs.Assembly.{Layout, LabelTarget, spot_of, spot_among, add_label, add_new, add_labels}
+use Rattle.tg_asm_text.specs.declared.keywords.AsmRule.{AsmRule}
+use Rattle.tg_asm_text.specs.declared.keywords.AsmRule.TheVariants.{A4}
+use Rattle.tg_asm_text.specs.Items as items
+use Rattle.tg_asm_text.specs.Assembly.{Layout, LabelTarget, spot_of, spot_among, add_label, add_new, add_labels}
 use Rattle.tg_asm.specs.Entries.{Lined, unlined, first_again}
 use Rattle.tg_asm.specs.Layouts.{IsSmall, lined_at, put_labels}
-use Rattle.tg_isa.specs.declared.keywords.Keyword.{Keyword}
-use Rattle.tg_isa.specs.Lines.{labelled, label_at, skip, is_solid}
+use Rattle.tg_asm_text.specs.declared.keywords.Keyword.{Keyword}
+use Rattle.tg_asm_text.specs.Lines.{labelled, label_at, skip, is_solid}
 use Rattle.tg_asm.specs.Cuts.{labels_of, operand_of}
 use Rattle.tg_asm.proofs.CutLoops.{label_taken, labelled_none, length-back}
 use Rattle.tg_asm.specs.Means.{datum_stored}

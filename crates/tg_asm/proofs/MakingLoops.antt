@@ -2,10 +2,10 @@
 use Rattle.std.proofs.Common.{◌≡◌, ◌<◌, ◌≤◌, ◌+◌, ◌-◌, ◌%◌, ℕ, suc, List, [], ◌∷◌, ◌++◌, length, map, drop, get_or, Result, Ok, Err, refl, ap, ◌∙◌}
 use Rattle.std.proofs.Common.{arith, drop-cons, add-one}
 use Rattle.std.proofs.lemmas.List.{drop_all}
-use Rattle.tg_isa.specs.declared.keywords.AsmRule.{AsmRule}
-use Rattle.tg_isa.specs.Items as items
-use Rattle.tg_isa.specs.Assembly.{Layout, Made, make_words, make_data, word, datum_bytes, round_up}
-use Rattle.tg_isa.specs.declared.keywords.Keyword.{Keyword}
+use Rattle.tg_asm_text.specs.declared.keywords.AsmRule.{AsmRule}
+use Rattle.tg_asm_text.specs.Items as items
+use Rattle.tg_asm_text.specs.Assembly.{Layout, Made, make_words, make_data, word, datum_bytes, round_up}
+use Rattle.tg_asm_text.specs.declared.keywords.Keyword.{Keyword}
 use Rattle.tg_asm.specs.Cuts.{operand_of}
 use Rattle.tg_asm.specs.Means.{Leaves, datum_stored}
 use Rattle.tg_asm.specs.declared.faults.Refused.{Refused}

@@ -1,8 +1,8 @@
 -- Lines make words and bytes one by one.
 use Rattle.std.proofs.Common.{◌≡◌, ◌<◌, ◌≤◌, ◌+◌, ℕ, List, [], ◌∷◌, length, Ok, Err, refl, ap, ◌∙◌, arith}
-use Rattle.tg_isa.specs.declared.keywords.AsmRule.{AsmRule}
-use Rattle.tg_isa.specs.Lines.{lines}
-use Rattle.tg_isa.specs.Assembly.{Layout, Made, unmade, make_line, make}
+use Rattle.tg_asm_text.specs.declared.keywords.AsmRule.{AsmRule}
+use Rattle.tg_asm_text.specs.Lines.{lines}
+use Rattle.tg_asm_text.specs.Assembly.{Layout, Made, unmade, make_line, make}
 
 pub record InMaking (text rest : List ℕ) (l : Layout) (m : Made) (n : ℕ) : Type 0 where
   pub same : make 1 l unmade (lines text) ≡ make n l m (lines rest)

@@ -2,7 +2,7 @@
 use Rattle.std.proofs.Common.{◌≡◌, ◌<◌, ◌+◌, ℕ, suc, true, false, List, [], ◌∷◌, drop, Some, refl, sym, ap, ◌∙◌, drop-cons, add-one}
 use Rattle.std.specs.Str.{bytes_eq}
 use Rattle.tg_isa.specs.Names.{names, name_of}
-use Rattle.tg_isa.specs.Operands.{named, named_from}
+use Rattle.tg_asm_text.specs.Operands.{named, named_from}
 
 -- none of the first names is the text
 pub record NotYet (text : List ℕ) (at : ℕ) : Type 0 where

@@ -2,7 +2,7 @@
 use Rattle.std.proofs.Common.{◌≡◌, ◌<◌, ◌≤◌, ◌+◌, ◌*◌, ◌^◌, ℕ, suc, List, ◌∷◌, length, drop, Some, None, refl, ap, ◌∙◌, arith, drop-cons, add-one}
 use Rattle.std.specs.Prelude.{slice_index}
 use Rattle.std.proofs.lemmas.List.{drop_all}
-use Rattle.tg_isa.specs.Operands.{digit, digits, capped}
+use Rattle.tg_asm_text.specs.Operands.{digit, digits, capped}
 
 pub record Read (base : ℕ) (text : List ℕ) (value at : ℕ) : Type 0 where
   pub same : digits base 0 text ≡ digits base value (drop at text)

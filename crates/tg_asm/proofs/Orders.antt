@@ -16,7 +16,7 @@ use Rattle.std.proofs.lemmas.List.Elements.{recursion_from_All}
 use Rattle.std.proofs.lemmas.List.Sorted.{ranks_by, sorted_far, IsPermutation-map}
 use Rattle.std.proofs.lemmas.Slice.Eq.{bytes_eq-Decides}
 use Rattle.std.proofs.lemmas.Bool.Decides.{nat_tests}
-use Rattle.tg_isa.specs.Assembly.{spot_among}
+use Rattle.tg_asm_text.specs.Assembly.{spot_among}
 use Rattle.tg_asm.specs.declared.entries.Entry.{Entry}
 use Rattle.tg_asm.specs.Fronts.{front_number}
 use Rattle.tg_asm.specs.Entries.{Key, key_of, by_key, by_entry, label_of, lined_of, next_again, sooner, again_behind, again_among, unlined, first_again, Rises, Finds}

@@ -13,7 +13,7 @@ use Rattle.std.proofs.lemmas.List.Elements.{All-from_recursion}
 use Rattle.std.proofs.lemmas.List.Sorted.{searchable_from_sorted}
 use Rattle.std.proofs.lemmas.Bool.Decides.{nat_tests}
 use Rattle.std.proofs.lemmas.Slice.Eq.{bytes_eq-Decides}
-use Rattle.tg_isa.specs.Assembly.{spot_among}
+use Rattle.tg_asm_text.specs.Assembly.{spot_among}
 use Rattle.tg_asm.specs.declared.entries.Entry.{Entry}
 use Rattle.tg_asm.specs.Fronts.{front_number}
 use Rattle.tg_asm.specs.Spots.{spot_of}

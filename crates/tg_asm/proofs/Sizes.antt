@@ -3,13 +3,13 @@ use Rattle.std.proofs.Common.{◌≡◌, ◌+◌, ◌-◌, ℕ, suc, List, [], �
 use Rattle.std.proofs.Common.{refl, sym, ap, ◌∙◌, arith, length-append}
 use Rattle.std.specs.Prelude.{nat_le}
 use Rattle.std.proofs.lemmas.List.{length-replicate}
-use Rattle.tg_isa.specs.declared.keywords.AsmRule.{AsmRule}
-use Rattle.tg_isa.specs.Lines.{lines}
-use Rattle.tg_isa.specs.Items.{Item, Nothing, Section, Words, Data', Coded, Datum, Value, AddressOfLabel, Single, Bytes, Zeros, width, widths}
-use Rattle.tg_base.specs.State.{most_words, most_bytes}
-use Rattle.tg_isa.specs.Assembly.{Layout, LabelTarget, Reading, Made, blank, unmade, spot_of, add_label, add_new, add_one, add_labels, add_words}
-use Rattle.tg_isa.specs.Assembly.{add_data, add_item, add_reading, add_line, layout, round_up, word, make_words, address_of, datum_bytes, place_bytes}
-use Rattle.tg_isa.specs.Assembly.{make_data, pad, make_item, make_reading, make_line, make, reading}
+use Rattle.tg_asm_text.specs.declared.keywords.AsmRule.{AsmRule}
+use Rattle.tg_asm_text.specs.Lines.{lines}
+use Rattle.tg_asm_text.specs.Items.{Item, Nothing, Section, Words, Data', Coded, Datum, Value, AddressOfLabel, Single, Bytes, Zeros, width, widths}
+use Rattle.tg_state.specs.State.{most_words, most_bytes}
+use Rattle.tg_asm_text.specs.Assembly.{Layout, LabelTarget, Reading, Made, blank, unmade, spot_of, add_label, add_new, add_one, add_labels, add_words}
+use Rattle.tg_asm_text.specs.Assembly.{add_data, add_item, add_reading, add_line, layout, round_up, word, make_words, address_of, datum_bytes, place_bytes}
+use Rattle.tg_asm_text.specs.Assembly.{make_data, pad, make_item, make_reading, make_line, make, reading}
 
 -- the segment is the same, and there are as many words and bytes
 pub record Even (l : Layout) (m : Made) : Type 0 where

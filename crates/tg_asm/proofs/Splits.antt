@@ -4,7 +4,7 @@ use Rattle.std.proofs.Common.{append-nil, append_assoc, drop-cons, add-one}
 use Rattle.std.specs.Prelude.{slice_index, ◌==◌}
 use Rattle.std.proofs.Math.Seq.{take-suc}
 use Rattle.std.proofs.lemmas.List.{drop_all}
-use Rattle.tg_isa.specs.Lines.{front, back, lines, onto_first}
+use Rattle.tg_asm_text.specs.Lines.{front, back, lines, onto_first}
 
 -- what the first `at` bytes, none of the class, leave of a split
 pub record Split (class : ℕ → Bool) (text : List ℕ) (at : ℕ) : Type 0 where

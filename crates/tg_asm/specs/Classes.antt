@@ -1,6 +1,6 @@
 -- Classes of bytes.
 use Rattle.std.specs.Prelude.{ℕ, Bool, ◌==◌}
-use Rattle.tg_isa.specs.Lines.{is_solid, is_end, is_past_label}
+use Rattle.tg_asm_text.specs.Lines.{is_solid, is_end, is_past_label}
 use Rattle.tg_asm.specs.declared.bytes.Class.{Class}
 use Rattle.tg_asm.specs.declared.bytes.Class.TheVariants.{Newline, Solid, End, PastLabel, Open}
 use Rattle.tg_asm.specs.declared.bytes.Class.TheVariants.{Close}

@@ -1,7 +1,7 @@
 -- What the code cuts from a line, as the definition has it.
 use Rattle.std.specs.Prelude.{ℕ, List, length, map, Option, Some, None}
 use Rattle.std.specs.Borrow.{Bor}
-use Rattle.tg_isa.specs.Lines as lines
+use Rattle.tg_asm_text.specs.Lines as lines
 use Rattle.tg_asm.specs.declared.cuts.Operand.{Operand}
 use Rattle.tg_asm.specs.declared.cuts.Operand.TheVariants.{Plain, Quoted}
 use Rattle.tg_asm.specs.declared.cuts.Gap.{Gap}

@@ -6,8 +6,8 @@ use Rattle.std.specs.Cmp.Lexicographic.{slice_cmp}
 use Rattle.std.specs.Ordering.{nat_cmp, ordering_then}
 use Rattle.std.specs.Str.{bytes_eq}
 use Rattle.std.specs.declared.cmp.Ordering.{Ordering}
-use Rattle.tg_isa.specs.Assembly as assembly
-use Rattle.tg_isa.specs.Assembly.{spot_among}
+use Rattle.tg_asm_text.specs.Assembly as assembly
+use Rattle.tg_asm_text.specs.Assembly.{spot_among}
 use Rattle.tg_asm.specs.declared.entries.Entry.{Entry}
 use Rattle.tg_asm.specs.Spots.{spot_of}
 

@@ -1,6 +1,6 @@
 -- What the second pass makes, and images, as the definition has them.
 use Rattle.std.specs.Prelude.{◌≡◌, ⊤, Result, Ok, Err}
-use Rattle.tg_isa.specs.Assembly as assembly
+use Rattle.tg_asm_text.specs.Assembly as assembly
 use Rattle.tg_isa.specs.declared.images.Image.{Image}
 use Rattle.tg_asm.specs.declared.faults.AsmFault.{AsmFault}
 use Rattle.tg_asm.specs.declared.faults.AsmFault.TheVariants as fault

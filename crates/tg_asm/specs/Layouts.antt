@@ -1,11 +1,11 @@
 -- Layouts of the code, as the definition has them.
 use Rattle.std.specs.Prelude.{ℕ, ◌≤◌, ◌≡◌, ⊤, List, [], ◌∷◌, map, Option, Some, None, Result, Ok}
 use Rattle.std.specs.Prelude.{Err}
-use Rattle.tg_base.specs.State.{most_words, most_bytes}
-use Rattle.tg_isa.specs.Assembly as assembly
-use Rattle.tg_isa.specs.declared.keywords.AsmRule.{AsmRule}
-use Rattle.tg_isa.specs.declared.keywords.AsmRule.TheVariants.{A4}
-use Rattle.tg_isa.specs.declared.keywords.Segment.TheVariants.{Code}
+use Rattle.tg_state.specs.State.{most_words, most_bytes}
+use Rattle.tg_asm_text.specs.Assembly as assembly
+use Rattle.tg_asm_text.specs.declared.keywords.AsmRule.{AsmRule}
+use Rattle.tg_asm_text.specs.declared.keywords.AsmRule.TheVariants.{A4}
+use Rattle.tg_asm_text.specs.declared.keywords.Segment.TheVariants.{Code}
 use Rattle.tg_asm.specs.Entries.{Lined, first_again, label_of, lined_of}
 use Rattle.tg_asm.specs.declared.faults.AsmFault.{AsmFault}
 use Rattle.tg_asm.specs.declared.faults.AsmFault.TheVariants as fault

@@ -1,11 +1,11 @@
 -- Items of the code, as the definition has them.
 use Rattle.std.specs.Prelude.{ℕ, ◌≡◌, ⊤, List, [], ◌∷◌, map, Bool, true, false, ◌&&◌, Option}
 use Rattle.std.specs.Prelude.{Some, None, Result, Ok, Err, if◌then◌else◌}
-use Rattle.tg_isa.specs.Items as items
-use Rattle.tg_isa.specs.Lines as lines
-use Rattle.tg_isa.specs.Operands.{escape, plain}
-use Rattle.tg_isa.specs.declared.keywords.AsmRule.{AsmRule}
-use Rattle.tg_isa.specs.declared.keywords.Keyword.{Keyword}
+use Rattle.tg_asm_text.specs.Items as items
+use Rattle.tg_asm_text.specs.Lines as lines
+use Rattle.tg_asm_text.specs.Operands.{escape, plain}
+use Rattle.tg_asm_text.specs.declared.keywords.AsmRule.{AsmRule}
+use Rattle.tg_asm_text.specs.declared.keywords.Keyword.{Keyword}
 use Rattle.tg_asm.specs.Cuts.{operand_of}
 use Rattle.tg_asm.specs.Numbers.{signed_of}
 use Rattle.tg_asm.specs.declared.faults.Refused.{Refused}

@@ -1,6 +1,6 @@
 -- Numbers of the code, as the definition has them.
 use Rattle.std.specs.Prelude.{Option, Some, None}
-use Rattle.tg_isa.specs.Operands as operands
+use Rattle.tg_asm_text.specs.Operands as operands
 use Rattle.tg_asm.specs.declared.numbers.Signed.{Signed}
 
 abbrev pub signed_of : Signed → operands.Signed

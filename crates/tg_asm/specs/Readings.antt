@@ -1,5 +1,5 @@
 -- Readings of the code, as the definition has them.
-use Rattle.tg_isa.specs.Assembly as assembly
+use Rattle.tg_asm_text.specs.Assembly as assembly
 use Rattle.tg_asm.specs.Cuts.{labels_of}
 use Rattle.tg_asm.specs.Means.{item_of}
 use Rattle.tg_asm.specs.declared.readings.Reading.{Reading}

@@ -1,6 +1,6 @@
 -- Registers and addresses of the code, as the definition has them.
 use Rattle.std.specs.Prelude.{ℕ, Option, Some, None}
-use Rattle.tg_isa.specs.Operands as operands
+use Rattle.tg_asm_text.specs.Operands as operands
 use Rattle.tg_asm.specs.Numbers.{signed_of}
 use Rattle.tg_asm.specs.declared.numbers.Signed.{Signed}
 use Rattle.tg_asm.specs.declared.fields.Fields.{Fields}

@@ -1,6 +1,6 @@
 -- What labels stand for, as the definition has it.
 use Rattle.std.specs.Prelude.{Option, Some, None}
-use Rattle.tg_isa.specs.Assembly as assembly
+use Rattle.tg_asm_text.specs.Assembly as assembly
 use Rattle.tg_asm.specs.declared.spots.LabelTarget.{LabelTarget}
 use Rattle.tg_asm.specs.declared.spots.LabelTarget.TheVariants.{InCode, InStatics}
 

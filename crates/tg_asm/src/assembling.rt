@@ -1,6 +1,6 @@
 ghost use Rattle.std.specs.Prelude.{◌≡◌, ◌≤◌, ◌==◌, IfOk, count_by, length};
-ghost use Rattle.tg_base.specs.State.{most_bytes, most_words};
-ghost use Rattle.tg_isa.specs.Assembly as assembly;
+ghost use Rattle.tg_state.specs.State.{most_bytes, most_words};
+ghost use Rattle.tg_asm_text.specs.Assembly as assembly;
 ghost use Rattle.tg_asm.specs.Images.{GivesImage};
 ghost use Rattle.tg_asm.specs.Layouts.{layout_of};
 
@@ -10,8 +10,9 @@ use crate::makers::address;
 use crate::making::make;
 use crate::spots::LabelTarget;
 use std::alloc::Global;
+use tg_asm_text::AsmRule;
 use tg_base::{Bytes, Words};
-use tg_isa::{AsmRule, Image};
+use tg_isa::Image;
 
 /// The place of `main`, where that is in the code and not at its end.
 fn entry(layout: &Layout<'_>) -> Option<u32>

@@ -1,6 +1,6 @@
 ghost use Rattle.std.specs.Prelude.{◌≡◌, ◌<◌, IfSome, MatchOption, ◌∷◌, [], length};
-ghost use Rattle.tg_isa.specs.Lines as lines;
-ghost use Rattle.tg_isa.specs.Lines.{front, back};
+ghost use Rattle.tg_asm_text.specs.Lines as lines;
+ghost use Rattle.tg_asm_text.specs.Lines.{front, back};
 ghost use Rattle.tg_asm.specs.Classes.{in_class};
 
 /// A class of bytes at which a text is split.

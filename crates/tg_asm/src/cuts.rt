@@ -1,5 +1,5 @@
 ghost use Rattle.std.specs.Prelude.{◌≡◌, false, map, MatchOption, Some, None, IfOk, length};
-ghost use Rattle.tg_isa.specs.Lines as lines;
+ghost use Rattle.tg_asm_text.specs.Lines as lines;
 ghost use Rattle.tg_asm.specs.Cuts.{found_cut, found_operand, gap_of, operand_of, pair_of};
 
 use crate::bytes::{Class, begins_label, is_blank, skip, split};

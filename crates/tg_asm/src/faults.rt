@@ -1,6 +1,6 @@
 use std::alloc::{AllocError, AllocFailed};
+pub use tg_asm_text::AsmRule;
 use tg_base::Memory;
-pub use tg_isa::AsmRule;
 use thiserror::Error;
 
 /// Why a text has no image here.

@@ -1,5 +1,5 @@
 ghost use Rattle.std.specs.Prelude.{◌≡◌, map};
-ghost use Rattle.tg_isa.specs.Operands as spec;
+ghost use Rattle.tg_asm_text.specs.Operands as spec;
 ghost use Rattle.tg_asm.specs.Cuts.{operand_of};
 ghost use Rattle.tg_asm.specs.Numbers.{found_number};
 ghost use Rattle.tg_asm.specs.Registers.{fields_of, found_address, found_fields};
@@ -8,7 +8,8 @@ use crate::bytes::{Class, begins_label, split};
 use crate::cuts::Operand;
 use crate::numbers::{Signed, number};
 use crate::registers::register;
-use tg_isa::{Reg, Slot};
+use tg_asm_text::Slot;
+use tg_isa::Reg;
 
 /// What the operands of an instruction fill.
 #[derive(Clone, Copy)]

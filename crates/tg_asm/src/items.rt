@@ -16,9 +16,9 @@ ghost use Rattle.std.specs.Prelude.{
   None,
   false,
 };
-ghost use Rattle.tg_isa.specs.Items as items;
-ghost use Rattle.tg_isa.specs.declared.keywords.Keyword.{Keyword};
-ghost use Rattle.tg_isa.specs.Operands as strings;
+ghost use Rattle.tg_asm_text.specs.Items as items;
+ghost use Rattle.tg_asm_text.specs.declared.keywords.Keyword.{Keyword};
+ghost use Rattle.tg_asm_text.specs.Operands as strings;
 ghost use Rattle.tg_asm.specs.Cuts.{operand_of};
 ghost use Rattle.tg_asm.specs.Means.{
   GivesMeant,
@@ -41,8 +41,9 @@ use crate::numbers::{Signed, number};
 use crate::rows::row;
 use crate::words::{slots, takes};
 use std::alloc::Global;
+use tg_asm_text::{AsmRule, Keyword, Segment};
 use tg_base::Memory;
-use tg_isa::{AsmRule, Bits, Keyword, Mips, Reg, Segment};
+use tg_isa::{Bits, Mips, Reg};
 
 /// A word of code, which may wait for a label's place.
 #[derive(Clone, Copy)]

@@ -1,5 +1,5 @@
 ghost use Rattle.std.specs.Prelude.{◌≡◌, [], IfSome, Some, MatchResult, map};
-ghost use Rattle.tg_isa.specs.Assembly.{spot_among};
+ghost use Rattle.tg_asm_text.specs.Assembly.{spot_among};
 ghost use Rattle.tg_asm.specs.Entries.{
   Finds,
   Rises,
@@ -40,7 +40,7 @@ pub(crate) struct Labels<'a> {
 impl<'a> Model for Labels<'a> {
     ghost use Rattle.std.specs.Prelude.{ℕ, List, map};
     ghost use Rattle.std.specs.List.Sorted.{IsStrictlySortedBy};
-    ghost use Rattle.tg_isa.specs.Assembly as assembly;
+    ghost use Rattle.tg_asm_text.specs.Assembly as assembly;
     ghost use Rattle.tg_asm.specs.Entries.{by_key, key_of, label_of};
 
     ghost Value = { List (List ℕ × assembly.LabelTarget) };

@@ -13,9 +13,9 @@ ghost use Rattle.std.specs.Prelude.{
   IfOk,
   Ok,
 };
-ghost use Rattle.tg_base.specs.State.{most_bytes};
-ghost use Rattle.tg_isa.specs.Assembly as assembly;
-ghost use Rattle.tg_isa.specs.Items as items;
+ghost use Rattle.tg_state.specs.State.{most_bytes};
+ghost use Rattle.tg_asm_text.specs.Assembly as assembly;
+ghost use Rattle.tg_asm_text.specs.Items as items;
 ghost use Rattle.tg_asm.specs.Cuts.{labels_of, operand_of};
 ghost use Rattle.tg_asm.specs.Entries.{AreFirst, Rises, first_again};
 ghost use Rattle.tg_asm.specs.Layouts.{
@@ -36,7 +36,7 @@ ghost use Rattle.tg_asm.specs.Layouts.{
   told,
 };
 ghost use Rattle.tg_asm.specs.Readings.{reading_of};
-ghost use Rattle.tg_isa.specs.Lines.{lines};
+ghost use Rattle.tg_asm_text.specs.Lines.{lines};
 ghost use Rattle.tg_asm.specs.Means.{
   Leaves,
   bytes_of,
@@ -57,8 +57,9 @@ use crate::labels::Labels;
 use crate::readings::{Reading, read_line};
 use crate::spots::LabelTarget;
 use std::alloc::Global;
-use tg_base::{MOST_BYTES, MOST_WORDS, Memory};
-use tg_isa::{AsmRule, Keyword, Segment};
+use tg_asm_text::{AsmRule, Keyword, Segment};
+use tg_base::Memory;
+use tg_state::{MOST_BYTES, MOST_WORDS};
 
 /// More bytes than any segment takes.
 const CAP: u64 = 1099511627776;

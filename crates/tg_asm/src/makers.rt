@@ -1,6 +1,6 @@
 ghost use Rattle.std.specs.Prelude.{◌≡◌, ◌<◌, ◌^◌};
-ghost use Rattle.tg_isa.specs.Assembly as assembly;
-ghost use Rattle.tg_isa.specs.Items as items;
+ghost use Rattle.tg_asm_text.specs.Assembly as assembly;
+ghost use Rattle.tg_asm_text.specs.Items as items;
 ghost use Rattle.tg_asm.specs.Layouts.{IsSmall, layout_of};
 ghost use Rattle.tg_asm.specs.Means.{coded_of};
 ghost use Rattle.tg_asm.specs.Spots.{found_spot, spot_of};
@@ -8,8 +8,10 @@ ghost use Rattle.tg_asm.specs.Spots.{found_spot, spot_of};
 use crate::items::Coded;
 use crate::layouts::Layout;
 use crate::spots::LabelTarget;
-use tg_base::{CODE_BASE, STATICS_BASE, add, mul};
-use tg_isa::{AsmRule, Bits, Mips, Reg, encode};
+use tg_asm_text::AsmRule;
+use tg_base::{add, mul};
+use tg_isa::{Bits, Mips, Reg, encode};
+use tg_state::{CODE_BASE, STATICS_BASE};
 
 /// The place of a spot.
 pub(crate) fn address(layout: &Layout<'_>, spot: LabelTarget) -> u32

@@ -1,6 +1,6 @@
 ghost use Rattle.std.specs.Prelude.{◌≡◌, ◌++◌, ◌∷◌, [], map, replicate, IfOk, OnOk, Ok};
-ghost use Rattle.tg_isa.specs.Assembly as assembly;
-ghost use Rattle.tg_isa.specs.Lines.{lines};
+ghost use Rattle.tg_asm_text.specs.Assembly as assembly;
+ghost use Rattle.tg_asm_text.specs.Lines.{lines};
 ghost use Rattle.tg_asm.specs.Cuts.{operand_of};
 ghost use Rattle.tg_asm.specs.Images.{GivesMade, made_of};
 ghost use Rattle.tg_asm.specs.Layouts.{IsSmall, layout_of};
@@ -24,8 +24,8 @@ use crate::makers::{place_of, word};
 use crate::readings::read_line;
 use byteorder::{ByteOrder, LittleEndian};
 use std::alloc::Global;
+use tg_asm_text::{Keyword, Segment};
 use tg_base::Memory;
-use tg_isa::{Keyword, Segment};
 
 /// The code and the statics, as far as the lines were made.
 #[derive(Drop)]

@@ -1,5 +1,5 @@
 ghost use Rattle.std.specs.Prelude.{◌≡◌, ◌≤◌, ◌<◌, ◌^◌, ◌-◌, ◌%◌, if◌then◌else◌};
-ghost use Rattle.tg_isa.specs.Operands as operands;
+ghost use Rattle.tg_asm_text.specs.Operands as operands;
 ghost use Rattle.tg_asm.specs.Numbers.{found_number, signed_of};
 
 use tg_isa::Bits;

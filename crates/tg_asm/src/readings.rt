@@ -1,5 +1,5 @@
 ghost use Rattle.std.specs.Prelude.{◌≡◌, Some};
-ghost use Rattle.tg_isa.specs.Assembly as assembly;
+ghost use Rattle.tg_asm_text.specs.Assembly as assembly;
 ghost use Rattle.tg_asm.specs.Cuts.{cut_of};
 ghost use Rattle.tg_asm.specs.Means.{GivesMeant};
 ghost use Rattle.tg_asm.specs.Readings.{reading_of};
@@ -9,7 +9,7 @@ use crate::faults::Refused;
 use crate::items::{Item, read_item};
 use crate::words::{keyword, stands_in};
 use std::alloc::Global;
-use tg_isa::{AsmRule, Segment};
+use tg_asm_text::{AsmRule, Segment};
 
 /// A line, which begins with its labels, and its item.
 #[derive(Drop)]

@@ -1,5 +1,5 @@
 ghost use Rattle.std.specs.Prelude.{◌≡◌, IfSome, ◌<◌};
-ghost use Rattle.tg_isa.specs.Operands as operands;
+ghost use Rattle.tg_asm_text.specs.Operands as operands;
 
 use crate::numbers::number;
 use tg_isa::{Reg, name};

@@ -1,9 +1,10 @@
 ghost use Rattle.std.specs.Prelude.{◌≡◌};
-ghost use Rattle.tg_isa.specs.Items as items;
+ghost use Rattle.tg_asm_text.specs.Items as items;
 ghost use Rattle.tg_asm.specs.Registers.{fields_of};
 
 use crate::fields::Fields;
-use tg_isa::{Bits, Keyword, Mips, Reg};
+use tg_asm_text::Keyword;
+use tg_isa::{Bits, Mips, Reg};
 
 /// The row of the table that an instruction is. A label's field is 0 in it.
 pub(crate) fn row(keyword: Keyword, fields: &Fields<'_>) -> Mips

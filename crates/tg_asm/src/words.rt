@@ -1,13 +1,13 @@
 ghost use Rattle.std.specs.Prelude.{◌≡◌, ◌≢◌, MatchOption};
-ghost use Rattle.tg_isa.specs.Items as items;
-ghost use Rattle.tg_isa.specs.Items.{spelling};
-ghost use Rattle.tg_isa.specs.Operands.{is_within};
-ghost use Rattle.tg_isa.specs.declared.keywords.Keyword.{Keyword};
+ghost use Rattle.tg_asm_text.specs.Items as items;
+ghost use Rattle.tg_asm_text.specs.Items.{spelling};
+ghost use Rattle.tg_asm_text.specs.Operands.{is_within};
+ghost use Rattle.tg_asm_text.specs.declared.keywords.Keyword.{Keyword};
 ghost use Rattle.tg_asm.specs.Numbers.{signed_of};
 
 use crate::numbers::Signed;
-use tg_base::MOST_BYTES;
-use tg_isa::{Keyword, Segment, Slot};
+use tg_asm_text::{Keyword, Segment, Slot};
+use tg_state::MOST_BYTES;
 
 /// The item that a word is spelled as.
 fn spelled(text: &[u8]) -> Option<Keyword>

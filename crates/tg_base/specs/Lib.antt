@@ -1,6 +1,4 @@
 pub mod Words
-pub mod State
-pub mod Services
 pub mod Causes
 pub mod Files
 pub mod Lines

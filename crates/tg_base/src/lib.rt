@@ -1,11 +1,10 @@
-//! What every layer shares: places, names, words of 32 bits, the state of the machine, and the
-//! outside. Promises exact numbers and texts, and objects in memory that fail only where they were
-//! told to. The definitions of words, of the machine's state and of its services stand in `specs/`.
+//! What every layer shares: places, names, words of 32 bits, and the outside. Promises exact
+//! numbers and texts, and objects in memory that fail only where they were told to. The definitions
+//! of words stand in `specs/`.
 #![tactic(auto)]
 
 mod arithmetic;
 mod decimals;
-mod ends;
 mod faults;
 mod holding;
 mod ids;
@@ -15,7 +14,6 @@ mod numbering;
 mod outside;
 mod places;
 mod products;
-mod regions;
 mod shelves;
 mod sinks;
 mod sources;
@@ -23,7 +21,6 @@ mod tallies;
 
 pub use arithmetic::{add, less_signed, less_unsigned, mul, quot, sub};
 pub use decimals::decimal;
-pub use ends::RunEnd;
 pub use faults::{Failed, Memory};
 pub use holding::keep_with;
 pub use ids::{Label, Name, Span, Temp};
@@ -33,9 +30,6 @@ pub use numbering::Names;
 pub use outside::{Shelf, ShelfFault, Sink, Source, write_all};
 pub use places::Place;
 pub use products::product_in_range;
-pub use regions::{
-    CODE_BASE, HEAP_BASE, MOST_BYTES, MOST_WORDS, STACK_REACH, STACK_TOP, STATICS_BASE,
-};
 pub use shelves::{MapShelf, PlainShelf};
 pub use sinks::RoomSink;
 pub use sources::{ListSource, PlainSource};

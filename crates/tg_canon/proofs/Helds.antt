@@ -3,8 +3,8 @@ use Rattle.std.proofs.Common.{◌≡◌, ◌⊎◌, ⊎_elim, inl, inr, ℕ, zer
 use Rattle.std.proofs.Common.{ap, ◌∙◌, subst, arith}
 use Rattle.std.proofs.lemmas.Bool.{le-leb, lt-leb}
 use Rattle.std.proofs.lemmas.Bool.Decides.{leb_tells}
-use Rattle.tg_runs.specs.Ran.{Wrong}
-use Rattle.tg_runs.proofs.Simulations.{simulates_stopping, simulates_writing, simulates_turn, simulates_less}
+use Rattle.tg_simulation.specs.Ran.{Wrong}
+use Rattle.tg_simulation.proofs.Simulations.{simulates_stopping, simulates_writing, simulates_turn, simulates_less}
 use Rattle.tg_tree.specs.declared.operators.Bin.{Bin}
 use Rattle.tg_tree.specs.Tree.{Tx, Const, Address, Temp, FrameAddress, Binary, Load, LoadByte, Call, Service, After, Move}
 use Rattle.tg_tree.specs.Operators.{operate}

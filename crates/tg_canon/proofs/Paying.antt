@@ -1,9 +1,9 @@
 -- Work before the pass pays for work behind it, unit for unit.
 use Rattle.std.proofs.Common.{◌≡◌, ℕ, ◌+◌, ◌≤◌, sym, subst, arith}
-use Rattle.tg_runs.specs.Runs.{Run}
-use Rattle.tg_runs.specs.Ran.{Ran}
-use Rattle.tg_runs.specs.Simulating.{Simulates}
-use Rattle.tg_runs.proofs.Simulations.{simulates_trading, simulates_unpaid, simulates_reworking, simulates_untraded, simulates_with_credit}
+use Rattle.tg_simulation.specs.Runs.{Run}
+use Rattle.tg_simulation.specs.Ran.{Ran}
+use Rattle.tg_simulation.specs.Simulating.{Simulates}
+use Rattle.tg_simulation.proofs.Simulations.{simulates_trading, simulates_unpaid, simulates_reworking, simulates_untraded, simulates_with_credit}
 use Rattle.tg_tree.specs.Actions.{charged}
 use Rattle.tg_tree.proofs.FlatValues.{works_none, works_add}
 

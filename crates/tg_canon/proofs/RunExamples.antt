@@ -1,9 +1,9 @@
 -- Programs run before and behind the pass, computed.
 use Rattle.std.proofs.Common.{◌≡◌, ℕ, ◌-◌, List, [], ◌∷◌, refl}
 use Rattle.std.specs.Prelude.{pos}
-use Rattle.tg_base.specs.declared.ends.RunEnd.TheVariants.{Exit}
-use Rattle.tg_base.specs.State.{stack_top}
-use Rattle.tg_runs.specs.Ran.{Ran, Stop, Ended}
+use Rattle.tg_state.specs.declared.ends.RunEnd.TheVariants.{Exit}
+use Rattle.tg_state.specs.State.{stack_top}
+use Rattle.tg_simulation.specs.Ran.{Ran, Stop, Ended}
 use Rattle.tg_tree.specs.declared.operators.Bin.TheVariants.{Add}
 use Rattle.tg_tree.specs.declared.operators.Rel.TheVariants.{Less, Equal}
 use Rattle.tg_tree.specs.Tree.{Tx, Const, Temp, Binary, Load, Call, Service, no_txs, Compare, Both, Either, Ts, Move, Store, Do, If, Loop, Break}

@@ -1,7 +1,7 @@
 -- A function in canonical form is no longer, and what is drawn for it has room in its tree: where the induction over trees is at rest.
 use Rattle.std.proofs.Common.{ℕ, ◌+◌, ◌≤◌, [], arith}
-use Rattle.tg_runs.specs.Ran.{Wrong}
-use Rattle.tg_runs.proofs.Simulations.{simulates_stopping}
+use Rattle.tg_simulation.specs.Ran.{Wrong}
+use Rattle.tg_simulation.proofs.Simulations.{simulates_stopping}
 use Rattle.tg_tree.specs.Tree.{Ts, Move, Store, StoreByte, Do, If, Loop, Break, Fault, Seq, Return, Function}
 use Rattle.tg_tree.specs.Units.{Canonical}
 use Rattle.tg_tree.specs.Sizes.{statements_length, statements_room, in_canonical, tree_length, tree_room, canonical_length, canonical_room}

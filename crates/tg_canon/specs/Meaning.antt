@@ -1,7 +1,7 @@
 -- What the pass promises of runs: its statements do what the bodies did.
 use Rattle.std.specs.Prelude.{ℕ, ◌+◌, ◌≤◌, List, [], map}
 use Rattle.std.specs.List.{Contains}
-use Rattle.tg_runs.specs.Preserving.{Preserves}
+use Rattle.tg_simulation.specs.Preserving.{Preserves}
 use Rattle.tg_tree.specs.Tree.{Ts, Stms, Seq, Function, Literal, Code}
 use Rattle.tg_tree.specs.Units.{Stage, Trees, Canonical, marked_entry_units}
 use Rattle.tg_tree.specs.Running.{Runner, run_body, going, tree_run, in_sequence, canonical_run}

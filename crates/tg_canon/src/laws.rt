@@ -30,7 +30,7 @@ pub fn names_stay()
 
 /// The laws of runs: each body's statements do what the body did, with no more work, wherever calls
 /// do what they did. So calls of the functions of a code do, and programs.
-pub fn meaning_stays()
+pub fn canon_is_correct()
     ensures bodies { BodiesAreCarried }
     ensures calls { CallsAreCarried }
     ensures programs { ProgramsArePreserved }

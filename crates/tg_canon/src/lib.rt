@@ -14,4 +14,4 @@ mod supply;
 mod tested;
 
 pub use bodies::linearize;
-pub use laws::{canonical_statements, meaning_stays, names_stay, sizes_stay};
+pub use laws::{canon_is_correct, canonical_statements, names_stay, sizes_stay};

@@ -1,7 +1,7 @@
 -- How the program ends.
 use Rattle.std.specs.Prelude.{◌≡◌, ◌⊎◌, ℕ, List, None}
 use Rattle.tg_base.specs.Causes.{Rose}
-use Rattle.tg_rounds.specs.Policies.{least_use}
+use Rattle.tg_irc.specs.Policies.{least_use}
 use Rattle.tg_watch.specs.Watching.{Report}
 use Rattle.tg_driver.specs.Calls.{Stream, stream_of, shelf_of, call_of}
 use Rattle.tg_driver.specs.Answered.{Answers}

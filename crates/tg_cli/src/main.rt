@@ -20,7 +20,7 @@ use std::io::{self, ErrorKind, Write};
 use std::process::ExitCode;
 use tg_base::{Sink, write_all};
 use tg_driver::{Tools, tiger, usage};
-use tg_rounds::LeastUse;
+use tg_irc::LeastUse;
 use tg_watch::{Coverage, Profile, Trace, Watcher};
 
 fn main(rt: HostRuntime) -> ExitCode {

@@ -5,14 +5,14 @@ use Rattle.std.specs.Prelude.{◌==◌, nat_lt, filter}
 use Rattle.std.specs.List.{range_with_len}
 use Rattle.std.proofs.lemmas.Bool.{cases_lt, lt-ltb, le-ltb, ltb-false}
 use Rattle.std.proofs.lemmas.List.{get_or-map, length-map}
-use Rattle.tg_rounds.specs.declared.candidates.Candidate.{Candidate}
-use Rattle.tg_rounds.specs.declared.steps.Step.TheVariants.{Spill}
-use Rattle.tg_rounds.specs.Graphs.{Set, degree, is_register, some}
-use Rattle.tg_rounds.specs.Policies.{candidate_at}
-use Rattle.tg_rounds.specs.States.{Problem, problem, remains}
-use Rattle.tg_rounds.specs.Steps as steps
-use Rattle.tg_rounds.specs.Steps.{can, is_allowed}
-use Rattle.tg_rounds.proofs.Deciding.{clash, both, and_true, either, or_left, or_right, tells, same_node, same_test, some_is, not_true}
+use Rattle.tg_irc.specs.declared.candidates.Candidate.{Candidate}
+use Rattle.tg_irc.specs.declared.steps.Step.TheVariants.{Spill}
+use Rattle.tg_irc.specs.Graphs.{Set, degree, is_register, some}
+use Rattle.tg_irc.specs.Policies.{candidate_at}
+use Rattle.tg_irc.specs.States.{Problem, problem, remains}
+use Rattle.tg_irc.specs.Steps as steps
+use Rattle.tg_irc.specs.Steps.{can, is_allowed}
+use Rattle.tg_irc.proofs.Deciding.{clash, both, and_true, either, or_left, or_right, tells, same_node, same_test, some_is, not_true}
 use Rattle.tg_graph.specs.Interference.{is_among}
 use Rattle.tg_graph.proofs.Members.{among_below, among_above}
 use Rattle.tg_coalesce.specs.Works.{Work, degree_at, is_left, is_open}

@@ -7,7 +7,7 @@ use Rattle.std.proofs.lemmas.Bool.{cases_eq, cases_lt, lt-ltb, le-ltb}
 use Rattle.std.proofs.lemmas.List.{length-set}
 use Rattle.std.proofs.lemmas.List.Elements.{All-append, All-nil, All-set}
 use Rattle.std.proofs.lemmas.List.Folds.{list_any-append}
-use Rattle.tg_rounds.proofs.Deciding.{both, never, same_node, same_test}
+use Rattle.tg_irc.proofs.Deciding.{both, never, same_node, same_test}
 use Rattle.tg_graph.specs.Interference.{is_among}
 use Rattle.tg_coalesce.specs.Lists.{list_at, set_at_all}
 use Rattle.tg_coalesce.specs.Groupings.{Grouping, IsGrouping}

@@ -7,9 +7,9 @@ use Rattle.std.proofs.lemmas.Bool.{cond-true}
 use Rattle.std.proofs.lemmas.List.{get_or-set_same, get_or-set_other}
 use Rattle.std.proofs.lemmas.List.Elements.{filter_agree}
 use Rattle.std.proofs.lemmas.List.Sums.{sum_by-cons}
-use Rattle.tg_rounds.specs.Graphs.{Set, every}
-use Rattle.tg_rounds.specs.States.{Problem, RoundState, mark_at, all_made}
-use Rattle.tg_rounds.proofs.Deciding.{clash, never, same_node, same_test}
+use Rattle.tg_irc.specs.Graphs.{Set, every}
+use Rattle.tg_irc.specs.States.{Problem, RoundState, mark_at, all_made}
+use Rattle.tg_irc.proofs.Deciding.{clash, never, same_node, same_test}
 use Rattle.tg_coalesce.specs.Groupings.{is_made}
 use Rattle.tg_coalesce.specs.Works.{Work, is_left, alias_of}
 use Rattle.tg_coalesce.specs.Standing.{state_of, IsOrderly, IsRunOf}

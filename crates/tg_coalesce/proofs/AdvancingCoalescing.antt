@@ -3,18 +3,18 @@ use Rattle.std.proofs.Common.{◌≡◌, ◌≢◌, ℕ, ◌+◌, ◌<◌, ◌�
 use Rattle.std.proofs.Common.{length, Some, refl, sym, ap, subst, ◌∙◌, arith, ⊎_elim}
 use Rattle.std.specs.Prelude.{◌==◌, nat_lt, nat_eq, slice_get, if◌then◌else◌, IsFalse}
 use Rattle.std.proofs.lemmas.Bool.{cases_eq, ltb-true, ltb-false}
-use Rattle.tg_rounds.specs.declared.moves.MoveState.{MoveState}
-use Rattle.tg_rounds.specs.declared.moves.MoveState.TheVariants.{Coalesced}
-use Rattle.tg_rounds.specs.Graphs.{bit, count, without}
-use Rattle.tg_rounds.specs.States.{Problem, RoundState, problem, low}
-use Rattle.tg_rounds.specs.States as states
-use Rattle.tg_rounds.specs.Steps.{can_move, after, settle, merge}
-use Rattle.tg_rounds.specs.Degrees.{degree_of}
-use Rattle.tg_rounds.specs.Waiting.{is_woken}
-use Rattle.tg_rounds.proofs.Deciding.{clash, both, and_true, or_false, never}
-use Rattle.tg_rounds.proofs.Deciding.{not_true, from_false, same_node, same_test, some_is}
-use Rattle.tg_rounds.proofs.Degrees.{merged_is_less, merged_is_more}
-use Rattle.tg_rounds.proofs.Waiting.{waiting_fails}
+use Rattle.tg_irc.specs.declared.moves.MoveState.{MoveState}
+use Rattle.tg_irc.specs.declared.moves.MoveState.TheVariants.{Coalesced}
+use Rattle.tg_irc.specs.Graphs.{bit, count, without}
+use Rattle.tg_irc.specs.States.{Problem, RoundState, problem, low}
+use Rattle.tg_irc.specs.States as states
+use Rattle.tg_irc.specs.Steps.{can_move, after, settle, merge}
+use Rattle.tg_irc.specs.Degrees.{degree_of}
+use Rattle.tg_irc.specs.Waiting.{is_woken}
+use Rattle.tg_irc.proofs.Deciding.{clash, both, and_true, or_false, never}
+use Rattle.tg_irc.proofs.Deciding.{not_true, from_false, same_node, same_test, some_is}
+use Rattle.tg_irc.proofs.Degrees.{merged_is_less, merged_is_more}
+use Rattle.tg_irc.proofs.Waiting.{waiting_fails}
 use Rattle.tg_graph.specs.Interference.{Interference, is_among, is_register, interferes}
 use Rattle.tg_graph.specs.Lists.{Lists}
 use Rattle.tg_graph.proofs.Joining.{either_way}

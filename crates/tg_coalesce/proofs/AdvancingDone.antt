@@ -6,16 +6,16 @@ use Rattle.std.specs.List.{range_with_len}
 use Rattle.std.proofs.lemmas.Bool.{lt-ltb}
 use Rattle.std.proofs.lemmas.List.{get_or-map, get_or_default, same_lists, length-map, nil_from_length}
 use Rattle.std.proofs.lemmas.List.FromFn.{length-range_with_len, get_or-range_with_len}
-use Rattle.tg_rounds.specs.declared.moves.MoveState.{MoveState}
-use Rattle.tg_rounds.specs.declared.moves.MoveState.TheVariants.{Ready}
-use Rattle.tg_rounds.specs.Graphs.{some}
-use Rattle.tg_rounds.specs.States.{Problem, RoundState, start, remains, is_ready_or_waiting}
-use Rattle.tg_rounds.specs.States as states
-use Rattle.tg_rounds.specs.Steps.{can_move, is_over}
-use Rattle.tg_rounds.specs.Selection.{select}
-use Rattle.tg_rounds.specs.Rounds.{listed, IsRound}
-use Rattle.tg_rounds.proofs.Deciding.{clash, both, and_true, never, neither, not_true, same_node, same_test, some_is}
-use Rattle.tg_rounds.proofs.Running.{nothing_left_is_over}
+use Rattle.tg_irc.specs.declared.moves.MoveState.{MoveState}
+use Rattle.tg_irc.specs.declared.moves.MoveState.TheVariants.{Ready}
+use Rattle.tg_irc.specs.Graphs.{some}
+use Rattle.tg_irc.specs.States.{Problem, RoundState, start, remains, is_ready_or_waiting}
+use Rattle.tg_irc.specs.States as states
+use Rattle.tg_irc.specs.Steps.{can_move, is_over}
+use Rattle.tg_irc.specs.Selection.{select}
+use Rattle.tg_irc.specs.Rounds.{listed, IsRound}
+use Rattle.tg_irc.proofs.Deciding.{clash, both, and_true, never, neither, not_true, same_node, same_test, some_is}
+use Rattle.tg_irc.proofs.Running.{nothing_left_is_over}
 use Rattle.tg_graph.specs.Interference.{is_among}
 use Rattle.tg_graph.specs.Lists.{nodes_in, number}
 use Rattle.tg_coalesce.specs.Tables.{state_at, is_related}

@@ -5,8 +5,8 @@ use Rattle.std.specs.Prelude.{◌==◌, nat_eq, nat_lt, count_by}
 use Rattle.std.proofs.lemmas.Bool.{cases_eq, ltb-true}
 use Rattle.std.proofs.lemmas.List.Elements.{All-append, All-nil}
 use Rattle.std.proofs.lemmas.List.Sums.{sum_by-append}
-use Rattle.tg_rounds.specs.Graphs.{bit}
-use Rattle.tg_rounds.proofs.Deciding.{clash, same_node}
+use Rattle.tg_irc.specs.Graphs.{bit}
+use Rattle.tg_irc.proofs.Deciding.{clash, same_node}
 use Rattle.tg_coalesce.specs.Lists.{list_at}
 use Rattle.tg_coalesce.specs.Tables.{Table, IsTable, move_at, is_unsettled, is_related}
 use Rattle.tg_coalesce.specs.Tables as tables

@@ -1,9 +1,9 @@
 -- Freeze.
 use Rattle.std.proofs.Common.{◌≡◌, ℕ, ◌<◌, true, List, [], refl, sym, subst, ◌∙◌, arith}
 use Rattle.std.specs.Prelude.{◌==◌}
-use Rattle.tg_rounds.specs.declared.moves.MoveState.{MoveState}
-use Rattle.tg_rounds.specs.declared.steps.Step.TheVariants.{Freeze}
-use Rattle.tg_rounds.specs.Steps.{can, freeze}
+use Rattle.tg_irc.specs.declared.moves.MoveState.{MoveState}
+use Rattle.tg_irc.specs.declared.steps.Step.TheVariants.{Freeze}
+use Rattle.tg_irc.specs.Steps.{can, freeze}
 use Rattle.tg_graph.specs.declared.worklists.Worklist.TheVariants as worklists
 use Rattle.tg_graph.specs.Lists.{Lists, number}
 use Rattle.tg_coalesce.specs.Works.{Work, is_open, list_of, stepped}

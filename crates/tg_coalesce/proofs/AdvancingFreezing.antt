@@ -3,13 +3,13 @@ use Rattle.std.proofs.Common.{◌≡◌, ◌≢◌, ℕ, ◌<◌, ◌≤◌, Boo
 use Rattle.std.proofs.Common.{◌∷◌, length, refl, sym, ap, subst, ◌∙◌, arith, ⊎_elim}
 use Rattle.std.specs.Prelude.{◌==◌, nat_lt, fold, if◌then◌else◌}
 use Rattle.std.proofs.lemmas.Bool.{cases_eq, cases_lt, le-ltb, cond-true, cond-false}
-use Rattle.tg_rounds.specs.declared.moves.MoveState.{MoveState}
-use Rattle.tg_rounds.specs.declared.moves.MoveState.TheVariants.{Ready, Waiting, Coalesced, Constrained, Frozen}
-use Rattle.tg_rounds.specs.Graphs.{Set}
-use Rattle.tg_rounds.specs.States.{touches, is_ready_or_waiting}
-use Rattle.tg_rounds.specs.States as states
-use Rattle.tg_rounds.specs.Steps.{freeze}
-use Rattle.tg_rounds.proofs.Deciding.{clash, both, and_true, or_left, or_right, never, same_node, same_test}
+use Rattle.tg_irc.specs.declared.moves.MoveState.{MoveState}
+use Rattle.tg_irc.specs.declared.moves.MoveState.TheVariants.{Ready, Waiting, Coalesced, Constrained, Frozen}
+use Rattle.tg_irc.specs.Graphs.{Set}
+use Rattle.tg_irc.specs.States.{touches, is_ready_or_waiting}
+use Rattle.tg_irc.specs.States as states
+use Rattle.tg_irc.specs.Steps.{freeze}
+use Rattle.tg_irc.proofs.Deciding.{clash, both, and_true, or_left, or_right, never, same_node, same_test}
 use Rattle.tg_graph.specs.Interference.{is_among, interferes}
 use Rattle.tg_graph.specs.Lists.{Lists}
 use Rattle.tg_coalesce.specs.Lists.{list_at}

@@ -5,8 +5,8 @@ use Rattle.std.specs.Prelude.{◌==◌, nat_eq, nat_lt, fold, if◌then◌else�
 use Rattle.std.specs.List.{IsDistinct}
 use Rattle.std.proofs.lemmas.Bool.{cases_eq, cases_lt, lt-ltb, le-ltb}
 use Rattle.std.proofs.lemmas.List.{get_or_past, get_or-set_same, get_or-set_other, length-set}
-use Rattle.tg_rounds.specs.Graphs.{Set, bit}
-use Rattle.tg_rounds.proofs.Deciding.{clash, either, or_left, or_right, never, same_node, same_test}
+use Rattle.tg_irc.specs.Graphs.{Set, bit}
+use Rattle.tg_irc.proofs.Deciding.{clash, either, or_left, or_right, never, same_node, same_test}
 use Rattle.tg_graph.specs.Interference.{Interference, is_among, is_register, neighbours}
 use Rattle.tg_graph.specs.Lists.{Lists, number}
 use Rattle.tg_coalesce.specs.Lists.{list_at, lowered}

@@ -5,16 +5,16 @@ use Rattle.std.specs.Prelude.{◌==◌, nat_lt, nat_eq, count_by}
 use Rattle.std.specs.List.{IsDistinct}
 use Rattle.std.proofs.lemmas.Bool.{lt-ltb}
 use Rattle.std.proofs.lemmas.Map.Steps.{length-le_from_distinct_below}
-use Rattle.tg_rounds.specs.declared.moves.Move.{Move}
-use Rattle.tg_rounds.specs.declared.moves.MoveState.{MoveState}
-use Rattle.tg_rounds.specs.declared.moves.MoveState.TheVariants.{Ready}
-use Rattle.tg_rounds.specs.declared.steps.Step.{Step}
-use Rattle.tg_rounds.specs.Graphs.{Set, bit, count}
-use Rattle.tg_rounds.specs.States.{RoundState, remains, is_ready_or_waiting}
-use Rattle.tg_rounds.specs.States as states
-use Rattle.tg_rounds.specs.Steps.{can, after}
-use Rattle.tg_rounds.specs.Laws.{work_left}
-use Rattle.tg_rounds.proofs.Shrinking.{steps_shrink}
+use Rattle.tg_irc.specs.declared.moves.Move.{Move}
+use Rattle.tg_irc.specs.declared.moves.MoveState.{MoveState}
+use Rattle.tg_irc.specs.declared.moves.MoveState.TheVariants.{Ready}
+use Rattle.tg_irc.specs.declared.steps.Step.{Step}
+use Rattle.tg_irc.specs.Graphs.{Set, bit, count}
+use Rattle.tg_irc.specs.States.{RoundState, remains, is_ready_or_waiting}
+use Rattle.tg_irc.specs.States as states
+use Rattle.tg_irc.specs.Steps.{can, after}
+use Rattle.tg_irc.specs.Laws.{work_left}
+use Rattle.tg_irc.proofs.Shrinking.{steps_shrink}
 use Rattle.tg_graph.specs.declared.worklists.Worklist.{Worklist}
 use Rattle.tg_graph.specs.declared.worklists.Worklist.TheVariants as worklists
 use Rattle.tg_graph.specs.Interference.{is_among, is_register}

@@ -7,9 +7,9 @@ use Rattle.std.specs.List.{IsDistinct, AllByRecursion, list_any}
 use Rattle.std.proofs.lemmas.List.Sums.{sum_by-cons}
 use Rattle.std.proofs.lemmas.List.Folds.{list_any_at}
 use Rattle.tg_graph.specs.Interference.{is_among}
-use Rattle.tg_rounds.specs.Graphs.{Set, bit, count, without}
-use Rattle.tg_rounds.proofs.Deciding.{clash, both, and_true, either, or_left, or_right, tells, same_node, same_test}
-use Rattle.tg_rounds.proofs.Counting.{count_le, count_out, stays_in, was_in}
+use Rattle.tg_irc.specs.Graphs.{Set, bit, count, without}
+use Rattle.tg_irc.proofs.Deciding.{clash, both, and_true, either, or_left, or_right, tells, same_node, same_test}
+use Rattle.tg_irc.proofs.Counting.{count_le, count_out, stays_in, was_in}
 
 pub one_bit : {b : Bool} → b ≡ true → bit b ≡ 1
 one_bit e = ap bit e

@@ -4,14 +4,14 @@ use Rattle.std.proofs.Common.{List, length, All, refl, sym, ap, subst, ◌∙◌
 use Rattle.std.specs.Prelude.{◌==◌, nat_lt, count_by, if◌then◌else◌}
 use Rattle.std.proofs.lemmas.Bool.{cases_eq, cases_lt, lt-ltb}
 use Rattle.std.proofs.lemmas.List.{get_or_past, get_or_default}
-use Rattle.tg_rounds.specs.declared.moves.MoveState.{MoveState}
-use Rattle.tg_rounds.specs.Graphs.{Set, bit, count, degree, without}
-use Rattle.tg_rounds.specs.Graphs as graphs
-use Rattle.tg_rounds.specs.States.{RoundState}
-use Rattle.tg_rounds.specs.Steps.{merge, can_move}
-use Rattle.tg_rounds.specs.Laws.{is_stacked}
-use Rattle.tg_rounds.specs.Degrees.{degree_of}
-use Rattle.tg_rounds.proofs.Deciding.{clash, both, and_true, neither, never, not_true, same_node, same_test}
+use Rattle.tg_irc.specs.declared.moves.MoveState.{MoveState}
+use Rattle.tg_irc.specs.Graphs.{Set, bit, count, degree, without}
+use Rattle.tg_irc.specs.Graphs as graphs
+use Rattle.tg_irc.specs.States.{RoundState}
+use Rattle.tg_irc.specs.Steps.{merge, can_move}
+use Rattle.tg_irc.specs.Laws.{is_stacked}
+use Rattle.tg_irc.specs.Degrees.{degree_of}
+use Rattle.tg_irc.proofs.Deciding.{clash, both, and_true, neither, never, not_true, same_node, same_test}
 use Rattle.tg_graph.specs.declared.worklists.Worklist.TheVariants as worklists
 use Rattle.tg_graph.specs.Interference.{Interference, is_among, is_register, interferes, neighbours, most_nodes}
 use Rattle.tg_graph.specs.Lists.{Lists}

@@ -3,8 +3,8 @@ use Rattle.std.proofs.Common.{◌≡◌, ◌≢◌, ℕ, ◌+◌, ◌-◌, ◌<�
 use Rattle.std.proofs.Common.{get_or, refl, sym, ap, subst, ◌∙◌, ⊎_elim}
 use Rattle.std.specs.Prelude.{◌==◌, nat_lt, count_by, fold}
 use Rattle.std.proofs.lemmas.Bool.{cases_eq, ltb-false}
-use Rattle.tg_rounds.specs.Graphs.{bit}
-use Rattle.tg_rounds.proofs.Deciding.{clash, both, and_true, not_true}
+use Rattle.tg_irc.specs.Graphs.{bit}
+use Rattle.tg_irc.proofs.Deciding.{clash, both, and_true, not_true}
 use Rattle.tg_graph.specs.declared.worklists.Worklist.TheVariants as worklists
 use Rattle.tg_graph.specs.Interference.{IsGraph, is_among, is_register, interferes, neighbours}
 use Rattle.tg_graph.specs.Lists.{number, moved}

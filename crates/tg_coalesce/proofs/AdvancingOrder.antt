@@ -4,13 +4,13 @@ use Rattle.std.proofs.Common.{length, get_or, refl, sym, ap, subst, ◌∙◌, a
 use Rattle.std.specs.Prelude.{◌==◌, nat_eq, nat_lt}
 use Rattle.std.proofs.lemmas.Bool.{ltb-true, lt-ltb}
 use Rattle.std.proofs.lemmas.List.{get_or_default}
-use Rattle.tg_rounds.specs.declared.moves.Move.{Move}
-use Rattle.tg_rounds.specs.Graphs.{bit}
-use Rattle.tg_rounds.specs.States.{Problem, RoundState, remains, is_move_related, touches, is_ready_or_waiting, low}
-use Rattle.tg_rounds.specs.States as states
-use Rattle.tg_rounds.specs.Laws.{IsSound}
-use Rattle.tg_rounds.proofs.Deciding.{both, and_true, either, or_left, or_right}
-use Rattle.tg_rounds.proofs.Deciding.{same_node, same_test, some_is}
+use Rattle.tg_irc.specs.declared.moves.Move.{Move}
+use Rattle.tg_irc.specs.Graphs.{bit}
+use Rattle.tg_irc.specs.States.{Problem, RoundState, remains, is_move_related, touches, is_ready_or_waiting, low}
+use Rattle.tg_irc.specs.States as states
+use Rattle.tg_irc.specs.Laws.{IsSound}
+use Rattle.tg_irc.proofs.Deciding.{both, and_true, either, or_left, or_right}
+use Rattle.tg_irc.proofs.Deciding.{same_node, same_test, some_is}
 use Rattle.tg_graph.specs.Interference.{is_among, is_register}
 use Rattle.tg_graph.proofs.Joining.{either_way, not_itself}
 use Rattle.tg_coalesce.specs.Lists.{list_at}

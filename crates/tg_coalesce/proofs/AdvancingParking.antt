@@ -4,14 +4,14 @@ use Rattle.std.proofs.Common.{length, drop, Some, refl, sym, ap, subst, ◌∙�
 use Rattle.std.specs.Prelude.{◌==◌, slice_get}
 use Rattle.std.proofs.lemmas.Bool.{cases_eq}
 use Rattle.std.proofs.lemmas.List.{get_or-set_same, get_or-set_other, length-set}
-use Rattle.tg_rounds.specs.declared.moves.MoveState.TheVariants.{Ready, Waiting}
-use Rattle.tg_rounds.specs.Graphs.{is_register}
-use Rattle.tg_rounds.specs.States.{is_ready_or_waiting}
-use Rattle.tg_rounds.specs.States as states
-use Rattle.tg_rounds.specs.Steps.{can_move}
-use Rattle.tg_rounds.specs.Steps as steps
-use Rattle.tg_rounds.specs.Laws.{work_left}
-use Rattle.tg_rounds.proofs.Deciding.{clash, both, never, same_test}
+use Rattle.tg_irc.specs.declared.moves.MoveState.TheVariants.{Ready, Waiting}
+use Rattle.tg_irc.specs.Graphs.{is_register}
+use Rattle.tg_irc.specs.States.{is_ready_or_waiting}
+use Rattle.tg_irc.specs.States as states
+use Rattle.tg_irc.specs.Steps.{can_move}
+use Rattle.tg_irc.specs.Steps as steps
+use Rattle.tg_irc.specs.Laws.{work_left}
+use Rattle.tg_irc.proofs.Deciding.{clash, both, never, same_test}
 use Rattle.tg_graph.specs.Interference.{is_among, interferes}
 use Rattle.tg_coalesce.specs.Tables.{IsTable, state_at, is_waiting, is_unsettled, first_taken, parked}
 use Rattle.tg_coalesce.specs.Works.{Work, to, from}

@@ -3,14 +3,14 @@ use Rattle.std.proofs.Common.{◌≡◌, ℕ, zero, suc, ◌+◌, ◌<◌, ◌�
 use Rattle.std.proofs.Common.{refl, sym, ap, subst, ◌∙◌, arith, ⊎_elim}
 use Rattle.std.specs.Prelude.{◌==◌, nat_lt, if◌then◌else◌}
 use Rattle.std.proofs.lemmas.Bool.{lt-ltb, ltb-false}
-use Rattle.tg_rounds.specs.Graphs.{Set, bit, count, is_register}
-use Rattle.tg_rounds.specs.States.{RoundState, low}
-use Rattle.tg_rounds.specs.Degrees.{degree_of}
-use Rattle.tg_rounds.specs.Steps.{allows, george, briggs, high_neighbours}
-use Rattle.tg_rounds.specs.Steps as steps
-use Rattle.tg_rounds.proofs.Deciding.{both, and_true, either, or_left, tells, not_true}
-use Rattle.tg_rounds.proofs.Deciding.{from_false, not_false, or_false, same_node, same_test}
-use Rattle.tg_rounds.proofs.Deciding.{every_is}
+use Rattle.tg_irc.specs.Graphs.{Set, bit, count, is_register}
+use Rattle.tg_irc.specs.States.{RoundState, low}
+use Rattle.tg_irc.specs.Degrees.{degree_of}
+use Rattle.tg_irc.specs.Steps.{allows, george, briggs, high_neighbours}
+use Rattle.tg_irc.specs.Steps as steps
+use Rattle.tg_irc.proofs.Deciding.{both, and_true, either, or_left, tells, not_true}
+use Rattle.tg_irc.proofs.Deciding.{from_false, not_false, or_false, same_node, same_test}
+use Rattle.tg_irc.proofs.Deciding.{every_is}
 use Rattle.tg_graph.specs.declared.worklists.Worklist.{Worklist}
 use Rattle.tg_graph.specs.declared.worklists.Worklist.TheVariants as worklists
 use Rattle.tg_graph.specs.Interference.{is_among, interferes, neighbours}

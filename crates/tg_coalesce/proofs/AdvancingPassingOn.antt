@@ -2,8 +2,8 @@
 use Rattle.std.proofs.Common.{◌≡◌, ◌≢◌, ℕ, ◌+◌, ◌-◌, ◌≤◌, Bool, true, false, not, ◌&&◌, ◌||◌, List}
 use Rattle.std.proofs.Common.{length, refl, sym, ap, subst, ◌∙◌, arith, ⊎_elim}
 use Rattle.std.specs.Prelude.{◌==◌}
-use Rattle.tg_rounds.specs.Graphs.{Set, bit}
-use Rattle.tg_rounds.proofs.Deciding.{both, or_left, tells, never, not_true, same_node}
+use Rattle.tg_irc.specs.Graphs.{Set, bit}
+use Rattle.tg_irc.proofs.Deciding.{both, or_left, tells, never, not_true, same_node}
 use Rattle.std.proofs.lemmas.Bool.{ltb-false}
 use Rattle.tg_graph.specs.Interference.{Interference, IsGraph, is_among, is_register, interferes}
 use Rattle.tg_graph.specs.Lists.{Lists}

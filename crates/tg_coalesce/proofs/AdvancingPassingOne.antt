@@ -4,8 +4,8 @@ use Rattle.std.proofs.Common.{length, get_or, refl, sym, ap, subst, ◌∙◌, a
 use Rattle.std.specs.Prelude.{◌==◌, nat_eq, nat_lt, count_by, fold, if◌then◌else◌}
 use Rattle.std.specs.List.{IsDistinct}
 use Rattle.std.proofs.lemmas.List.{get_or-set_same, get_or-set_other, length-set}
-use Rattle.tg_rounds.specs.Graphs.{bit}
-use Rattle.tg_rounds.proofs.Deciding.{clash, both, or_left, or_right, never, same_node, same_test}
+use Rattle.tg_irc.specs.Graphs.{bit}
+use Rattle.tg_irc.proofs.Deciding.{clash, both, or_left, or_right, never, same_node, same_test}
 use Rattle.tg_graph.specs.Interference.{IsGraph, is_among, is_register, interferes}
 use Rattle.tg_graph.specs.Lists.{number}
 use Rattle.tg_graph.proofs.Joining.{CanJoin, either_way, joined, interferes_joined, graph_joined}

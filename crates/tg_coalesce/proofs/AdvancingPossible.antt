@@ -1,13 +1,13 @@
 -- Which steps are possible where the work is in order, by its worklists.
 use Rattle.std.proofs.Common.{◌≡◌, ℕ, ◌<◌, Bool, true, false, not, ◌&&◌, List, [], length, refl, sym, ap, subst, ◌∙◌, arith}
 use Rattle.std.specs.Prelude.{◌==◌, nat_lt, IsFalse}
-use Rattle.tg_rounds.specs.declared.steps.Step.TheVariants.{Simplify, Freeze}
-use Rattle.tg_rounds.specs.declared.moves.Move.{Move}
-use Rattle.tg_rounds.specs.States.{Problem, RoundState, problem, remains, is_move_related, low}
-use Rattle.tg_rounds.specs.States as states
-use Rattle.tg_rounds.specs.Steps.{can, can_move}
-use Rattle.tg_rounds.specs.Degrees.{degree_of}
-use Rattle.tg_rounds.proofs.Deciding.{clash, both, and_true, never, from_false, or_false, same_node}
+use Rattle.tg_irc.specs.declared.steps.Step.TheVariants.{Simplify, Freeze}
+use Rattle.tg_irc.specs.declared.moves.Move.{Move}
+use Rattle.tg_irc.specs.States.{Problem, RoundState, problem, remains, is_move_related, low}
+use Rattle.tg_irc.specs.States as states
+use Rattle.tg_irc.specs.Steps.{can, can_move}
+use Rattle.tg_irc.specs.Degrees.{degree_of}
+use Rattle.tg_irc.proofs.Deciding.{clash, both, and_true, never, from_false, or_false, same_node}
 use Rattle.tg_graph.specs.declared.worklists.Worklist.{Worklist}
 use Rattle.tg_graph.specs.declared.worklists.Worklist.TheVariants as worklists
 use Rattle.tg_graph.specs.Interference.{is_among, is_register}

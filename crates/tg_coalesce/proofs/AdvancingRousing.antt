@@ -1,7 +1,7 @@
 -- Waiting moves of work in order are to be tried again.
 use Rattle.std.proofs.Common.{◌≡◌, ℕ, false, List, sym, subst}
-use Rattle.tg_rounds.specs.declared.moves.MoveState.{MoveState}
-use Rattle.tg_rounds.specs.Steps.{can_move}
+use Rattle.tg_irc.specs.declared.moves.MoveState.{MoveState}
+use Rattle.tg_irc.specs.Steps.{can_move}
 use Rattle.tg_graph.specs.Interference.{interferes}
 use Rattle.tg_coalesce.specs.Works.{Work}
 use Rattle.tg_coalesce.specs.Standing.{shown, state_of, IsOrderly}

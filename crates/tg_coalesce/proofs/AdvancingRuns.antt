@@ -2,11 +2,11 @@
 use Rattle.std.proofs.Common.{◌≡◌, ℕ, ◌<◌, true, [], ◌∷◌, ◌++◌, get_or, sym, ap, subst, ◌∙◌}
 use Rattle.std.specs.Prelude.{sum_by}
 use Rattle.std.proofs.lemmas.List.{get_or_default}
-use Rattle.tg_rounds.specs.declared.steps.Step.{Step}
-use Rattle.tg_rounds.specs.States.{Problem, RoundState, start, members, mark_at, all_made}
-use Rattle.tg_rounds.specs.Steps.{after, after_all, IsTaken, AreTaken}
-use Rattle.tg_rounds.proofs.Classes.{Holds, holds_from_start}
-use Rattle.tg_rounds.proofs.Running.{runs_go_on}
+use Rattle.tg_irc.specs.declared.steps.Step.{Step}
+use Rattle.tg_irc.specs.States.{Problem, RoundState, start, members, mark_at, all_made}
+use Rattle.tg_irc.specs.Steps.{after, after_all, IsTaken, AreTaken}
+use Rattle.tg_irc.proofs.Classes.{Holds, holds_from_start}
+use Rattle.tg_irc.proofs.Running.{runs_go_on}
 use Rattle.tg_coalesce.specs.Groupings.{Grouping, is_made}
 use Rattle.tg_coalesce.specs.Works.{Work, alias_of, is_left}
 use Rattle.tg_coalesce.specs.Standing.{state_of, IsSized, IsRunOf}

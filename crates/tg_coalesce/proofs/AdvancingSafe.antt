@@ -3,14 +3,14 @@ use Rattle.std.proofs.Common.{◌≡◌, ◌≢◌, ℕ, ◌<◌, Bool, true, fa
 use Rattle.std.proofs.Common.{length, Some, refl, sym, subst, ◌∙◌, ⊎_elim}
 use Rattle.std.specs.Prelude.{◌==◌, nat_lt, slice_get}
 use Rattle.std.specs.Bool.{beq}
-use Rattle.tg_rounds.specs.declared.steps.Step.{Step}
-use Rattle.tg_rounds.specs.declared.steps.Step.TheVariants.{Coalesce}
-use Rattle.tg_rounds.specs.States.{Problem, RoundState, problem, low}
-use Rattle.tg_rounds.specs.States as states
-use Rattle.tg_rounds.specs.Steps.{can, can_move, after, settle, merge, is_safe, stands_under}
-use Rattle.tg_rounds.specs.Steps as steps
-use Rattle.tg_rounds.proofs.Deciding.{clash, both, and_true, either, never}
-use Rattle.tg_rounds.proofs.Deciding.{same_node, same_test}
+use Rattle.tg_irc.specs.declared.steps.Step.{Step}
+use Rattle.tg_irc.specs.declared.steps.Step.TheVariants.{Coalesce}
+use Rattle.tg_irc.specs.States.{Problem, RoundState, problem, low}
+use Rattle.tg_irc.specs.States as states
+use Rattle.tg_irc.specs.Steps.{can, can_move, after, settle, merge, is_safe, stands_under}
+use Rattle.tg_irc.specs.Steps as steps
+use Rattle.tg_irc.proofs.Deciding.{clash, both, and_true, either, never}
+use Rattle.tg_irc.proofs.Deciding.{same_node, same_test}
 use Rattle.tg_graph.specs.Interference.{is_register, interferes}
 use Rattle.tg_graph.proofs.Joining.{either_way}
 use Rattle.tg_coalesce.specs.Works.{Work, is_left, to, from}

@@ -8,13 +8,13 @@ use Rattle.std.proofs.lemmas.Bool.{cases_eq, cases_lt, cond-true, cond-false}
 use Rattle.std.proofs.lemmas.List.{get_or-map, get_or-set_same, get_or-set_other, length-set}
 use Rattle.std.proofs.lemmas.List.{length-map, length-reverse, get_or-reverse}
 use Rattle.std.proofs.lemmas.List.FromFn.{length-range_with_len, get_or-range_with_len}
-use Rattle.tg_rounds.specs.Graphs.{is_register}
-use Rattle.tg_rounds.specs.States.{Problem, RoundState, members}
-use Rattle.tg_rounds.specs.Selection.{Colouring, has_colour, sees, is_free, pop, select}
-use Rattle.tg_rounds.specs.Selection as rounds
-use Rattle.tg_rounds.specs.Laws.{IsOfClasses}
-use Rattle.tg_rounds.proofs.Deciding.{clash, both, and_true, or_left, or_right, tells, never, same_node, same_test, some_is}
-use Rattle.tg_rounds.proofs.Classes.{pairs_are_of_classes}
+use Rattle.tg_irc.specs.Graphs.{is_register}
+use Rattle.tg_irc.specs.States.{Problem, RoundState, members}
+use Rattle.tg_irc.specs.Selection.{Colouring, has_colour, sees, is_free, pop, select}
+use Rattle.tg_irc.specs.Selection as rounds
+use Rattle.tg_irc.specs.Laws.{IsOfClasses}
+use Rattle.tg_irc.proofs.Deciding.{clash, both, and_true, or_left, or_right, tells, never, same_node, same_test, some_is}
+use Rattle.tg_irc.proofs.Classes.{pairs_are_of_classes}
 use Rattle.tg_graph.specs.Interference.{is_among, neighbours}
 use Rattle.tg_graph.proofs.Joining.{stays_below}
 use Rattle.tg_graph.proofs.Members.{among_within, among_above}

@@ -4,13 +4,13 @@ use Rattle.std.proofs.Common.{length, get_or, refl, sym, ap, subst, ◌∙◌, a
 use Rattle.std.specs.Prelude.{◌==◌, nat_eq, nat_lt, count_by, if◌then◌else◌}
 use Rattle.std.proofs.lemmas.Bool.{cases_eq, ltb-true, lt-ltb, cond-true, cond-false}
 use Rattle.std.proofs.lemmas.List.{get_or-set_same, get_or-set_other, length-set}
-use Rattle.tg_rounds.specs.declared.moves.MoveState.{MoveState}
-use Rattle.tg_rounds.specs.declared.moves.MoveState.TheVariants.{Ready}
-use Rattle.tg_rounds.specs.Graphs.{bit}
-use Rattle.tg_rounds.specs.States.{is_ready_or_waiting}
-use Rattle.tg_rounds.specs.Steps.{can_move, settle}
-use Rattle.tg_rounds.specs.Degrees.{degree_of}
-use Rattle.tg_rounds.proofs.Deciding.{clash, and_true, never, same_node, same_test}
+use Rattle.tg_irc.specs.declared.moves.MoveState.{MoveState}
+use Rattle.tg_irc.specs.declared.moves.MoveState.TheVariants.{Ready}
+use Rattle.tg_irc.specs.Graphs.{bit}
+use Rattle.tg_irc.specs.States.{is_ready_or_waiting}
+use Rattle.tg_irc.specs.Steps.{can_move, settle}
+use Rattle.tg_irc.specs.Degrees.{degree_of}
+use Rattle.tg_irc.proofs.Deciding.{clash, and_true, never, same_node, same_test}
 use Rattle.tg_graph.specs.Interference.{is_among, is_register, interferes}
 use Rattle.tg_graph.specs.Lists.{Lists, number}
 use Rattle.tg_coalesce.specs.Lists.{list_at, lowered}

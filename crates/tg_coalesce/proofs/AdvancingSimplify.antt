@@ -1,13 +1,13 @@
 -- Simplify.
 use Rattle.std.proofs.Common.{◌≡◌, ℕ, ◌<◌, true, false, not, List, length, refl, sym, subst, ◌∙◌, arith}
 use Rattle.std.specs.Prelude.{◌==◌, nat_lt, IsFalse}
-use Rattle.tg_rounds.specs.declared.moves.MoveState.{MoveState}
-use Rattle.tg_rounds.specs.declared.steps.Step.TheVariants.{Simplify}
-use Rattle.tg_rounds.specs.States.{Problem}
-use Rattle.tg_rounds.specs.Steps.{can, can_move, take_out}
-use Rattle.tg_rounds.specs.Waiting.{is_woken}
-use Rattle.tg_rounds.proofs.Deciding.{both, or_left, or_right, not_true, same_test}
-use Rattle.tg_rounds.proofs.Waiting.{waiting_fails}
+use Rattle.tg_irc.specs.declared.moves.MoveState.{MoveState}
+use Rattle.tg_irc.specs.declared.steps.Step.TheVariants.{Simplify}
+use Rattle.tg_irc.specs.States.{Problem}
+use Rattle.tg_irc.specs.Steps.{can, can_move, take_out}
+use Rattle.tg_irc.specs.Waiting.{is_woken}
+use Rattle.tg_irc.proofs.Deciding.{both, or_left, or_right, not_true, same_test}
+use Rattle.tg_irc.proofs.Waiting.{waiting_fails}
 use Rattle.tg_graph.specs.declared.worklists.Worklist.TheVariants as worklists
 use Rattle.tg_graph.specs.Interference.{is_among, neighbours}
 use Rattle.tg_graph.specs.Lists.{Lists, number}

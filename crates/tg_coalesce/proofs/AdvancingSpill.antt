@@ -2,18 +2,18 @@
 use Rattle.std.proofs.Common.{◌≡◌, ℕ, ◌+◌, ◌<◌, ◌≤◌, Bool, true, false, not, ◌&&◌, List, [], length, get_or, refl, sym, ap, subst, ◌∙◌, arith}
 use Rattle.std.specs.Prelude.{◌==◌, IsFalse, if◌then◌else◌}
 use Rattle.std.proofs.lemmas.Bool.{ltb-true}
-use Rattle.tg_rounds.specs.declared.moves.MoveState.{MoveState}
-use Rattle.tg_rounds.specs.declared.moves.MoveState.TheVariants.{Frozen}
-use Rattle.tg_rounds.specs.declared.steps.Step.TheVariants.{Spill}
-use Rattle.tg_rounds.specs.Graphs.{some}
-use Rattle.tg_rounds.specs.Policies.{candidate_at}
-use Rattle.tg_rounds.specs.States.{RoundState, low, is_ready_or_waiting}
-use Rattle.tg_rounds.specs.Steps.{can, can_move, freeze, take_out}
-use Rattle.tg_rounds.specs.Laws.{work_left}
-use Rattle.tg_rounds.specs.Waiting.{is_woken}
-use Rattle.tg_rounds.proofs.Deciding.{clash, or_left, or_right, or_false, never, same_test}
-use Rattle.tg_rounds.proofs.Shrinking.{steps_shrink}
-use Rattle.tg_rounds.proofs.Waiting.{waiting_fails}
+use Rattle.tg_irc.specs.declared.moves.MoveState.{MoveState}
+use Rattle.tg_irc.specs.declared.moves.MoveState.TheVariants.{Frozen}
+use Rattle.tg_irc.specs.declared.steps.Step.TheVariants.{Spill}
+use Rattle.tg_irc.specs.Graphs.{some}
+use Rattle.tg_irc.specs.Policies.{candidate_at}
+use Rattle.tg_irc.specs.States.{RoundState, low, is_ready_or_waiting}
+use Rattle.tg_irc.specs.Steps.{can, can_move, freeze, take_out}
+use Rattle.tg_irc.specs.Laws.{work_left}
+use Rattle.tg_irc.specs.Waiting.{is_woken}
+use Rattle.tg_irc.proofs.Deciding.{clash, or_left, or_right, or_false, never, same_test}
+use Rattle.tg_irc.proofs.Shrinking.{steps_shrink}
+use Rattle.tg_irc.proofs.Waiting.{waiting_fails}
 use Rattle.tg_graph.specs.Interference.{is_among, is_register, neighbours}
 use Rattle.tg_graph.specs.Lists.{Lists}
 use Rattle.tg_graph.proofs.Joining.{either_way}

@@ -3,13 +3,13 @@ use Rattle.std.proofs.Common.{◌≡◌, ℕ, ◌<◌, Bool, true, false, not, �
 use Rattle.std.proofs.Common.{refl, sym, subst, ◌∙◌, ⊎_elim}
 use Rattle.std.specs.Prelude.{if◌then◌else◌}
 use Rattle.std.specs.Bool.{beq}
-use Rattle.tg_rounds.specs.declared.steps.Step.{Step}
-use Rattle.tg_rounds.specs.Graphs.{is_register}
-use Rattle.tg_rounds.specs.States.{Problem, RoundState, start, mark_at, all_made}
-use Rattle.tg_rounds.specs.Steps.{after, after_all, AreTaken, stands_under}
-use Rattle.tg_rounds.specs.Laws.{StandsWell}
-use Rattle.tg_rounds.proofs.Deciding.{clash, and_true, or_left, or_right, from_false, tells}
-use Rattle.tg_rounds.proofs.Standing.{stands_at_start, stands_after, stands_by_mark}
+use Rattle.tg_irc.specs.declared.steps.Step.{Step}
+use Rattle.tg_irc.specs.Graphs.{is_register}
+use Rattle.tg_irc.specs.States.{Problem, RoundState, start, mark_at, all_made}
+use Rattle.tg_irc.specs.Steps.{after, after_all, AreTaken, stands_under}
+use Rattle.tg_irc.specs.Laws.{StandsWell}
+use Rattle.tg_irc.proofs.Deciding.{clash, and_true, or_left, or_right, from_false, tells}
+use Rattle.tg_irc.proofs.Standing.{stands_at_start, stands_after, stands_by_mark}
 use Rattle.tg_coalesce.specs.Groupings.{is_made}
 use Rattle.tg_coalesce.specs.Works.{Work, is_left}
 use Rattle.tg_coalesce.specs.Standing.{state_of, IsOrderly, IsRunOf}

@@ -5,13 +5,13 @@ use Rattle.std.specs.Prelude.{◌==◌, count_by}
 use Rattle.std.proofs.lemmas.Bool.{cases_eq, cases_lt}
 use Rattle.std.proofs.lemmas.List.{get_or_past, get_or-set_same, get_or-set_other, length-set, set_past}
 use Rattle.std.proofs.lemmas.List.Sums.{sum_by-set}
-use Rattle.tg_rounds.specs.declared.moves.MoveState.{MoveState}
-use Rattle.tg_rounds.specs.declared.moves.MoveState.TheVariants.{Ready, Waiting, Coalesced, Constrained, Frozen}
-use Rattle.tg_rounds.specs.Graphs.{bit}
-use Rattle.tg_rounds.specs.States.{Problem, RoundState, is_ready_or_waiting}
-use Rattle.tg_rounds.specs.States as states
-use Rattle.tg_rounds.specs.Steps.{can_move}
-use Rattle.tg_rounds.proofs.Deciding.{and_false, never, same_node, same_test}
+use Rattle.tg_irc.specs.declared.moves.MoveState.{MoveState}
+use Rattle.tg_irc.specs.declared.moves.MoveState.TheVariants.{Ready, Waiting, Coalesced, Constrained, Frozen}
+use Rattle.tg_irc.specs.Graphs.{bit}
+use Rattle.tg_irc.specs.States.{Problem, RoundState, is_ready_or_waiting}
+use Rattle.tg_irc.specs.States as states
+use Rattle.tg_irc.specs.Steps.{can_move}
+use Rattle.tg_irc.proofs.Deciding.{and_false, never, same_node, same_test}
 use Rattle.tg_coalesce.specs.Lists.{lowered}
 use Rattle.tg_coalesce.specs.Tables.{is_waiting}
 use Rattle.tg_coalesce.specs.Standing.{as_told}

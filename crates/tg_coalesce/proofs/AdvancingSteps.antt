@@ -1,11 +1,11 @@
 -- A step more in the list of steps changes nothing else, and where nothing is listed earlier a step is taken.
 use Rattle.std.proofs.Common.{◌≡◌, ◌<◌, [], ◌∷◌, ◌++◌, true, refl}
-use Rattle.tg_rounds.specs.declared.steps.Step.{Step}
-use Rattle.tg_rounds.specs.declared.steps.Step.TheVariants.{Simplify, Freeze}
+use Rattle.tg_irc.specs.declared.steps.Step.{Step}
+use Rattle.tg_irc.specs.declared.steps.Step.TheVariants.{Simplify, Freeze}
 use Rattle.std.specs.Prelude.{IsFalse}
-use Rattle.tg_rounds.specs.States.{Problem}
-use Rattle.tg_rounds.specs.Steps.{can, can_move, kind, IsTaken}
-use Rattle.tg_rounds.proofs.Taking.{first_are_taken}
+use Rattle.tg_irc.specs.States.{Problem}
+use Rattle.tg_irc.specs.Steps.{can, can_move, kind, IsTaken}
+use Rattle.tg_irc.proofs.Taking.{first_are_taken}
 use Rattle.tg_coalesce.specs.Works.{Work, stepped}
 use Rattle.tg_coalesce.specs.Standing.{state_of, IsOrderly, IsRunOf}
 use Rattle.tg_coalesce.proofs.AdvancingKept.{kept_of, kept_restated, orderly_of}

@@ -5,14 +5,14 @@ use Rattle.std.specs.Prelude.{◌==◌, nat_lt, count_by}
 use Rattle.std.proofs.lemmas.Bool.{cases_eq, ltb-true, ltb-false}
 use Rattle.std.proofs.lemmas.List.{reverse-append}
 use Rattle.std.proofs.lemmas.List.Elements.{All-push}
-use Rattle.tg_rounds.specs.declared.moves.MoveState.{MoveState}
-use Rattle.tg_rounds.specs.Graphs.{bit, some, without}
-use Rattle.tg_rounds.specs.States.{low}
-use Rattle.tg_rounds.specs.Steps.{take_out, can_move}
-use Rattle.tg_rounds.specs.Laws.{is_stacked}
-use Rattle.tg_rounds.specs.Degrees.{degree_of}
-use Rattle.tg_rounds.proofs.Deciding.{clash, both, and_true, or_left, never, not_true, same_node, same_test, some_is}
-use Rattle.tg_rounds.proofs.Degrees.{taken_out_is_less}
+use Rattle.tg_irc.specs.declared.moves.MoveState.{MoveState}
+use Rattle.tg_irc.specs.Graphs.{bit, some, without}
+use Rattle.tg_irc.specs.States.{low}
+use Rattle.tg_irc.specs.Steps.{take_out, can_move}
+use Rattle.tg_irc.specs.Laws.{is_stacked}
+use Rattle.tg_irc.specs.Degrees.{degree_of}
+use Rattle.tg_irc.proofs.Deciding.{clash, both, and_true, or_left, never, not_true, same_node, same_test, some_is}
+use Rattle.tg_irc.proofs.Degrees.{taken_out_is_less}
 use Rattle.tg_graph.specs.declared.worklists.Worklist.TheVariants as worklists
 use Rattle.tg_graph.specs.Interference.{is_among, is_register, interferes, neighbours}
 use Rattle.tg_graph.specs.Lists.{Lists, moved}

@@ -2,14 +2,14 @@
 use Rattle.std.proofs.Common.{◌≡◌, ◌≢◌, ℕ, ◌<◌, Bool, true, false, not, ◌&&◌, ◌||◌, List, []}
 use Rattle.std.proofs.Common.{Some, refl, sym, ap, subst, ◌∙◌, arith}
 use Rattle.std.specs.Prelude.{◌==◌, nat_lt, slice_get, sum_by, if◌then◌else◌}
-use Rattle.tg_rounds.specs.declared.moves.MoveState.{MoveState}
-use Rattle.tg_rounds.specs.declared.moves.MoveState.TheVariants.{Coalesced, Constrained}
-use Rattle.tg_rounds.specs.declared.steps.Step.{Step}
-use Rattle.tg_rounds.specs.declared.steps.Step.TheVariants.{Same, Constrain}
-use Rattle.tg_rounds.specs.States.{Problem, RoundState, members, mark_at, all_made}
-use Rattle.tg_rounds.specs.States as states
-use Rattle.tg_rounds.specs.Steps.{can, after, is_safe, stands_under, IsTaken}
-use Rattle.tg_rounds.proofs.Deciding.{clash, and_true, both, never, or_left, or_right, same_test}
+use Rattle.tg_irc.specs.declared.moves.MoveState.{MoveState}
+use Rattle.tg_irc.specs.declared.moves.MoveState.TheVariants.{Coalesced, Constrained}
+use Rattle.tg_irc.specs.declared.steps.Step.{Step}
+use Rattle.tg_irc.specs.declared.steps.Step.TheVariants.{Same, Constrain}
+use Rattle.tg_irc.specs.States.{Problem, RoundState, members, mark_at, all_made}
+use Rattle.tg_irc.specs.States as states
+use Rattle.tg_irc.specs.Steps.{can, after, is_safe, stands_under, IsTaken}
+use Rattle.tg_irc.proofs.Deciding.{clash, and_true, both, never, or_left, or_right, same_test}
 use Rattle.tg_graph.specs.Interference.{Interference, is_register, interferes}
 use Rattle.tg_graph.specs.Lists.{Lists}
 use Rattle.tg_coalesce.specs.Groupings.{is_made}

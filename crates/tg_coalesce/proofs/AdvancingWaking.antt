@@ -6,10 +6,10 @@ use Rattle.std.specs.List.{IsDistinct}
 use Rattle.std.proofs.lemmas.Bool.{cases_eq, cases_lt}
 use Rattle.std.proofs.lemmas.List.{get_or_past, get_or-set_same, get_or-set_other, length-set}
 use Rattle.std.proofs.lemmas.List.Elements.{All-push}
-use Rattle.tg_rounds.specs.declared.moves.MoveState.{MoveState}
-use Rattle.tg_rounds.specs.declared.moves.MoveState.TheVariants.{Ready, Waiting, Coalesced, Constrained, Frozen}
-use Rattle.tg_rounds.specs.States.{is_ready_or_waiting}
-use Rattle.tg_rounds.proofs.Deciding.{clash, either, or_left, never, same_node, same_test}
+use Rattle.tg_irc.specs.declared.moves.MoveState.{MoveState}
+use Rattle.tg_irc.specs.declared.moves.MoveState.TheVariants.{Ready, Waiting, Coalesced, Constrained, Frozen}
+use Rattle.tg_irc.specs.States.{is_ready_or_waiting}
+use Rattle.tg_irc.proofs.Deciding.{clash, either, or_left, never, same_node, same_test}
 use Rattle.tg_graph.specs.Interference.{is_among}
 use Rattle.tg_graph.proofs.Changes.{among_push, distinct_push}
 use Rattle.tg_coalesce.specs.Lists.{list_at}

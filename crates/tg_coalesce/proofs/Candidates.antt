@@ -8,8 +8,8 @@ use Rattle.std.proofs.lemmas.List.Elements.{All-filter, All-from_get_or, All-get
 use Rattle.std.proofs.lemmas.List.FromFn.{get_or-range_with_len, length-range_with_len}
 use Rattle.tg_graph.specs.Interference.{colours}
 use Rattle.tg_graph.proofs.Runs.{range_more}
-use Rattle.tg_rounds.specs.declared.candidates.Candidate.{Candidate}
-use Rattle.tg_rounds.specs.Policies.{candidate_at}
+use Rattle.tg_irc.specs.declared.candidates.Candidate.{Candidate}
+use Rattle.tg_irc.specs.Policies.{candidate_at}
 use Rattle.tg_coalesce.specs.Works.{Work, is_left}
 use Rattle.tg_coalesce.specs.Steps.{candidate, candidates}
 

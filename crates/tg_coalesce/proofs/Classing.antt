@@ -6,7 +6,7 @@ use Rattle.std.proofs.lemmas.Bool.{cases_lt}
 use Rattle.std.proofs.lemmas.List.{length-set, length-map, get_or-map, get_or_past}
 use Rattle.std.proofs.lemmas.List.FromFn.{length-range_with_len, get_or-range_with_len}
 use Rattle.std.proofs.lemmas.List.Elements.{All-nil, All-cons, All-set}
-use Rattle.tg_rounds.specs.declared.candidates.Mark.{Mark}
+use Rattle.tg_irc.specs.declared.candidates.Mark.{Mark}
 use Rattle.tg_coalesce.specs.Lists.{list_at, singletons, set_at_all}
 use Rattle.tg_coalesce.specs.Groupings.{Grouping, IsGrouping, apart, joined}
 use Rattle.tg_coalesce.proofs.Listing.{each_poured, length_poured, length_moved_sum, length_set_at_all, sum_moved, range_below}

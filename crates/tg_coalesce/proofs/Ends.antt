@@ -4,11 +4,11 @@ use Rattle.std.specs.Prelude.{◌==◌, nat_eq, All, count_by, fold}
 use Rattle.std.proofs.lemmas.Bool.{cases_eq, cond_both, eq-eqb, lt-ltb, ltb-true, ne_eqb}
 use Rattle.std.proofs.lemmas.List.{get_or-set_other, get_or-set_same, length-set}
 use Rattle.std.proofs.lemmas.List.Elements.{All-get_or, All-head, All-tail}
-use Rattle.tg_rounds.specs.declared.moves.Move.{Move}
-use Rattle.tg_rounds.specs.declared.moves.MoveState.{MoveState}
-use Rattle.tg_rounds.specs.declared.moves.MoveState.TheVariants.{Frozen, Ready}
-use Rattle.tg_rounds.specs.Graphs.{bit}
-use Rattle.tg_rounds.specs.States.{is_ready_or_waiting}
+use Rattle.tg_irc.specs.declared.moves.Move.{Move}
+use Rattle.tg_irc.specs.declared.moves.MoveState.{MoveState}
+use Rattle.tg_irc.specs.declared.moves.MoveState.TheVariants.{Frozen, Ready}
+use Rattle.tg_irc.specs.Graphs.{bit}
+use Rattle.tg_irc.specs.States.{is_ready_or_waiting}
 use Rattle.tg_coalesce.specs.Lists.{list_at, lowered}
 use Rattle.tg_coalesce.specs.Groupings.{IsGrouping}
 use Rattle.tg_coalesce.specs.Tables as tables

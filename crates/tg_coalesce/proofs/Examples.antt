@@ -2,13 +2,13 @@
 use Rattle.std.proofs.Common.{◌≡◌, ℕ, true, false, List, [], ◌∷◌, ◌++◌, map, replicate, Option, Some, refl}
 use Rattle.std.specs.Prelude.{fold}
 use Rattle.std.specs.List.{range_with_len}
-use Rattle.tg_rounds.specs.declared.candidates.Mark.{Mark}
-use Rattle.tg_rounds.specs.declared.moves.Move.{Move}
-use Rattle.tg_rounds.specs.declared.moves.MoveState.{MoveState}
-use Rattle.tg_rounds.specs.declared.moves.MoveState.TheVariants.{Coalesced, Constrained}
-use Rattle.tg_rounds.specs.declared.rounds.Round.{Round}
-use Rattle.tg_rounds.specs.declared.steps.Step.{Step}
-use Rattle.tg_rounds.specs.declared.steps.Step.TheVariants.{Simplify, Constrain, Coalesce}
+use Rattle.tg_irc.specs.declared.candidates.Mark.{Mark}
+use Rattle.tg_irc.specs.declared.moves.Move.{Move}
+use Rattle.tg_irc.specs.declared.moves.MoveState.{MoveState}
+use Rattle.tg_irc.specs.declared.moves.MoveState.TheVariants.{Coalesced, Constrained}
+use Rattle.tg_irc.specs.declared.rounds.Round.{Round}
+use Rattle.tg_irc.specs.declared.steps.Step.{Step}
+use Rattle.tg_irc.specs.declared.steps.Step.TheVariants.{Simplify, Constrain, Coalesce}
 use Rattle.tg_graph.specs.Interference.{Interference, bare, with_edge}
 use Rattle.tg_coalesce.specs.Works.{Work, relisted, settled, started}
 use Rattle.tg_coalesce.specs.Steps.{bereft, taken_out, given_up, passed_edge, merged, tried, simplified}

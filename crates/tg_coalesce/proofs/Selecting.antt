@@ -8,7 +8,7 @@ use Rattle.std.proofs.lemmas.List.{get_or-set_same, get_or-set_other}
 use Rattle.std.proofs.lemmas.List.Elements.{All-map}
 use Rattle.std.proofs.lemmas.List.Folds.{list_any_more}
 use Rattle.tg_graph.specs.Interference.{colours}
-use Rattle.tg_rounds.specs.Selection.{has_colour}
+use Rattle.tg_irc.specs.Selection.{has_colour}
 use Rattle.tg_coalesce.specs.Selecting.{AreColours, colour_at, own_colour, precoloured}
 
 -- the first number of a range that passes

@@ -16,13 +16,13 @@ use Rattle.tg_graph.proofs.Joining.{few_neighbours, stays_below}
 use Rattle.tg_graph.proofs.Members.{among_within}
 use Rattle.tg_graph.proofs.Moves.{told_fixed, told_spill}
 use Rattle.tg_graph.proofs.Partitions.{start_parts}
-use Rattle.tg_rounds.specs.declared.candidates.Mark.{Mark}
-use Rattle.tg_rounds.specs.declared.moves.Move.{Move}
-use Rattle.tg_rounds.specs.declared.moves.MoveState.TheVariants.{Ready}
-use Rattle.tg_rounds.specs.Graphs.{bit, count}
-use Rattle.tg_rounds.specs.States.{is_ready_or_waiting}
-use Rattle.tg_rounds.proofs.Counting.{count_le}
-use Rattle.tg_rounds.proofs.Deciding.{and_true, both, clash, not_true}
+use Rattle.tg_irc.specs.declared.candidates.Mark.{Mark}
+use Rattle.tg_irc.specs.declared.moves.Move.{Move}
+use Rattle.tg_irc.specs.declared.moves.MoveState.TheVariants.{Ready}
+use Rattle.tg_irc.specs.Graphs.{bit, count}
+use Rattle.tg_irc.specs.States.{is_ready_or_waiting}
+use Rattle.tg_irc.proofs.Counting.{count_le}
+use Rattle.tg_irc.proofs.Deciding.{and_true, both, clash, not_true}
 use Rattle.tg_coalesce.specs.Advancing.{IsGiven}
 use Rattle.tg_coalesce.specs.Lists.{list_at}
 use Rattle.tg_coalesce.specs.Tables.{move_at, state_at, is_waiting, is_unsettled}

@@ -6,8 +6,8 @@ use Rattle.std.proofs.lemmas.Bool.{cases_eq, cases_lt, eq-eqb, ne_eqb}
 use Rattle.std.proofs.lemmas.List.{get_or-set_same, get_or-set_other, get_or-replicate, get_or_past, length-replicate, length-set, length_push}
 use Rattle.std.proofs.lemmas.List.Elements.{All-head, All-tail}
 use Rattle.std.proofs.lemmas.List.Sums.{sum_by_push}
-use Rattle.tg_rounds.specs.declared.moves.Move.{Move}
-use Rattle.tg_rounds.specs.Graphs.{bit}
+use Rattle.tg_irc.specs.declared.moves.Move.{Move}
+use Rattle.tg_irc.specs.Graphs.{bit}
 use Rattle.tg_coalesce.specs.Lists.{list_at, pushed, raised}
 use Rattle.tg_coalesce.specs.Tables.{move_at, ends_listed, ends_counted}
 use Rattle.tg_coalesce.proofs.AdvancingMembers.{count_cons, one_bit}

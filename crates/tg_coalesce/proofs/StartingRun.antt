@@ -10,13 +10,13 @@ use Rattle.std.proofs.lemmas.List.Elements.{filter_agree}
 use Rattle.tg_graph.specs.Interference.{Interference, interferes}
 use Rattle.tg_graph.specs.Lists.{Lists}
 use Rattle.tg_graph.proofs.Joining.{either_way, not_itself}
-use Rattle.tg_rounds.specs.declared.candidates.Mark.{Mark}
-use Rattle.tg_rounds.specs.declared.moves.Move.{Move}
-use Rattle.tg_rounds.specs.declared.moves.MoveState.TheVariants.{Ready}
-use Rattle.tg_rounds.specs.Graphs.{every}
-use Rattle.tg_rounds.specs.Policies.{Rule}
-use Rattle.tg_rounds.specs.States.{Problem, problem, start, members, mark_at, all_made}
-use Rattle.tg_rounds.proofs.Deciding.{clash, either, every_is, not_true, or_left, or_right, from_false, same_test}
+use Rattle.tg_irc.specs.declared.candidates.Mark.{Mark}
+use Rattle.tg_irc.specs.declared.moves.Move.{Move}
+use Rattle.tg_irc.specs.declared.moves.MoveState.TheVariants.{Ready}
+use Rattle.tg_irc.specs.Graphs.{every}
+use Rattle.tg_irc.specs.Policies.{Rule}
+use Rattle.tg_irc.specs.States.{Problem, problem, start, members, mark_at, all_made}
+use Rattle.tg_irc.proofs.Deciding.{clash, either, every_is, not_true, or_left, or_right, from_false, same_test}
 use Rattle.tg_coalesce.specs.Advancing.{IsGiven}
 use Rattle.tg_coalesce.specs.Groupings.{is_made}
 use Rattle.tg_coalesce.specs.Works.{Work, is_left, started}

@@ -4,9 +4,9 @@ use Rattle.std.proofs.Common.{inr, List, [], ◌∷◌, ◌++◌, length, get_or
 use Rattle.std.specs.Prelude.{◌==◌, if◌then◌else◌, Some, slice_get}
 use Rattle.std.proofs.lemmas.Bool.{and_parts, cases_lt, cond-false, cond-true, eq-eqb, le-ltb, lt-ltb, ne_eqb, or_left, or_right}
 use Rattle.tg_graph.specs.Interference.{Interference, colours, interferes, is_register}
-use Rattle.tg_rounds.specs.declared.moves.MoveState.TheVariants.{Coalesced, Constrained}
-use Rattle.tg_rounds.specs.declared.steps.Step.{Step}
-use Rattle.tg_rounds.specs.declared.steps.Step.TheVariants.{Same, Constrain}
+use Rattle.tg_irc.specs.declared.moves.MoveState.TheVariants.{Coalesced, Constrained}
+use Rattle.tg_irc.specs.declared.steps.Step.{Step}
+use Rattle.tg_irc.specs.declared.steps.Step.TheVariants.{Same, Constrain}
 use Rattle.tg_coalesce.specs.Lists.{lowered}
 use Rattle.tg_coalesce.specs.Tables as tables
 use Rattle.tg_coalesce.specs.Tables.{Table, is_unsettled, is_waiting, state_at}
@@ -14,7 +14,7 @@ use Rattle.tg_coalesce.specs.Works.{Work, degree_at, from, is_left, settled, ste
 use Rattle.tg_coalesce.specs.Passing.{passes, stands_under}
 use Rattle.tg_coalesce.specs.Steps.{CanLose, coalesced, tried, tried_out}
 use Rattle.tg_coalesce.specs.Standing.{IsOrderly}
-use Rattle.tg_rounds.proofs.Deciding.{clash}
+use Rattle.tg_irc.proofs.Deciding.{clash}
 use Rattle.tg_coalesce.proofs.AdvancingMembers.{among_first}
 use Rattle.tg_coalesce.proofs.Counters.{has_neighbour, loses_alike}
 use Rattle.tg_coalesce.proofs.Edges.{registers_apart}

@@ -4,9 +4,9 @@ use Rattle.std.specs.Prelude.{count_by, fold, nat_lt}
 use Rattle.std.proofs.lemmas.Bool.{cases_lt, cond-false, lt-ltb}
 use Rattle.std.proofs.lemmas.List.{length-set}
 use Rattle.std.proofs.lemmas.List.Sums.{sum_by-set, sum_by-cons, count_by-le-length}
-use Rattle.tg_rounds.specs.declared.moves.MoveState.{MoveState}
-use Rattle.tg_rounds.specs.declared.moves.MoveState.TheVariants.{Ready}
-use Rattle.tg_rounds.proofs.Deciding.{clash}
+use Rattle.tg_irc.specs.declared.moves.MoveState.{MoveState}
+use Rattle.tg_irc.specs.declared.moves.MoveState.TheVariants.{Ready}
+use Rattle.tg_irc.proofs.Deciding.{clash}
 use Rattle.tg_coalesce.specs.Lists.{list_at}
 use Rattle.tg_coalesce.specs.Tables.{Table, state_at, is_waiting, some_waits, tried_again, woken}
 

@@ -4,11 +4,11 @@ use Rattle.std.specs.Prelude.{◌≡◌, ℕ, ◌+◌, ◌<◌, ◌≤◌, ◌^�
 use Rattle.std.specs.Prelude.{Some}
 use Rattle.std.specs.Prelude.{slice_get}
 use Rattle.tg_graph.specs.Interference.{Interference, IsGraph, colours, most_nodes}
-use Rattle.tg_rounds.specs.declared.candidates.Mark.{Mark}
-use Rattle.tg_rounds.specs.declared.moves.Move.{Move}
-use Rattle.tg_rounds.specs.Policies.{Rule, candidate_at}
-use Rattle.tg_rounds.specs.Rounds.{IsRound}
-use Rattle.tg_rounds.specs.States.{Problem, problem}
+use Rattle.tg_irc.specs.declared.candidates.Mark.{Mark}
+use Rattle.tg_irc.specs.declared.moves.Move.{Move}
+use Rattle.tg_irc.specs.Policies.{Rule, candidate_at}
+use Rattle.tg_irc.specs.Rounds.{IsRound}
+use Rattle.tg_irc.specs.States.{Problem, problem}
 use Rattle.tg_coalesce.specs.Steps.{simplified, tried, frozen, spilled, candidates}
 use Rattle.tg_coalesce.specs.Works.{Work, started}
 use Rattle.tg_coalesce.specs.Standing.{graph_of, IsOrderly, IsRunOf, left_to_do, is_done, answer_of}

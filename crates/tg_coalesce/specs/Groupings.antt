@@ -2,7 +2,7 @@
 use Rattle.std.specs.Prelude.{◌≡◌, ℕ, ◌<◌, ◌^◌, Bool, false, List, length, map, sum, All}
 use Rattle.std.specs.Prelude.{slice_index_or}
 use Rattle.std.specs.List.{range_with_len}
-use Rattle.tg_rounds.specs.declared.candidates.Mark.{Mark}
+use Rattle.tg_irc.specs.declared.candidates.Mark.{Mark}
 use Rattle.tg_coalesce.specs.Lists.{list_at, poured, moved_sum, conjoined, singletons}
 use Rattle.tg_coalesce.specs.Lists.{set_at_all}
 

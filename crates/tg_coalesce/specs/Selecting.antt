@@ -5,7 +5,7 @@ use Rattle.std.specs.Prelude.{List, [], ◌∷◌, ◌++◌, fold, find, map, re
 use Rattle.std.specs.Prelude.{slice_set}
 use Rattle.std.specs.List.{list_any, range_with_len}
 use Rattle.tg_graph.specs.Interference.{Interference, colours, is_register, neighbours}
-use Rattle.tg_rounds.specs.Selection.{has_colour}
+use Rattle.tg_irc.specs.Selection.{has_colour}
 
 -- the colour of each class by the node under which it stands, and the classes that found none, in
 -- the order in which they were popped

@@ -10,15 +10,15 @@ use Rattle.tg_graph.specs.Interference.{Interference, colours, is_register, is_a
 use Rattle.tg_graph.specs.Interference.{interferes, most_nodes}
 use Rattle.tg_graph.specs.Lists.{nodes_in, number}
 use Rattle.tg_graph.specs.Laws.{ArePartition}
-use Rattle.tg_rounds.specs.declared.moves.MoveState.{MoveState}
-use Rattle.tg_rounds.specs.declared.moves.MoveState.TheVariants.{Ready, Waiting}
-use Rattle.tg_rounds.specs.declared.rounds.Round.{Round}
-use Rattle.tg_rounds.specs.Graphs.{Graph, IsGraph, bit}
-use Rattle.tg_rounds.specs.States.{Problem, problem, RoundState, start, remains}
-use Rattle.tg_rounds.specs.States.{members, mark_at, all_made, is_ready_or_waiting}
-use Rattle.tg_rounds.specs.Steps.{can_move, AreTaken, after_all}
-use Rattle.tg_rounds.specs.Laws.{AreNodes, is_stacked}
-use Rattle.tg_rounds.specs.Degrees.{degree_of}
+use Rattle.tg_irc.specs.declared.moves.MoveState.{MoveState}
+use Rattle.tg_irc.specs.declared.moves.MoveState.TheVariants.{Ready, Waiting}
+use Rattle.tg_irc.specs.declared.rounds.Round.{Round}
+use Rattle.tg_irc.specs.Graphs.{Graph, IsGraph, bit}
+use Rattle.tg_irc.specs.States.{Problem, problem, RoundState, start, remains}
+use Rattle.tg_irc.specs.States.{members, mark_at, all_made, is_ready_or_waiting}
+use Rattle.tg_irc.specs.Steps.{can_move, AreTaken, after_all}
+use Rattle.tg_irc.specs.Laws.{AreNodes, is_stacked}
+use Rattle.tg_irc.specs.Degrees.{degree_of}
 use Rattle.tg_coalesce.specs.Lists.{list_at}
 use Rattle.tg_coalesce.specs.Groupings.{IsGrouping, is_made}
 use Rattle.tg_coalesce.specs.Tables.{IsTable, state_at, is_unsettled, is_related, is_waiting}

@@ -6,10 +6,10 @@ use Rattle.tg_graph.specs.declared.worklists.Worklist.TheVariants.{Stacked, Merg
 use Rattle.tg_graph.specs.Interference.{colours, is_among, is_register, interferes, neighbours}
 use Rattle.tg_graph.specs.Interference.{with_edge}
 use Rattle.tg_graph.specs.Lists.{moved}
-use Rattle.tg_rounds.specs.declared.candidates.Candidate.{Candidate}
-use Rattle.tg_rounds.specs.declared.steps.Step.TheVariants.{Simplify, Same, Constrain, Coalesce}
-use Rattle.tg_rounds.specs.declared.steps.Step.TheVariants.{Freeze, Spill}
-use Rattle.tg_rounds.specs.declared.moves.MoveState.TheVariants.{Coalesced, Constrained, Frozen}
+use Rattle.tg_irc.specs.declared.candidates.Candidate.{Candidate}
+use Rattle.tg_irc.specs.declared.steps.Step.TheVariants.{Simplify, Same, Constrain, Coalesce}
+use Rattle.tg_irc.specs.declared.steps.Step.TheVariants.{Freeze, Spill}
+use Rattle.tg_irc.specs.declared.moves.MoveState.TheVariants.{Coalesced, Constrained, Frozen}
 use Rattle.tg_coalesce.specs.Lists.{list_at, raised, lowered}
 use Rattle.tg_coalesce.specs.Groupings as groupings
 use Rattle.tg_coalesce.specs.Tables as tables

@@ -4,10 +4,10 @@ use Rattle.std.specs.Prelude.{List, [], ◌∷◌, ◌++◌, length, drop, fold,
 use Rattle.std.specs.Prelude.{count_by}
 use Rattle.std.specs.Prelude.{slice_index, slice_index_or, slice_set, nat_lt}
 use Rattle.std.specs.List.{range_with_len}
-use Rattle.tg_rounds.specs.declared.moves.Move.{Move}
-use Rattle.tg_rounds.specs.declared.moves.MoveState.{MoveState}
-use Rattle.tg_rounds.specs.declared.moves.MoveState.TheVariants.{Ready, Waiting}
-use Rattle.tg_rounds.specs.States.{is_ready_or_waiting}
+use Rattle.tg_irc.specs.declared.moves.Move.{Move}
+use Rattle.tg_irc.specs.declared.moves.MoveState.{MoveState}
+use Rattle.tg_irc.specs.declared.moves.MoveState.TheVariants.{Ready, Waiting}
+use Rattle.tg_irc.specs.States.{is_ready_or_waiting}
 use Rattle.tg_coalesce.specs.Lists.{list_at, pushed, poured, moved_sum, raised, lowered}
 
 -- The moves, their states, and the places of the ready ones in the order in which they are tried.

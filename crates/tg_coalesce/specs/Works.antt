@@ -10,10 +10,10 @@ use Rattle.tg_graph.specs.Interference.{Interference, colours, is_register, is_a
 use Rattle.tg_graph.specs.Interference.{degree}
 use Rattle.tg_graph.specs.Lists as lists
 use Rattle.tg_graph.specs.Lists.{Lists, moved}
-use Rattle.tg_rounds.specs.declared.candidates.Mark.{Mark}
-use Rattle.tg_rounds.specs.declared.moves.Move.{Move}
-use Rattle.tg_rounds.specs.declared.moves.MoveState.{MoveState}
-use Rattle.tg_rounds.specs.declared.steps.Step.{Step}
+use Rattle.tg_irc.specs.declared.candidates.Mark.{Mark}
+use Rattle.tg_irc.specs.declared.moves.Move.{Move}
+use Rattle.tg_irc.specs.declared.moves.MoveState.{MoveState}
+use Rattle.tg_irc.specs.declared.steps.Step.{Step}
 use Rattle.tg_coalesce.specs.Groupings.{Grouping, apart}
 use Rattle.tg_coalesce.specs.Tables as tables
 use Rattle.tg_coalesce.specs.Tables.{Table, move_at, is_related, woken}

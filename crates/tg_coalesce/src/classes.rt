@@ -19,7 +19,7 @@ use std::alloc::Global;
 use std::marker::Model;
 use tg_base::Memory;
 use tg_graph::numbers;
-use tg_rounds::Mark;
+use tg_irc::Mark;
 
 /// The classes of the nodes that were coalesced so far, each named by the node under which it
 /// stands. A merge takes time by the size of the class that goes, which a round's merges sum to at

@@ -13,8 +13,8 @@ ghost use Rattle.std.specs.Prelude.{
   sum,
 };
 ghost use Rattle.tg_graph.specs.Interference.{colours};
-ghost use Rattle.tg_rounds.specs.Rounds.{IsRound};
-ghost use Rattle.tg_rounds.specs.States.{Problem, problem};
+ghost use Rattle.tg_irc.specs.Rounds.{IsRound};
+ghost use Rattle.tg_irc.specs.States.{Problem, problem};
 ghost use Rattle.tg_coalesce.specs.Advancing.{Progresses};
 ghost use Rattle.tg_coalesce.specs.Standing.{
   answer_of,
@@ -29,7 +29,7 @@ use crate::states::Coalescer;
 use std::alloc::Global;
 use tg_base::Memory;
 use tg_graph::{Graph, Worklist};
-use tg_rounds::{Colours, Mark, Move, Moves, Nodes, Round, SpillPolicy, States, Steps};
+use tg_irc::{Colours, Mark, Move, Moves, Nodes, Round, SpillPolicy, States, Steps};
 
 /// A round of the allocator over a graph and its moves (George and Appel 1996, section 4). `marks`
 /// has a mark for each node, the registers first. After `Memory` the policy may have been asked.

@@ -4,7 +4,7 @@ ghost use Rattle.tg_coalesce.specs.Steps.{frozen, given_up};
 
 use crate::states::Coalescer;
 use tg_base::Memory;
-use tg_rounds::{MoveState, Step};
+use tg_irc::{MoveState, Step};
 
 impl Coalescer {
     /// The step Freeze.

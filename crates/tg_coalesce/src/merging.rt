@@ -22,7 +22,7 @@ ghost use Rattle.tg_coalesce.specs.Works.{degree_at, from, is_open, to};
 use crate::states::{Coalescer, is_register};
 use tg_base::Memory;
 use tg_graph::Worklist;
-use tg_rounds::{MoveState, Step};
+use tg_irc::{MoveState, Step};
 
 impl Coalescer {
     /// Tries the first of the ready moves: it is settled by the step Same, Constrain or Coalesce,

@@ -10,14 +10,14 @@ ghost use Rattle.std.specs.Prelude.{
   slice_set,
   if◌then◌else◌,
 };
-ghost use Rattle.tg_rounds.specs.declared.moves.MoveState.TheVariants.{Ready};
+ghost use Rattle.tg_irc.specs.declared.moves.MoveState.TheVariants.{Ready};
 ghost use Rattle.tg_coalesce.specs.Tables as tables;
 ghost use Rattle.tg_coalesce.specs.Tables.{is_waiting};
 
 use std::alloc::Global;
 use std::marker::Model;
 use tg_base::Memory;
-use tg_rounds::MoveState;
+use tg_irc::MoveState;
 
 /// What has become of each move, and how many of the moves wait: mostly none does, and then none
 /// has to be looked for.
@@ -29,7 +29,7 @@ pub(crate) struct MoveStates {
 
 impl Model for MoveStates {
     ghost use Rattle.std.specs.Prelude.{◌≡◌, List, count_by};
-    ghost use Rattle.tg_rounds.specs.declared.moves.MoveState.{MoveState};
+    ghost use Rattle.tg_irc.specs.declared.moves.MoveState.{MoveState};
     ghost use Rattle.tg_coalesce.specs.Tables.{is_waiting};
 
     ghost Value = { List MoveState };

@@ -6,7 +6,7 @@ ghost use Rattle.tg_coalesce.specs.Works.{degree_at, is_open};
 use crate::states::Coalescer;
 use tg_base::Memory;
 use tg_graph::{COLOURS, Worklist};
-use tg_rounds::Step;
+use tg_irc::Step;
 
 impl Coalescer {
     /// The step Simplify.

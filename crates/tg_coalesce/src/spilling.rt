@@ -10,7 +10,7 @@ ghost use Rattle.std.specs.Prelude.{
   length,
 };
 ghost use Rattle.tg_graph.specs.Interference.{colours};
-ghost use Rattle.tg_rounds.specs.Policies.{candidate_at};
+ghost use Rattle.tg_irc.specs.Policies.{candidate_at};
 ghost use Rattle.tg_coalesce.specs.Standing.{IsOrderly};
 ghost use Rattle.tg_coalesce.specs.Steps as steps;
 ghost use Rattle.tg_coalesce.specs.Steps.{spilled};
@@ -19,7 +19,7 @@ use crate::states::Coalescer;
 use std::alloc::Global;
 use tg_base::Memory;
 use tg_graph::COLOURS;
-use tg_rounds::{Candidate, SpillPolicy, Step};
+use tg_irc::{Candidate, SpillPolicy, Step};
 
 impl Coalescer {
     /// The step Spill, of the temporary that the policy chooses.

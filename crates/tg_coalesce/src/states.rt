@@ -34,7 +34,7 @@ use std::alloc::Global;
 use std::marker::Model;
 use tg_base::Memory;
 use tg_graph::{COLOURS, Graph, Worklist, Worklists};
-use tg_rounds::{Mark, Move, MoveState, Step};
+use tg_irc::{Mark, Move, MoveState, Step};
 
 /// What carries out a round (George and Appel 1996, section 4). The graph has the pairs of all
 /// merges; `degrees` counts for each temporary that remains its neighbours that remain; each

@@ -15,7 +15,7 @@ ghost use Rattle.std.specs.Prelude.{
   slice_index,
   sum,
 };
-ghost use Rattle.tg_rounds.specs.States as states;
+ghost use Rattle.tg_irc.specs.States as states;
 ghost use Rattle.tg_coalesce.specs.Lists.{list_at, lowered, moved_sum, numbers_in};
 ghost use Rattle.tg_coalesce.specs.Tables as tables;
 ghost use Rattle.tg_coalesce.specs.Tables.{
@@ -39,7 +39,7 @@ use std::collections::VecDeque;
 use std::marker::Model;
 use tg_base::Memory;
 use tg_graph::numbers;
-use tg_rounds::{Move, MoveState};
+use tg_irc::{Move, MoveState};
 
 /// The moves of a round, their states, and those that are to be tried. For each class it lists the
 /// places of the moves that end in it, once for each end, and counts the ends of unsettled ones.

@@ -3,7 +3,7 @@ ghost use Rattle.std.specs.Prelude.{◌≡◌, ◌<◌, ◌≤◌, false, IfOk, 
 use std::alloc::Global;
 use tg_base::Memory;
 use tg_graph::{COLOURS, Graph};
-use tg_rounds::Mark;
+use tg_irc::Mark;
 
 /// As many nodes, all original, each used twice.
 pub fn originals(alloc: Global, nodes: u32) -> Result<Vec<Mark>, Memory>

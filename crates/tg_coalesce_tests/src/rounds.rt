@@ -6,7 +6,7 @@ use std::test::Fail;
 use tg_base::Memory;
 use tg_coalesce::color;
 use tg_graph::Graph;
-use tg_rounds::{LeastUse, Mark, Move, MoveState, Step};
+use tg_irc::{LeastUse, Mark, Move, MoveState, Step};
 
 #[test]
 fn a_free_move_is_coalesced(rt: HostRuntime) -> Result<(), Fail> {

@@ -18,12 +18,12 @@ use Rattle.tg_tree.specs.Shapes.{IsClosed, IsWellMarked}
 use Rattle.tg_translate.specs.Translate.{translated}
 use Rattle.tg_runtime.specs.Laws.{AreRoutines, is_own, AllAreRoutines}
 use Rattle.tg_runtime.specs.Routines.{runtime}
-use Rattle.tg_shapes.specs.Laws.{names, CheckedBodiesAreClosed, CheckedTemporariesAreDrawn, CheckedFramesAreSmall}
+use Rattle.tg_translate_laws.specs.Laws.{names, CheckedBodiesAreClosed, CheckedTemporariesAreDrawn, CheckedFramesAreSmall}
 use Rattle.tg_canon.specs.Laws.{GivesClosed, AreTempsBelow, TempsStay}
 use Rattle.tg_canon.specs.Canon.{linearized}
 use Rattle.tg_trace.specs.Cutting.{blocks_of}
 use Rattle.tg_trace.specs.Laws as trace
-use Rattle.tg_carried.specs.Flattened.{flattened}
+use Rattle.tg_flatten_proof.specs.Flattened.{flattened}
 use Rattle.tg_compile.specs.Compiling.{findings_of, fragments_of}
 use Rattle.tg_compile.specs.Passes.{IsWellFormed, FlatCodeIsWellMarked}
 

@@ -2,7 +2,7 @@
 use Rattle.std.specs.Prelude.{◌≡◌, ◌≤◌, ℕ, List, length, map, Ok}
 use Rattle.std.specs.List.{AllZip, sum_by}
 use Rattle.std.specs.FinSet.{from_list}
-use Rattle.tg_base.specs.State.{most_bytes, padded}
+use Rattle.tg_state.specs.State.{most_bytes, padded}
 use Rattle.tg_syntax.specs.Tree.{Exp}
 use Rattle.tg_types.specs.declared.notes.Note.{Note}
 use Rattle.tg_escape.specs.Escaping.{escapes_of}
@@ -12,15 +12,15 @@ use Rattle.tg_tree.specs.Tree.{Ts, Function, Code}
 use Rattle.tg_tree.specs.Plain.{plain_literal}
 use Rattle.tg_translate.specs.Scopes.{Findings, found}
 use Rattle.tg_translate.specs.Translate.{translated}
-use Rattle.tg_shapes.specs.Programs.{with_runtime}
-use Rattle.tg_isa.specs.Assembly.{Assembled, assembled}
-use Rattle.tg_rounds.specs.Policies.{Rule}
-use Rattle.tg_spill.specs.declared.allocations.Allocation.{Allocation}
-use Rattle.tg_spill.specs.Allocations.{codes_of}
-use Rattle.tg_words.specs.Allocating.{IsAllocationOf}
+use Rattle.tg_translate_laws.specs.Programs.{with_runtime}
+use Rattle.tg_asm_text.specs.Assembly.{Assembled, assembled}
+use Rattle.tg_irc.specs.Policies.{Rule}
+use Rattle.tg_regalloc.specs.declared.allocations.Allocation.{Allocation}
+use Rattle.tg_regalloc.specs.Allocations.{codes_of}
+use Rattle.tg_code_bounds.specs.Allocating.{IsAllocationOf}
 use Rattle.tg_emit.specs.Lines.{assembly_of}
 use Rattle.tg_emit.specs.Text.{text_of}
-use Rattle.tg_image.specs.Programs.{IsWholeProgram, AreTyped}
+use Rattle.tg_emit_laws.specs.Programs.{IsWholeProgram, AreTyped}
 
 -- what is found of a program whose notes are these, before it is translated
 abbrev pub findings_of : List Note → Exp → Findings

@@ -1,8 +1,8 @@
 ghost use Rattle.std.specs.Prelude.{◌≡◌, IfOk};
 ghost use Rattle.tg_tree.specs.Lists.{code_of};
 ghost use Rattle.tg_tree.specs.Plain.{plain_fragment, plain_function, plain_ts};
-ghost use Rattle.tg_carried.specs.Flattened.{flattened};
-ghost use Rattle.tg_words.specs.Allocating.{Chooses, IsAllocationOf};
+ghost use Rattle.tg_flatten_proof.specs.Flattened.{flattened};
+ghost use Rattle.tg_code_bounds.specs.Allocating.{Chooses, IsAllocationOf};
 ghost use Rattle.tg_compile.specs.Passes.{IsWellFormed};
 
 use crate::laws::{flat_code_is_well_marked, instructions_name_their_own};
@@ -11,9 +11,9 @@ use tg_base::Memory;
 use tg_canon::linearize;
 use tg_frame::Frame;
 use tg_instr::Code;
+use tg_irc::SpillPolicy;
 use tg_munch::munch;
-use tg_rounds::SpillPolicy;
-use tg_spill::{Allocation, allocate};
+use tg_regalloc::{Allocation, allocate};
 use tg_trace::{blocks, trace};
 use tg_tree::{Fragment, Linear, Ts};
 

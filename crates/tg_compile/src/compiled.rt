@@ -1,4 +1,4 @@
-use tg_spill::Allocation;
+use tg_regalloc::Allocation;
 
 /// What a program is compiled to: the code of each function over registers with its homes, the
 /// program's body first, then its functions in the order of the source, then the runtime's; and the

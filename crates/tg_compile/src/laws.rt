@@ -10,13 +10,13 @@ ghost use Rattle.tg_compile.specs.Passes.{
 };
 
 use tg_canon::canonical_statements;
+use tg_code_bounds::programs_fit;
 use tg_munch::code_names_its_own;
+use tg_regalloc::allocations_keep_tests;
 use tg_runtime::routines_are_closed;
-use tg_shapes::{bodies_are_closed, frames_are_small, temporaries_are_drawn};
-use tg_spill::allocations_keep_tests;
 use tg_trace::{blocks_are_well_formed, code_is_well_formed};
+use tg_translate_laws::{bodies_are_closed, frames_are_small, temporaries_are_drawn};
 use tg_types::Checked;
-use tg_words::programs_fit;
 
 /// Each function of a checked program, and of the runtime, is well formed.
 pub(crate) fn functions_are_well_formed(checked: &Checked)

@@ -1,13 +1,13 @@
 ghost use Rattle.std.specs.Prelude.{◌≡◌, ◌≤◌, All, IfOk, map};
 ghost use Rattle.std.specs.List.{zip};
-ghost use Rattle.tg_base.specs.State.{most_bytes};
+ghost use Rattle.tg_state.specs.State.{most_bytes};
 ghost use Rattle.tg_syntax.specs.Plain.{plain};
 ghost use Rattle.tg_tree.specs.Plain.{plain_fragment, plain_fragments};
 ghost use Rattle.tg_tree.specs.Named.{IsLinked};
-ghost use Rattle.tg_shapes.specs.Laws.{names};
+ghost use Rattle.tg_translate_laws.specs.Laws.{names};
 ghost use Rattle.tg_emit.specs.Lines.{assembly_of};
 ghost use Rattle.tg_emit.specs.Text.{text_of};
-ghost use Rattle.tg_image.specs.Programs.{AreTyped, IsWholeProgram, bytes_of};
+ghost use Rattle.tg_emit_laws.specs.Programs.{AreTyped, IsWholeProgram, bytes_of};
 ghost use Rattle.tg_compile.specs.Compiling.{Compiles, LiteralsFit, fragments_of};
 ghost use Rattle.tg_compile.specs.Passes.{
   AreLinked,
@@ -25,11 +25,11 @@ use tg_base::Memory;
 use tg_emit::{emit, text};
 use tg_escape::escapes;
 use tg_instr::Allocated;
-use tg_rounds::SpillPolicy;
+use tg_irc::SpillPolicy;
+use tg_regalloc::{Allocation, Homes, Rounds};
 use tg_runtime::runtime;
-use tg_shapes::programs_are_linked;
-use tg_spill::{Allocation, Homes, Rounds};
 use tg_translate::translate;
+use tg_translate_laws::programs_are_linked;
 use tg_tree::{Fragment, Fragments, Literal};
 use tg_types::Checked;
 

@@ -2,9 +2,9 @@
 use Rattle.std.specs.Prelude.{Ok, Err, IsErrOf, ◌≤◌, length}
 use Rattle.std.specs.Io.KnownBytes.{Appends}
 use Rattle.std.proofs.Common.{ℕ, ◌≡◌, ◌<◌, List, [], ◌∷◌, Option, Some, None, refl, sym, ap, subst, ◌∙◌, arith}
-use Rattle.tg_base.specs.declared.ends.RunEnd.{RunEnd}
-use Rattle.tg_base.specs.declared.ends.RunEnd.TheVariants.{Exit, Break, Overflow, HeapFull, StackFull, StepLimit, BadAddress, Unaligned, BadWord}
-use Rattle.tg_base.specs.declared.ends.RunEnd.TheVariants.{BadService, ReadFault, WriteFault}
+use Rattle.tg_state.specs.declared.ends.RunEnd.{RunEnd}
+use Rattle.tg_state.specs.declared.ends.RunEnd.TheVariants.{Exit, Break, Overflow, HeapFull, StackFull, StepLimit, BadAddress, Unaligned, BadWord}
+use Rattle.tg_state.specs.declared.ends.RunEnd.TheVariants.{BadService, ReadFault, WriteFault}
 use Rattle.tg_base.specs.InMemory.{PlainBytes}
 use Rattle.tg_machine.specs.Machines.{Simulated, loaded}
 use Rattle.tg_machine.specs.Ran.{IsSimulation}
@@ -12,16 +12,16 @@ use Rattle.tg_base.specs.declared.outside.ShelfFault.{ShelfFault}
 use Rattle.tg_base.specs.declared.outside.ShelfFault.TheVariants.{Failed, Memory}
 use Rattle.tg_base.specs.Files.{IsFrontOf}
 use Rattle.tg_isa.specs.declared.images.Image.{Image}
-use Rattle.tg_isa.specs.Assembly.{assembled}
+use Rattle.tg_asm_text.specs.Assembly.{assembled}
 use Rattle.tg_asm.specs.Images.{image_of}
-use Rattle.tg_rounds.specs.Policies.{Rule as SpillRule}
+use Rattle.tg_irc.specs.Policies.{Rule as SpillRule}
 use Rattle.tg_command.specs.declared.modes.Mode.{Mode}
 use Rattle.tg_command.specs.declared.modes.Mode.TheVariants.{Check, Build, Run, Exec, Alloc, Gen, Format}
 use Rattle.tg_command.specs.Commands.{Asked, Ask}
 use Rattle.tg_command.proofs.CommandLemmas.{asked_once}
 use Rattle.tg_driver.specs.declared.answers.Answer.{Answer}
 use Rattle.tg_driver.specs.declared.answers.Answer.TheVariants.{Faulty, Written, Unwritten, OutOfMemory, Finished}
-use Rattle.tg_meant.specs.Meant.{IsAsMeant}
+use Rattle.tg_correct.specs.Assemblies.{IsAsMeant}
 use Rattle.tg_driver.specs.Calls.{Stream, stream_of, Streams, Stays, Untouched, Shelved, IsUnread, Call, Takes, nothing, all, part}
 use Rattle.tg_driver.specs.OfFiles.{OfFile, unreadable, read, OrMemory, unread_answer, HasStarted, StaysBeforeStart, UntouchedBeforeStart}
 use Rattle.tg_driver.specs.Found.{IsRefused}

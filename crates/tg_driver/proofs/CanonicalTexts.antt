@@ -8,7 +8,7 @@ use Rattle.tg_lexer.proofs.Excludes.{fault_excludes}
 use Rattle.tg_parser.specs.Answers.{OnBad, HasSyntaxFault}
 use Rattle.tg_parser.specs.declared.faults.SyntaxFault.{SyntaxFault}
 use Rattle.tg_parser.specs.declared.faults.SyntaxFault.TheVariants as syntax
-use Rattle.tg_meant.specs.Sources.{HasTokens, HasTree}
+use Rattle.tg_correct.specs.Sources.{HasTokens, HasTree}
 use Rattle.tg_format.specs.Canonical.{canonical, tokens_of}
 use Rattle.tg_driver.specs.declared.answers.Answer.{Answer}
 use Rattle.tg_driver.specs.declared.answers.Answer.TheVariants.{Faulty, OutOfMemory, Written, Unwritten}

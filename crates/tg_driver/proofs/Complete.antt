@@ -3,9 +3,9 @@ use Rattle.std.proofs.Common.{ℕ, ◌≡◌, ◌≤◌, ◌⊎◌, inl, inr, Li
 use Rattle.std.specs.Io.KnownBytes.{Appends}
 use Rattle.tg_base.specs.Causes.{Rose}
 use Rattle.tg_base.specs.Files.{Files, IsFrontOf}
-use Rattle.tg_base.specs.declared.ends.RunEnd.{RunEnd}
-use Rattle.tg_base.specs.declared.ends.RunEnd.TheVariants.{Exit, Break, Overflow, HeapFull, StackFull, StepLimit, BadAddress, Unaligned, BadWord}
-use Rattle.tg_base.specs.declared.ends.RunEnd.TheVariants.{BadService, ReadFault, WriteFault}
+use Rattle.tg_state.specs.declared.ends.RunEnd.{RunEnd}
+use Rattle.tg_state.specs.declared.ends.RunEnd.TheVariants.{Exit, Break, Overflow, HeapFull, StackFull, StepLimit, BadAddress, Unaligned, BadWord}
+use Rattle.tg_state.specs.declared.ends.RunEnd.TheVariants.{BadService, ReadFault, WriteFault}
 use Rattle.tg_isa.specs.declared.images.Image.{Image}
 use Rattle.tg_watch.specs.Watching.{Report}
 use Rattle.tg_command.specs.declared.modes.Mode.{Mode}
@@ -18,7 +18,7 @@ use Rattle.tg_driver.specs.Calls.{Stream, stream_of, streams_of, Stays, HasFaile
 use Rattle.tg_driver.specs.OfFiles.{OfFile, unreadable, read}
 use Rattle.tg_driver.specs.MeantRuns.{EndsAsMeant}
 use Rattle.tg_driver.specs.Runs.{RunRelation, HasRun}
-use Rattle.tg_meant.specs.Sources.{IsSource}
+use Rattle.tg_correct.specs.Sources.{IsSource}
 use Rattle.tg_driver.specs.Writing.{TextRelation, IsWritten}
 use Rattle.tg_driver.specs.RunMode.{IsRun}
 use Rattle.tg_driver.specs.ExecMode.{IsExecuted}

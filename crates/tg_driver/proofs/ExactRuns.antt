@@ -1,9 +1,9 @@
 -- Runs whose reads and writes all succeed are those of the definition.
 use Rattle.std.proofs.Common.{ℕ, ◌≡◌, List, [], ◌++◌, Option, Some, refl, sym, ap, subst, ◌∙◌, append-nil, length}
 use Rattle.std.specs.Io.KnownBytes.{Appends}
-use Rattle.tg_base.specs.declared.ends.RunEnd.{RunEnd}
-use Rattle.tg_base.specs.declared.ends.RunEnd.TheVariants.{ReadFault, WriteFault}
-use Rattle.tg_base.specs.State.{start}
+use Rattle.tg_state.specs.declared.ends.RunEnd.{RunEnd}
+use Rattle.tg_state.specs.declared.ends.RunEnd.TheVariants.{ReadFault, WriteFault}
+use Rattle.tg_state.specs.State.{start}
 use Rattle.tg_isa.specs.declared.images.Image.{Image}
 use Rattle.tg_isa.specs.Runs.{Execution, run, begun, answers}
 use Rattle.tg_machine.specs.Ran.{Stops, still, ended, read_failed, write_failed, Tells}

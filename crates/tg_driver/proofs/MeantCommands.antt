@@ -1,14 +1,14 @@
 -- Good words for a file that is there, with no fault of a count, are answered by the meaning of the source, or by want of memory.
 use Rattle.std.proofs.Common.{ℕ, ◌≡◌, ◌⊎◌, inl, inr, List, [], Option, Some, None, take, refl, sym, subst, arith}
 use Rattle.std.specs.Io.KnownBytes.{Appends}
-use Rattle.tg_base.specs.declared.ends.RunEnd.TheVariants.{WriteFault}
+use Rattle.tg_state.specs.declared.ends.RunEnd.TheVariants.{WriteFault}
 use Rattle.tg_command.specs.declared.modes.Mode.{Mode}
 use Rattle.tg_command.specs.declared.modes.Mode.TheVariants.{Check, Build, Run, Exec, Alloc, Gen, Format}
 use Rattle.tg_command.specs.Counts.{IsWithin, GivesCount, heap_limits, stack_limits}
 use Rattle.tg_command.specs.Commands.{Asked, Ask}
-use Rattle.tg_agreement.specs.Meant.{AreSizes}
-use Rattle.tg_meant.specs.Meant.{IsAsMeant}
-use Rattle.tg_meant.specs.Laws.{EndedIsMeant, RunningIsMeant}
+use Rattle.tg_correct.specs.Images.{AreSizes}
+use Rattle.tg_correct.specs.Assemblies.{IsAsMeant}
+use Rattle.tg_compile_proof.specs.TextLaws.{EndedIsMeant, RunningIsMeant}
 use Rattle.tg_driver.specs.declared.answers.Answer.{Answer}
 use Rattle.tg_driver.specs.declared.answers.Answer.TheVariants.{Faulty, Written, Unwritten, Finished, OutOfMemory}
 use Rattle.tg_driver.specs.Calls.{Stream, stream_of, HasFailed, Streams, Call, Takes, nothing, all, part}

@@ -5,24 +5,24 @@ use Rattle.std.proofs.lemmas.Int.{of_z-to_z}
 use Rattle.std.proofs.lemmas.List.Elements.{All-nil}
 use Rattle.std.specs.Io.KnownBytes.{Appends}
 use Rattle.tg_base.specs.Causes.{Rose}
-use Rattle.tg_base.specs.declared.ends.RunEnd.{RunEnd}
-use Rattle.tg_base.specs.declared.ends.RunEnd.TheVariants.{ReadFault, WriteFault}
-use Rattle.tg_base.specs.State.{start}
-use Rattle.tg_runs.specs.Bytes.{AreBytes}
-use Rattle.tg_runs.specs.Outcomes as over
-use Rattle.tg_meaning.specs.Values.{Ending, normal, by_nil, by_index, by_division, by_chr}
-use Rattle.tg_meaning.specs.Values.{by_substring, by_size, by_heap, by_overflow, by_exit}
-use Rattle.tg_meaning.specs.MachineEnds.{machine_end}
-use Rattle.tg_meaning.specs.Direct.{evaluate}
+use Rattle.tg_state.specs.declared.ends.RunEnd.{RunEnd}
+use Rattle.tg_state.specs.declared.ends.RunEnd.TheVariants.{ReadFault, WriteFault}
+use Rattle.tg_state.specs.State.{start}
+use Rattle.tg_simulation.specs.Bytes.{AreBytes}
+use Rattle.tg_simulation.specs.Outcomes as over
+use Rattle.tg_semantics.specs.Values.{Ending, normal, by_nil, by_index, by_division, by_chr}
+use Rattle.tg_semantics.specs.Values.{by_substring, by_size, by_heap, by_overflow, by_exit}
+use Rattle.tg_semantics.specs.MachineEnds.{machine_end}
+use Rattle.tg_semantics.specs.Direct.{evaluate}
 use Rattle.tg_isa.specs.declared.images.Image.{Image}
-use Rattle.tg_isa.specs.Assembly.{Assembled, Fault as AsmFault, assembled}
+use Rattle.tg_asm_text.specs.Assembly.{Assembled, Fault as AsmFault, assembled}
 use Rattle.tg_isa.specs.Runs.{Execution, begun, answers}
 use Rattle.tg_asm.specs.Images.{image_of}
 use Rattle.tg_machine.specs.Ran.{Stops, still, ended, read_failed, write_failed, Tells}
-use Rattle.tg_agreement.specs.Meant.{AreSizes}
-use Rattle.tg_meant.specs.Ends.{EndIsMeant}
-use Rattle.tg_meant.specs.Meant.{IsAsMeant}
-use Rattle.tg_meant.specs.Laws.{EndedIsMeant, RunningIsMeant, ExitsAreWords}
+use Rattle.tg_correct.specs.Images.{AreSizes}
+use Rattle.tg_correct.specs.Ends.{EndIsMeant}
+use Rattle.tg_correct.specs.Assemblies.{IsAsMeant}
+use Rattle.tg_compile_proof.specs.TextLaws.{EndedIsMeant, RunningIsMeant, ExitsAreWords}
 use Rattle.tg_driver.specs.Calls.{Streams}
 use Rattle.tg_driver.specs.MeantEnds.{EndsByMeaning, RunsAreMeant, GeneratedAreMeant, streams_until}
 use Rattle.tg_driver.specs.MeantEnds.{ending_status, StatusesAreMeant}

@@ -5,11 +5,11 @@ use Rattle.std.proofs.lemmas.Bool.Decides.{nat_tests}
 use Rattle.std.specs.Io.KnownBytes.{Appends}
 use Rattle.tg_base.specs.Causes.{Rose}
 use Rattle.tg_base.specs.Files.{IsFrontOf}
-use Rattle.tg_base.specs.State.{start}
-use Rattle.tg_base.specs.Services.{Writes}
+use Rattle.tg_state.specs.State.{start}
+use Rattle.tg_state.specs.Services.{Writes}
 use Rattle.tg_base.specs.Writes.{TakesFront}
-use Rattle.tg_base.specs.declared.ends.RunEnd.{RunEnd}
-use Rattle.tg_base.specs.declared.ends.RunEnd.TheVariants.{Exit, Break, ReadFault, WriteFault}
+use Rattle.tg_state.specs.declared.ends.RunEnd.{RunEnd}
+use Rattle.tg_state.specs.declared.ends.RunEnd.TheVariants.{Exit, Break, ReadFault, WriteFault}
 use Rattle.tg_isa.specs.declared.images.Image.{Image}
 use Rattle.tg_isa.specs.Runs.{Execution, run, begun}
 use Rattle.tg_machine.specs.Ran.{Stops, still, ended, read_failed, write_failed}
@@ -19,7 +19,7 @@ use Rattle.tg_command.specs.declared.modes.Mode.{Mode}
 use Rattle.tg_command.specs.declared.modes.Mode.TheVariants.{Check, Build, Run, Exec, Alloc, Gen, Format}
 use Rattle.tg_command.specs.Commands.{Asked, Ask}
 use Rattle.tg_command.proofs.CommandLemmas.{asked_once}
-use Rattle.tg_rounds.specs.Policies.{Rule as SpillRule}
+use Rattle.tg_irc.specs.Policies.{Rule as SpillRule}
 use Rattle.tg_driver.specs.declared.answers.Answer.{Answer}
 use Rattle.tg_driver.specs.declared.answers.Answer.TheVariants.{Usage, Faulty, BadLine, TooLong, Unreadable, OutOfMemory}
 use Rattle.tg_driver.specs.declared.answers.Answer.TheVariants.{Accepted, Written, Unwritten, Finished}

@@ -10,17 +10,17 @@ use Rattle.tg_types.specs.declared.notes.Note.{Note}
 use Rattle.tg_types.specs.Accepted.{Finding, finding, accepted, at_fault}
 use Rattle.tg_types.specs.Answered.{Accepts, AreRising, IsAt}
 use Rattle.tg_types.proofs.NeverStuck.{accepted_never_stuck}
-use Rattle.tg_rounds.specs.Policies.{Rule as SpillRule}
-use Rattle.tg_spill.specs.declared.allocations.Allocation.{Allocation}
-use Rattle.tg_listing.specs.Listing.{listed}
-use Rattle.tg_texts.specs.Laws.{StaticsFitSegment}
+use Rattle.tg_irc.specs.Policies.{Rule as SpillRule}
+use Rattle.tg_regalloc.specs.declared.allocations.Allocation.{Allocation}
+use Rattle.tg_regalloc_listing.specs.Listing.{listed}
+use Rattle.tg_literal_bounds.specs.Laws.{StaticsFitSegment}
 use Rattle.tg_compile.specs.Compiling.{LiteralsFit, findings_of, Compiles, HasImage}
 use Rattle.tg_driver.specs.Meanings.{SourcesAreNeverStuck}
-use Rattle.tg_meant.specs.Sources.{IsSource, IsSourceOf}
-use Rattle.tg_meant.specs.Meant.{IsAsMeant}
-use Rattle.tg_meant.specs.Builds.{CompilesTo}
-use Rattle.tg_meant.specs.Laws.{BuiltIsAsMeant}
-use Rattle.tg_meant.proofs.Building as built
+use Rattle.tg_correct.specs.Sources.{IsSource, IsSourceOf}
+use Rattle.tg_correct.specs.Assemblies.{IsAsMeant}
+use Rattle.tg_compile_proof.specs.Builds.{CompilesTo}
+use Rattle.tg_compile_proof.specs.TextLaws.{BuiltIsAsMeant}
+use Rattle.tg_compile_proof.proofs.Building as built
 use Rattle.tg_driver.specs.AllocMode.{Lists}
 use Rattle.tg_driver.specs.declared.writing.Wanted.{Wanted}
 use Rattle.tg_driver.specs.declared.writing.Wanted.TheVariants.{Assembly, Allocations}

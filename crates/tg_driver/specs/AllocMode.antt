@@ -1,13 +1,13 @@
 -- The mode `alloc`: reads a source, and writes to the output what the register allocator did in
 -- each function.
 use Rattle.std.specs.Prelude.{◌≡◌, List, ℕ}
-use Rattle.tg_rounds.specs.Policies.{Rule as SpillRule}
-use Rattle.tg_spill.specs.declared.allocations.Allocation.{Allocation}
-use Rattle.tg_listing.specs.Listing.{listed}
+use Rattle.tg_irc.specs.Policies.{Rule as SpillRule}
+use Rattle.tg_regalloc.specs.declared.allocations.Allocation.{Allocation}
+use Rattle.tg_regalloc_listing.specs.Listing.{listed}
 use Rattle.tg_command.specs.Commands.{Asked}
 use Rattle.tg_driver.specs.declared.answers.Answer.{Answer}
 use Rattle.tg_driver.specs.Calls.{Shelved, Streams}
-use Rattle.tg_meant.specs.Builds.{CompilesTo}
+use Rattle.tg_compile_proof.specs.Builds.{CompilesTo}
 use Rattle.tg_driver.specs.Writing.{ByWriting}
 
 -- the source is compiled to allocations, of which this is the text

@@ -3,7 +3,7 @@
 use Rattle.tg_command.specs.Commands.{Asked}
 use Rattle.tg_driver.specs.declared.answers.Answer.{Answer}
 use Rattle.tg_driver.specs.Calls.{Shelved, Streams}
-use Rattle.tg_meant.specs.Meant.{IsAsMeant}
+use Rattle.tg_correct.specs.Assemblies.{IsAsMeant}
 use Rattle.tg_driver.specs.Writing.{ByWriting}
 
 abbrev pub ByBuild : {H I O : Type 0} → Shelved H → Streams I O → Asked → Answer → Type 0

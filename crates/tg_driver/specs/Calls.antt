@@ -4,7 +4,7 @@ use Rattle.std.specs.Io.KnownBytes.{Appends}
 use Rattle.tg_base.specs.Causes.{Rose}
 use Rattle.tg_base.specs.Files.{Files}
 use Rattle.tg_base.specs.Writes.{TakesFront}
-use Rattle.tg_rounds.specs.Policies.{Rule as SpillRule}
+use Rattle.tg_irc.specs.Policies.{Rule as SpillRule}
 use Rattle.tg_watch.specs.Watching.{Report}
 
 -- a source or a sink: what it tells of its bytes, its count of faults, and itself before and after

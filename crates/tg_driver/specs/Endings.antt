@@ -1,11 +1,11 @@
 -- The status and the line of each end of a run.
 use Rattle.std.specs.Prelude.{ℕ, ◌%◌, ◌==◌, List, [], ◌∷◌, ◌++◌, codes, if◌then◌else◌}
 use Rattle.std.specs.Fmt.{decimal}
-use Rattle.tg_base.specs.declared.ends.RunEnd.{RunEnd}
-use Rattle.tg_base.specs.declared.ends.RunEnd.TheVariants.{Exit, Break, Overflow, HeapFull}
-use Rattle.tg_base.specs.declared.ends.RunEnd.TheVariants.{StackFull, StepLimit, BadAddress}
-use Rattle.tg_base.specs.declared.ends.RunEnd.TheVariants.{Unaligned, BadWord, BadService}
-use Rattle.tg_base.specs.declared.ends.RunEnd.TheVariants.{ReadFault, WriteFault}
+use Rattle.tg_state.specs.declared.ends.RunEnd.{RunEnd}
+use Rattle.tg_state.specs.declared.ends.RunEnd.TheVariants.{Exit, Break, Overflow, HeapFull}
+use Rattle.tg_state.specs.declared.ends.RunEnd.TheVariants.{StackFull, StepLimit, BadAddress}
+use Rattle.tg_state.specs.declared.ends.RunEnd.TheVariants.{Unaligned, BadWord, BadService}
+use Rattle.tg_state.specs.declared.ends.RunEnd.TheVariants.{ReadFault, WriteFault}
 use Rattle.tg_base.specs.Words.{unsigned}
 use Rattle.tg_watch.specs.Words.{word_text}
 

@@ -2,9 +2,9 @@
 use Rattle.std.specs.Prelude.{ℕ, ◌≢◌, List}
 use Rattle.tg_syntax.specs.declared.tokens.Spanned.{Spanned}
 use Rattle.tg_syntax.specs.Tree.{Exp}
-use Rattle.tg_runs.specs.Outcomes.{stuck}
-use Rattle.tg_meaning.specs.Direct.{evaluate}
-use Rattle.tg_meant.specs.Sources.{IsSourceOf}
+use Rattle.tg_simulation.specs.Outcomes.{stuck}
+use Rattle.tg_semantics.specs.Direct.{evaluate}
+use Rattle.tg_correct.specs.Sources.{IsSourceOf}
 
 -- whatever its input, its sizes and its fuel, a text that is a program meets no value of the wrong
 -- kind and no name without meaning

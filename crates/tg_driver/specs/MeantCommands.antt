@@ -1,14 +1,14 @@
 -- What `build`, `run` and `gen` do by the meaning of their source, where no count of faults rose.
 use Rattle.std.specs.Prelude.{ℕ, ◌≡◌, List, [], Some}
 use Rattle.std.specs.Io.KnownBytes.{Appends}
-use Rattle.tg_base.specs.declared.ends.RunEnd.{RunEnd}
+use Rattle.tg_state.specs.declared.ends.RunEnd.{RunEnd}
 use Rattle.tg_base.specs.InMemory.{PlainBytes}
-use Rattle.tg_runs.specs.Bytes.{AreBytes}
+use Rattle.tg_simulation.specs.Bytes.{AreBytes}
 use Rattle.tg_generate.specs.Generated.{generated}
 use Rattle.tg_command.specs.declared.modes.Mode.{Mode}
 use Rattle.tg_command.specs.declared.modes.Mode.TheVariants.{Build, Run, Gen}
 use Rattle.tg_command.specs.Commands.{Asked}
-use Rattle.tg_meant.specs.Meant.{IsAsMeant}
+use Rattle.tg_correct.specs.Assemblies.{IsAsMeant}
 use Rattle.tg_driver.specs.declared.answers.Answer.{Answer}
 use Rattle.tg_driver.specs.declared.answers.Answer.TheVariants.{Faulty, Written, Finished}
 use Rattle.tg_driver.specs.Calls.{Stream, Streams, Call}

@@ -1,22 +1,22 @@
 -- What the end of a run says of the meaning of its source, in `run` and in `gen`.
 use Rattle.std.specs.Prelude.{ℕ, ◌≡◌, ◌≢◌, ◌%◌, List, [], Some}
 use Rattle.std.specs.Io.KnownBytes.{Appends}
-use Rattle.tg_base.specs.declared.ends.RunEnd.{RunEnd}
-use Rattle.tg_base.specs.declared.ends.RunEnd.TheVariants.{ReadFault, WriteFault}
+use Rattle.tg_state.specs.declared.ends.RunEnd.{RunEnd}
+use Rattle.tg_state.specs.declared.ends.RunEnd.TheVariants.{ReadFault, WriteFault}
 use Rattle.tg_base.specs.InMemory.{PlainBytes}
 use Rattle.tg_syntax.specs.declared.tokens.Spanned.{Spanned}
 use Rattle.tg_syntax.specs.Tree.{Exp}
-use Rattle.tg_runs.specs.Bytes.{AreBytes}
-use Rattle.tg_runs.specs.Outcomes.{ended}
-use Rattle.tg_meaning.specs.Values.{Ending, normal, by_nil, by_index, by_division, by_chr}
-use Rattle.tg_meaning.specs.Values.{by_substring, by_size, by_heap, by_overflow, by_exit}
-use Rattle.tg_meaning.specs.MachineEnds.{machine_end}
-use Rattle.tg_meaning.specs.Direct.{evaluate}
+use Rattle.tg_simulation.specs.Bytes.{AreBytes}
+use Rattle.tg_simulation.specs.Outcomes.{ended}
+use Rattle.tg_semantics.specs.Values.{Ending, normal, by_nil, by_index, by_division, by_chr}
+use Rattle.tg_semantics.specs.Values.{by_substring, by_size, by_heap, by_overflow, by_exit}
+use Rattle.tg_semantics.specs.MachineEnds.{machine_end}
+use Rattle.tg_semantics.specs.Direct.{evaluate}
 use Rattle.tg_isa.specs.Runs.{Execution}
 use Rattle.tg_machine.specs.Ran.{Tells}
-use Rattle.tg_agreement.specs.Meant.{AreSizes}
-use Rattle.tg_meant.specs.Sources.{IsSourceOf}
-use Rattle.tg_meant.specs.Ends.{EndIsMeant}
+use Rattle.tg_correct.specs.Images.{AreSizes}
+use Rattle.tg_correct.specs.Sources.{IsSourceOf}
+use Rattle.tg_correct.specs.Ends.{EndIsMeant}
 use Rattle.tg_driver.specs.declared.answers.Answer.{Answer}
 use Rattle.tg_driver.specs.Calls.{Stream, stream_of, Streams, streams_of}
 use Rattle.tg_driver.specs.Endings.{end_status}

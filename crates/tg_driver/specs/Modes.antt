@@ -1,7 +1,7 @@
 -- The modes: each has a file of its own, which says whether it reads a file, what is due, and which
 -- streams it touches.
 use Rattle.std.specs.Prelude.{ℕ, ◌≡◌, List}
-use Rattle.tg_rounds.specs.Policies.{Rule as SpillRule}
+use Rattle.tg_irc.specs.Policies.{Rule as SpillRule}
 use Rattle.tg_command.specs.declared.modes.Mode.{Mode}
 use Rattle.tg_command.specs.declared.modes.Mode.TheVariants.{Check, Build, Run, Exec, Alloc, Gen}
 use Rattle.tg_command.specs.declared.modes.Mode.TheVariants.{Format}

@@ -5,7 +5,7 @@ use Rattle.tg_syntax.specs.declared.trees.Program.{Program}
 use Rattle.tg_syntax.specs.LexicalFaults.{HasLexicalFault}
 use Rattle.tg_syntax.specs.Plain.{plain}
 use Rattle.tg_syntax.specs.Tree.{Exp}
-use Rattle.tg_rounds.specs.Policies.{Rule as SpillRule}
+use Rattle.tg_irc.specs.Policies.{Rule as SpillRule}
 use Rattle.tg_lexer.specs.declared.faults.LexFault.{LexFault}
 use Rattle.tg_lexer.specs.declared.faults.LexFault.TheVariants as lexed
 use Rattle.tg_parser.specs.Answers.{HasSyntaxFault}
@@ -22,9 +22,9 @@ use Rattle.tg_driver.specs.declared.refusals.Refusal.{Refusal}
 use Rattle.tg_driver.specs.declared.refusals.Refusal.TheVariants as refusal
 use Rattle.tg_driver.specs.declared.faults.Rule.TheVariants.{Lexical, Syntactic, Typed}
 use Rattle.tg_compile.specs.declared.compiled.Compiled.{Compiled}
-use Rattle.tg_meant.specs.Sources.{HasTokens, HasTree}
+use Rattle.tg_correct.specs.Sources.{HasTokens, HasTree}
 use Rattle.tg_driver.specs.Faults.{HasFault}
-use Rattle.tg_meant.specs.Builds.{CompilesTo}
+use Rattle.tg_compile_proof.specs.Builds.{CompilesTo}
 
 -- the text's lexical fault; want of memory says nothing of the text
 abbrev pub IsLexFaultOf : List ℕ → LexFault → Type 0

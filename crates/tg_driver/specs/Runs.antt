@@ -1,9 +1,9 @@
 -- Runs of the machine on the streams of a call.
 use Rattle.std.specs.Prelude.{ℕ, ◌≡◌, List}
 use Rattle.std.specs.Io.KnownBytes.{Appends}
-use Rattle.tg_base.specs.declared.ends.RunEnd.{RunEnd}
-use Rattle.tg_base.specs.declared.ends.RunEnd.TheVariants.{StepLimit}
-use Rattle.tg_base.specs.State.{start}
+use Rattle.tg_state.specs.declared.ends.RunEnd.{RunEnd}
+use Rattle.tg_state.specs.declared.ends.RunEnd.TheVariants.{StepLimit}
+use Rattle.tg_state.specs.State.{start}
 use Rattle.tg_isa.specs.declared.images.Image.{Image}
 use Rattle.tg_isa.specs.Runs.{Execution, Progress, Running, Ended, run, begun, answers}
 use Rattle.tg_machine.specs.Machines.{Simulated, loaded}

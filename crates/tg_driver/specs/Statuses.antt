@@ -1,8 +1,9 @@
 -- The status and the line of each answer.
 use Rattle.std.specs.Prelude.{ℕ, List, [], ◌++◌, codes}
 use Rattle.std.specs.Fmt.{decimal}
-use Rattle.tg_isa.specs.declared.keywords.AsmRule.{AsmRule}
-use Rattle.tg_isa.specs.declared.keywords.AsmRule.TheVariants.{A1, A2, A3, A4, A5, A6, A7, A8, A9}
+use Rattle.tg_asm_text.specs.declared.keywords.AsmRule.{AsmRule}
+use Rattle.tg_asm_text.specs.declared.keywords.AsmRule.TheVariants.{A1, A2, A3, A4, A5, A6, A7, A8}
+use Rattle.tg_asm_text.specs.declared.keywords.AsmRule.TheVariants.{A9}
 use Rattle.tg_syntax.specs.declared.faults.LexRule.TheVariants.{L1, L2, L3, L4, L5, L6, L7}
 use Rattle.tg_parser.specs.declared.faults.SyntaxRule.TheVariants.{S1, S2}
 use Rattle.tg_types.specs.declared.faults.TypeRule.{TypeRule}

@@ -1,11 +1,11 @@
 -- Which text of a source a mode writes to the output.
 use Rattle.std.specs.Prelude.{List, ℕ}
-use Rattle.tg_rounds.specs.Policies.{Rule as SpillRule}
-use Rattle.tg_spill.specs.declared.allocations.Allocation.{Allocation}
-use Rattle.tg_listing.specs.Listing.{listed}
+use Rattle.tg_irc.specs.Policies.{Rule as SpillRule}
+use Rattle.tg_regalloc.specs.declared.allocations.Allocation.{Allocation}
+use Rattle.tg_regalloc_listing.specs.Listing.{listed}
 use Rattle.tg_driver.specs.declared.writing.Wanted.{Wanted}
 use Rattle.tg_driver.specs.declared.writing.Wanted.TheVariants.{Assembly, Allocations}
-use Rattle.tg_meant.specs.Meant.{IsAsMeant}
+use Rattle.tg_correct.specs.Assemblies.{IsAsMeant}
 use Rattle.tg_driver.specs.AllocMode.{Lists}
 use Rattle.tg_driver.specs.Writing.{TextRelation}
 

@@ -1,7 +1,7 @@
 -- Runs that are watched, and what is told of them.
 use Rattle.std.specs.Prelude.{ℕ, ◌≡◌, List, [], length, map, if◌then◌else◌, All}
-use Rattle.tg_base.specs.declared.ends.RunEnd.{RunEnd}
-use Rattle.tg_base.specs.State.{start}
+use Rattle.tg_state.specs.declared.ends.RunEnd.{RunEnd}
+use Rattle.tg_state.specs.State.{start}
 use Rattle.tg_isa.specs.declared.images.Image.{Image}
 use Rattle.tg_isa.specs.Runs.{begun, answers}
 use Rattle.tg_machine.specs.declared.fetches.Seen.{Seen}

@@ -6,7 +6,8 @@ ghost use Rattle.tg_driver.specs.Telling.{IsFixed};
 use crate::endings::end_status;
 use crate::faults::Fault;
 use tg_asm::AsmRule;
-use tg_base::{RunEnd, ShelfFault};
+use tg_base::ShelfFault;
+use tg_state::RunEnd;
 
 /// What the program answers, before it reports it.
 #[derive(Clone, Copy)]

@@ -1,7 +1,7 @@
 ghost use Rattle.std.specs.Prelude.{◌≡◌, ℕ, List, IfOk};
 ghost use Rattle.tg_syntax.specs.Plain.{plain};
-ghost use Rattle.tg_meant.specs.Builds.{CompilesTo};
-ghost use Rattle.tg_meant.specs.Sources.{IsSource};
+ghost use Rattle.tg_compile_proof.specs.Builds.{CompilesTo};
+ghost use Rattle.tg_correct.specs.Sources.{IsSource};
 ghost use Rattle.tg_driver.specs.Readings.{HasNamedTree, IsCompiled};
 
 use crate::reading::{NamedProgram, ill_typed, parse_source};
@@ -9,8 +9,8 @@ use crate::refusals::Refusal;
 use std::alloc::Global;
 use tg_base::Memory;
 use tg_compile::{Compiled, compile_checked};
-use tg_rounds::SpillPolicy;
-use tg_texts::literals_fit_text;
+use tg_irc::SpillPolicy;
+use tg_literal_bounds::literals_fit_text;
 use tg_types::check;
 
 /// Compiles a source: the code of its functions and its assembly text. The policy is asked what to

@@ -9,7 +9,8 @@ ghost use Rattle.tg_driver.specs.Endings.{
 ghost use Rattle.tg_watch.specs.Words.{word_text};
 ghost use Rattle.tg_driver.specs.Plainly.{IsPlain, IsOwnBreak};
 
-use tg_base::{Failed, RunEnd, Sink, write_all};
+use tg_base::{Failed, Sink, write_all};
+use tg_state::RunEnd;
 use tg_watch::word_text;
 
 /// The exit status of an end of the machine.

@@ -1,5 +1,5 @@
 ghost use Rattle.std.specs.Prelude.{◌≡◌, ◌≤◌, ◌<◌, ◌^◌, ℕ, ⊤, [], All, length};
-ghost use Rattle.tg_base.specs.State.{most_bytes, most_words};
+ghost use Rattle.tg_state.specs.State.{most_bytes, most_words};
 ghost use Rattle.tg_isa.specs.declared.images.Image.{Image as ImageOf};
 ghost use Rattle.tg_machine.specs.Machines.{loaded};
 ghost use Rattle.tg_command.specs.Commands.{KeepsLimits, asked_of};
@@ -13,10 +13,11 @@ use crate::answers::{Answer, unread};
 use crate::streams::Streams;
 use std::alloc::Global;
 use tg_asm::{AsmFault, assemble};
-use tg_base::{RunEnd, Shelf, Sink, Source};
+use tg_base::{Shelf, Sink, Source};
 use tg_command::Command;
 use tg_isa::Image;
 use tg_machine::{Machine, load};
+use tg_state::RunEnd;
 use tg_watch::{Watcher, begin_all, run_watched};
 
 /// The most bytes of assembly text.

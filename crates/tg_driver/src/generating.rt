@@ -1,13 +1,13 @@
 ghost use Rattle.std.specs.Prelude.{◌≡◌, ◌++◌, ◌≤◌, ◌<◌, ℕ, ⊤, [], length};
 ghost use Rattle.std.specs.Fmt.{decimal};
 ghost use Rattle.tg_base.specs.Causes.{HasCause};
-ghost use Rattle.tg_base.specs.State.{most_bytes, most_words};
+ghost use Rattle.tg_state.specs.State.{most_bytes, most_words};
 ghost use Rattle.tg_base.specs.Writes.{TakesAll};
 ghost use Rattle.tg_isa.specs.declared.images.Image.{Image as ImageOf};
 ghost use Rattle.tg_machine.specs.Machines.{loaded};
 ghost use Rattle.tg_command.specs.Counts.{IsWithin, function_limits};
 ghost use Rattle.tg_command.specs.Commands.{KeepsLimits, asked_of};
-ghost use Rattle.tg_meant.specs.Sources.{IsSource};
+ghost use Rattle.tg_correct.specs.Sources.{IsSource};
 ghost use Rattle.tg_driver.specs.Calls.{stream_of};
 ghost use Rattle.tg_driver.specs.Endings.{end_status};
 ghost use Rattle.tg_driver.specs.GenMode.{
@@ -25,14 +25,15 @@ use crate::compiling::compile_accepted;
 use crate::endings::end_status;
 use crate::images::image_of;
 use std::alloc::Global;
-use tg_base::{Failed, PlainSource, RunEnd, Sink, write_all};
+use tg_base::{Failed, PlainSource, Sink, write_all};
 use tg_command::Command;
+use tg_compile_proof::build_is_correct;
 use tg_generate::generate;
-use tg_generated::generated_is_accepted;
+use tg_generate_laws::generated_is_accepted;
+use tg_irc::SpillPolicy;
 use tg_isa::Image;
 use tg_machine::{Machine, load};
-use tg_meant::built_is_as_meant;
-use tg_rounds::SpillPolicy;
+use tg_state::RunEnd;
 
 /// The answer of the mode `gen`: generates a source, compiles it, runs it on an empty input, and
 /// writes the summary line.
@@ -69,7 +70,7 @@ fn run_generated<O: Sink>(
         command.now.number text.now command.now.heap command.now.stack command.now.steps) result }
     ensures before_start { StaysBeforeStart (stream_of O.taken O.faults out.old out.new) result }
 {
-    built_is_as_meant();
+    build_is_correct();
     match compile_accepted(alloc, text, policy) {
         Ok(compiled) => match image_of(alloc, &compiled.text) {
             Ok(image) => execute_generated(alloc, command, &image, text.len(), out),

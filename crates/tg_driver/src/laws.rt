@@ -1,5 +1,5 @@
 ghost use Rattle.std.specs.Prelude.{◌≡◌, ◌⊎◌, ℕ, List, [], Some, take};
-ghost use Rattle.tg_base.specs.declared.ends.RunEnd.{RunEnd};
+ghost use Rattle.tg_state.specs.declared.ends.RunEnd.{RunEnd};
 ghost use Rattle.tg_isa.specs.declared.images.Image.{Image};
 ghost use Rattle.tg_watch.specs.Watching.{Report};
 ghost use Rattle.tg_command.specs.Commands.{Asked};
@@ -19,7 +19,7 @@ ghost use Rattle.tg_driver.specs.Runs.{HasRun, IsExact};
 ghost use Rattle.tg_driver.specs.Safe.{IsSafe};
 ghost use Rattle.tg_driver.specs.Watching.{HasToldRun, reports_on};
 
-use tg_meant::{ends_are_as_meant, exits_are_words};
+use tg_compile_proof::{ends_are_as_meant, exits_are_words};
 
 /// The law that a command has at most one answer for a text, but where the streams were touched: an
 /// end of a run, which the input decides too, or whether the output took what was written. So each

@@ -1,4 +1,5 @@
 ghost use Rattle.std.specs.Prelude.{ℕ, List};
+ghost use Rattle.tg_correct.specs.Sources.{HasTokens};
 ghost use Rattle.tg_driver.specs.Readings.{
   IsLexFaultOf,
   IsLexed,
@@ -9,7 +10,6 @@ ghost use Rattle.tg_driver.specs.Readings.{
   IsTypeFaultOf,
   IsUntypedRefusalOf,
 };
-ghost use Rattle.tg_meant.specs.Sources.{HasTokens};
 
 use crate::refusals::Refusal;
 use std::alloc::Global;

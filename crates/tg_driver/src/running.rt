@@ -16,8 +16,8 @@ use crate::streams::Streams;
 use std::alloc::Global;
 use tg_base::{Shelf, Sink, Source};
 use tg_command::Command;
-use tg_meant::built_is_as_meant;
-use tg_rounds::SpillPolicy;
+use tg_compile_proof::build_is_correct;
+use tg_irc::SpillPolicy;
 use tg_watch::Watcher;
 
 /// The answer of the mode `run`.
@@ -67,7 +67,7 @@ fn run_text<I: Source, O: Sink>(
         (stream_of I.left I.faults streams.entry.input.now streams.exit.0.now)
         (stream_of O.taken O.faults streams.entry.out.now streams.exit.1.0.now)) result }
 {
-    built_is_as_meant();
+    build_is_correct();
     match compile(alloc, text, policy) {
         Ok(compiled) => run_assembly(alloc, command, &compiled.text, streams, watchers),
         Err(refusal) => refused(text, refusal),

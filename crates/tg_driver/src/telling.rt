@@ -11,7 +11,8 @@ use crate::endings::{end_status, write_end};
 use crate::faults::{Fault, bad_line, fault_line};
 use std::alloc::Global;
 use tg_asm::AsmRule;
-use tg_base::{Failed, RunEnd, Sink, write_all};
+use tg_base::{Failed, Sink, write_all};
+use tg_state::RunEnd;
 use tg_watch::{Watcher, write_reports};
 
 /// Reports an answer on the error sink, behind a run what its watchers tell first, and answers its

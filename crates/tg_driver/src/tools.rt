@@ -1,4 +1,4 @@
-use tg_rounds::SpillPolicy;
+use tg_irc::SpillPolicy;
 use tg_watch::Watcher;
 
 /// What the program is handed besides the outside. All of it is dropped by the end of the call.

@@ -21,7 +21,7 @@ use crate::writing::{Wanted, answer_written};
 use std::alloc::Global;
 use tg_base::{Shelf, Sink, Source};
 use tg_command::{Command, CommandFault, Flags, Mode, read_words};
-use tg_rounds::SpillPolicy;
+use tg_irc::SpillPolicy;
 use tg_watch::Watcher;
 
 /// The program: reads the words of a command, does what they ask, and answers the exit status. What

@@ -14,9 +14,9 @@ use std::alloc::Global;
 use tg_base::{Memory, Shelf, Sink, Source, write_all};
 use tg_command::Command;
 use tg_compile::Compiled;
-use tg_listing::list;
-use tg_meant::built_is_as_meant;
-use tg_rounds::SpillPolicy;
+use tg_compile_proof::build_is_correct;
+use tg_irc::SpillPolicy;
+use tg_regalloc_listing::list;
 
 /// Which text of a source a mode writes to the output.
 #[derive(Clone, Copy)]
@@ -83,7 +83,7 @@ fn write_source<O: Sink>(
         (writes_of wanted (rule policy.old)) text.now) result }
     ensures before_start { StaysBeforeStart (stream_of O.taken O.faults out.old out.new) result }
 {
-    built_is_as_meant();
+    build_is_correct();
     match compile(alloc, text, policy) {
         Ok(compiled) => write_compiled(alloc, compiled, out, wanted),
         Err(refusal) => refused(text, refusal),

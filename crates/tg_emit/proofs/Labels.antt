@@ -3,12 +3,12 @@ use Rattle.std.proofs.Common.{ℕ, zero, suc, ◌≡◌, ◌<◌, List, [], ◌�
 use Rattle.std.specs.Prelude.{IsTrue, ◌==◌, IsAscii, IsUtf8}
 use Rattle.std.proofs.lemmas.Bool.Decides.{nat_tests}
 use Rattle.std.proofs.lemmas.Str.{IsUtf8-from_ascii}
-use Rattle.tg_isa.specs.Lines.{back, begins_label, is_in_label, is_past_label}
-use Rattle.tg_isa.specs.Operands.{is_label}
+use Rattle.tg_asm_text.specs.Lines.{back, begins_label, is_in_label, is_past_label}
+use Rattle.tg_asm_text.specs.Operands.{is_label}
 use Rattle.tg_instr.proofs.Tests.{left_holds, right_holds}
 use Rattle.tg_isa.specs.declared.mips.Mips.{Mips}
 use Rattle.tg_isa.specs.declared.mips.Mips.TheVariants as row
-use Rattle.tg_isa.specs.Writing.{takes_label, line_of}
+use Rattle.tg_asm_text.specs.Writing.{takes_label, line_of}
 
 pub written_alone : (one : Mips) (s t : List ℕ) → takes_label one ≡ false → line_of one s ≡ line_of one t
 written_alone (row.J n) s t h = cc

@@ -1,8 +1,8 @@
 -- What the functions of an assembly have to be, so that each number fits its field.
 use Rattle.std.specs.Prelude.{ℕ, ◌+◌, ◌*◌, ◌^◌, ◌&&◌, Bool, true, false, nat_lt, nat_le}
 use Rattle.std.specs.List.{list_all}
-use Rattle.tg_isa.specs.Operands.{is_label}
-use Rattle.tg_isa.specs.Writing.{takes_label}
+use Rattle.tg_asm_text.specs.Operands.{is_label}
+use Rattle.tg_asm_text.specs.Writing.{takes_label}
 use Rattle.tg_instr.specs.declared.instr.Instr.{Instr}
 use Rattle.tg_instr.specs.declared.instr.Instr.TheVariants.{Fault, FrameLoad, FrameStore}
 use Rattle.tg_instr.specs.declared.codes.Allocated.{Allocated}

@@ -1,7 +1,7 @@
 ghost use Rattle.std.specs.Prelude.{◌≡◌, ◌++◌, ◌∷◌, [], IsTrue, IfOk, OnOk};
 ghost use Rattle.std.specs.List.{list_all};
-ghost use Rattle.tg_isa.specs.Operands.{is_label};
-ghost use Rattle.tg_isa.specs.Writing.{takes_label, line_of};
+ghost use Rattle.tg_asm_text.specs.Operands.{is_label};
+ghost use Rattle.tg_asm_text.specs.Writing.{takes_label, line_of};
 ghost use Rattle.tg_emit.specs.declared.assembly.Line.TheVariants.{Label};
 ghost use Rattle.tg_emit.specs.Conditions.{has_labels};
 ghost use Rattle.tg_emit.specs.Text.{
@@ -17,8 +17,9 @@ use crate::assembly::{Assembly, Line};
 use crate::names::push_decimal;
 use std::alloc::Global;
 use std::str::from_utf8;
+use tg_asm_text::line;
 use tg_base::Memory;
-use tg_isa::{Mips, line, name};
+use tg_isa::{Mips, name};
 
 /// The text of an assembly: a line for each, and a directive where the segment changes.
 pub fn text(alloc: Global, assembly: &Assembly) -> Result<Vec<u8>, Memory>

@@ -1,12 +1,12 @@
 -- Bodies are carried, and with them calls and programs.
 use Rattle.std.proofs.Common.{◌≡◌, ℕ, zero, suc, ◌+◌, ◌<◌, ◌≤◌, List, [], ◌∷◌, map, subst, arith}
 use Rattle.std.specs.Prelude.{pos}
-use Rattle.tg_base.specs.declared.ends.RunEnd.TheVariants.{Exit}
-use Rattle.tg_base.specs.State.{stack_top}
-use Rattle.tg_runs.specs.Runs.{Run}
-use Rattle.tg_runs.specs.Ran.{Ran, Ended, Wrong}
-use Rattle.tg_runs.specs.Preserving.{Preserves}
-use Rattle.tg_runs.proofs.Simulations.{simulation_preserves, simulates_stopping, simulates_turn, simulates_less}
+use Rattle.tg_state.specs.declared.ends.RunEnd.TheVariants.{Exit}
+use Rattle.tg_state.specs.State.{stack_top}
+use Rattle.tg_simulation.specs.Runs.{Run}
+use Rattle.tg_simulation.specs.Ran.{Ran, Ended, Wrong}
+use Rattle.tg_simulation.specs.Preserving.{Preserves}
+use Rattle.tg_simulation.proofs.Simulations.{simulation_preserves, simulates_stopping, simulates_turn, simulates_less}
 use Rattle.tg_tree.specs.Tree.{Ts, Loop, Function, Literal, Code}
 use Rattle.tg_tree.specs.Memory.{begin}
 use Rattle.tg_tree.specs.Units.{Trees, marked_entry_units}

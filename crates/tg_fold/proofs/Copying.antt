@@ -2,8 +2,8 @@
 use Rattle.std.proofs.Common.{◌≡◌, ℕ, zero, suc, ◌+◌, ◌-◌, List, [], ◌∷◌, Bool, true, false, refl, sym, ap, ◌∙◌, arith}
 use Rattle.std.proofs.lemmas.Bool.Decides.{nat_tests}
 use Rattle.std.specs.Prelude.{◌==◌, ◌||◌, not, if◌then◌else◌, Option, Some, None}
-use Rattle.tg_runs.specs.Runs.{Run, nested}
-use Rattle.tg_runs.specs.Ran.{Ran, WantsFuel, stops}
+use Rattle.tg_simulation.specs.Runs.{Run, nested}
+use Rattle.tg_simulation.specs.Ran.{Ran, WantsFuel, stops}
 use Rattle.tg_tree.specs.declared.operators.Bin.{Bin}
 use Rattle.tg_tree.specs.declared.operators.Bin.TheVariants as bin
 use Rattle.tg_tree.specs.Tree.{Tx, Const, Address, Temp, FrameAddress, Binary, Load, LoadByte, Call, Service, After, Txs, no_txs, tx, Cond, Compare}

@@ -1,6 +1,6 @@
 -- What folding promises of runs: folded bodies do what the bodies did, with no more work.
 use Rattle.std.specs.Prelude.{ℕ, List, map}
-use Rattle.tg_runs.specs.Preserving.{Preserves}
+use Rattle.tg_simulation.specs.Preserving.{Preserves}
 use Rattle.tg_tree.specs.Tree.{Ts, Function, Literal, Code}
 use Rattle.tg_tree.specs.Units.{Trees, marked_entry_units}
 use Rattle.tg_tree.specs.Running.{Runner, run_body, going, tree_run}

@@ -40,7 +40,7 @@ pub fn sizes_stay()
 
 /// The laws of runs: a folded body does what the body did, with no more work, wherever calls do
 /// what they did. So calls of the functions of a code do, and programs.
-pub fn meaning_stays()
+pub fn fold_is_correct()
     ensures bodies { BodiesAreCarried }
     ensures calls { CallsAreCarried }
     ensures programs { ProgramsArePreserved }

@@ -11,5 +11,5 @@ mod reading;
 mod renaming;
 mod tests;
 
-pub use laws::{folding_is_folded, meaning_stays, shapes_stay, sizes_stay};
+pub use laws::{fold_is_correct, folding_is_folded, shapes_stay, sizes_stay};
 pub use pass::fold;

@@ -5,9 +5,9 @@ use Rattle.std.specs.Prelude.{codes, pos, nat_eq, nat_le, nat_lt, ◌&&◌}
 use Rattle.std.specs.List.{list_any, list_all}
 use Prim.Native.String.{String}
 use Rattle.tg_base.specs.declared.ids.Span.{Span}
-use Rattle.tg_base.specs.declared.ends.RunEnd.TheVariants.{Exit, Break as Broken}
-use Rattle.tg_base.specs.State.{stack_top}
-use Rattle.tg_runs.specs.Ran.{Ran, Stop, Ended}
+use Rattle.tg_state.specs.declared.ends.RunEnd.TheVariants.{Exit, Break as Broken}
+use Rattle.tg_state.specs.State.{stack_top}
+use Rattle.tg_simulation.specs.Ran.{Ran, Stop, Ended}
 use Rattle.tg_symbols.specs.Tables.{named}
 use Rattle.tg_syntax.specs.declared.tokens.Ident.{Ident}
 use Rattle.tg_syntax.specs.declared.trees.Param.{Param}
@@ -16,7 +16,7 @@ use Rattle.tg_syntax.specs.declared.trees.Op.TheVariants as op
 use Rattle.tg_syntax.specs.Tree.{Exp, Break, Int, Text, Read, Call, Binary, Make, Fill, Assign, If, When, While, For, Let}
 use Rattle.tg_syntax.specs.Tree.{Seq, Simple, Field, Index, Exps, no_exps, exp, no_inits, init, Decs, no_decs, variable}
 use Rattle.tg_syntax.specs.Tree.{functions, no_functions, function}
-use Rattle.tg_meaning.specs.declared.standards.Standard.TheVariants as standard
+use Rattle.tg_semantics.specs.declared.standards.Standard.TheVariants as standard
 use Rattle.tg_types.specs.declared.notes.Means.{Means}
 use Rattle.tg_types.specs.declared.notes.Means.TheVariants as means
 use Rattle.tg_tree.specs.Tree.{Ts, Function, Code}

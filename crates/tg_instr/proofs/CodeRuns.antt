@@ -3,13 +3,13 @@
 use Rattle.std.proofs.Common.{◌≡◌, ◌≤◌, ◌<◌, ℕ, ◌+◌, ◌-◌, List, [], ◌∷◌, Bool, true, false, length, refl, arith}
 use Rattle.std.specs.Prelude.{◌==◌, ◌%◌, Option, Some, None, pos, nat_lt, if◌then◌else◌}
 use Rattle.std.specs.Fmt.{signed_decimal}
-use Rattle.tg_base.specs.declared.ends.RunEnd.TheVariants.{Exit, Break, StackFull, BadService}
-use Rattle.tg_base.specs.State.{stack_top}
+use Rattle.tg_state.specs.declared.ends.RunEnd.TheVariants.{Exit, Break, StackFull, BadService}
+use Rattle.tg_state.specs.State.{stack_top}
 use Rattle.tg_base.specs.Words.{add, signed}
-use Rattle.tg_base.specs.Services.{whole_words}
-use Rattle.tg_runs.specs.Runs.{Run}
-use Rattle.tg_runs.specs.Ran.{Ran, Ended, WantsFuel, Wrong, stops, IsOver, GoesOn}
-use Rattle.tg_runs.proofs.Fixpoint.{again_is, runs_relate}
+use Rattle.tg_state.specs.Services.{whole_words}
+use Rattle.tg_simulation.specs.Runs.{Run}
+use Rattle.tg_simulation.specs.Ran.{Ran, Ended, WantsFuel, Wrong, stops, IsOver, GoesOn}
+use Rattle.tg_simulation.proofs.Fixpoint.{again_is, runs_relate}
 use Rattle.tg_tree.specs.Tree.{Function, Literal, Code}
 use Rattle.tg_tree.specs.Memory.{Memory, Unset, Closed, put, slot, begin, literal_address}
 use Rattle.tg_tree.specs.Operators.{Given, word, stops_by, holds}

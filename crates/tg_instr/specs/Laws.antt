@@ -1,6 +1,6 @@
 -- What the uses and definitions of an instruction say of its effect, and the laws of runs.
 use Rattle.std.specs.Prelude.{ℕ, ◌≡◌, ⊤, List, [], ◌∷◌, ◌++◌, map, if◌then◌else◌}
-use Rattle.tg_runs.specs.Ran.{StaysOver, OnlyGoesOn}
+use Rattle.tg_simulation.specs.Ran.{StaysOver, OnlyGoesOn}
 use Rattle.tg_tree.specs.Actions.{World}
 use Rattle.tg_tree.specs.Tree.{Literal, Code}
 use Rattle.tg_instr.specs.declared.instr.Instr.{Instr}

@@ -2,10 +2,10 @@
 -- first activation of a program takes none.
 use Rattle.std.specs.Prelude.{ℕ, zero, suc, ◌+◌, ◌-◌, ◌*◌, ◌==◌, List, [], ◌∷◌, Option, Some, None}
 use Rattle.std.specs.Prelude.{nat_lt, pos, length, if◌then◌else◌}
-use Rattle.tg_base.specs.declared.ends.RunEnd.TheVariants.{Exit, StackFull}
-use Rattle.tg_base.specs.State.{stack_top}
-use Rattle.tg_runs.specs.Runs.{Run, again}
-use Rattle.tg_runs.specs.Ran.{Ran, Ended, WantsFuel, stops}
+use Rattle.tg_state.specs.declared.ends.RunEnd.TheVariants.{Exit, StackFull}
+use Rattle.tg_state.specs.State.{stack_top}
+use Rattle.tg_simulation.specs.Runs.{Run, again}
+use Rattle.tg_simulation.specs.Ran.{Ran, Ended, WantsFuel, stops}
 use Rattle.tg_tree.specs.Actions.{World, Activation, over, wrong, charged}
 use Rattle.tg_tree.specs.Memory.{Cell, Closed, Unset, Memory, put, lay, begin}
 use Rattle.tg_tree.specs.Running.{function_of, with_fuel}

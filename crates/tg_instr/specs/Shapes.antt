@@ -5,7 +5,7 @@ use Rattle.std.specs.Prelude.{bit_or, bit_xor}
 use Rattle.tg_base.specs.Words.{add, sub, less, quot, rem, exact_sum, exact_difference}
 use Rattle.tg_base.specs.Words.{product_high, product_low, extended, extended_byte, shift_left}
 use Rattle.tg_base.specs.Words.{shift_right, shift_signed, neither, flag}
-use Rattle.tg_runs.specs.Ran.{Wrong}
+use Rattle.tg_simulation.specs.Ran.{Wrong}
 use Rattle.tg_tree.specs.declared.operators.Rel.{Rel}
 use Rattle.tg_tree.specs.Memory.{Memory, load, load_byte, store, store_byte}
 use Rattle.tg_tree.specs.Operators.{Given, word, stops_by, exactly}

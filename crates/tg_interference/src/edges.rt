@@ -32,8 +32,8 @@ use std::alloc::Global;
 use tg_base::Memory;
 use tg_graph::{COLOURS, Graph, registers_interfere};
 use tg_instr::{Code, Instr, Opnd};
+use tg_irc::Move;
 use tg_live::LiveSets;
-use tg_rounds::Move;
 
 /// The interference graph of a code, given what is live out of each instruction: each definition is
 /// joined to what is live out of its instruction, but a move's not to what it moves (Appel, chapter

@@ -30,7 +30,7 @@ use std::alloc::Global;
 use tg_base::{ListOf, Memory};
 use tg_graph::COLOURS;
 use tg_instr::{Code, Instr, Opnd};
-use tg_rounds::Mark;
+use tg_irc::Mark;
 
 /// One mark for each node, in the order of nodes.
 pub type Marks = ListOf<Mark>;

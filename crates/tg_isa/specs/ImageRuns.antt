@@ -1,12 +1,12 @@
 -- The machine's run of an image as a run by fuel: a step takes a unit of fuel, and is a unit of
 -- work.
 use Rattle.std.specs.Prelude.{ℕ, zero, suc, ◌≡◌, ◌≤◌, List, [], ◌∷◌, Option, Some, None}
-use Rattle.tg_base.specs.declared.ends.RunEnd.{RunEnd}
-use Rattle.tg_base.specs.State.{MachineState, start}
-use Rattle.tg_base.specs.Services.{Goes, Ends, Reads, Writes, answered}
-use Rattle.tg_runs.specs.Runs.{Run}
-use Rattle.tg_runs.specs.Ran as ran
-use Rattle.tg_runs.specs.Ran.{Ran, stops, writes, works, StaysOver, OnlyGoesOn}
+use Rattle.tg_state.specs.declared.ends.RunEnd.{RunEnd}
+use Rattle.tg_state.specs.State.{MachineState, start}
+use Rattle.tg_state.specs.Services.{Goes, Ends, Reads, Writes, answered}
+use Rattle.tg_simulation.specs.Runs.{Run}
+use Rattle.tg_simulation.specs.Ran as ran
+use Rattle.tg_simulation.specs.Ran.{Ran, stops, writes, works, StaysOver, OnlyGoesOn}
 use Rattle.tg_isa.specs.declared.images.Image.{Image}
 use Rattle.tg_isa.specs.Effects.{step}
 use Rattle.tg_isa.specs.Runs.{Progress, Running, Ended, run, begun, answers}

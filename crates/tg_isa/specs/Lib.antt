@@ -4,11 +4,3 @@ pub mod Effects
 pub mod Runs
 pub mod ImageRuns
 pub mod Anywhere
-pub mod Lines
-pub mod Operands
-pub mod Items
-pub mod Assembly
-pub mod Placement
-pub mod Writing
-pub mod Texts
-pub mod Laws

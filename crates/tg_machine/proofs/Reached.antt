@@ -3,12 +3,12 @@ use Rattle.std.proofs.Common.{◌≡◌, ◌<◌, ◌≤◌, ◌⊎◌, inl, inr
 use Rattle.std.proofs.Common.{refl, sym, ap, ◌∙◌, subst, append_assoc, append-nil, length-append}
 use Rattle.std.specs.Io.KnownBytes.{Appends, Keeps}
 use Rattle.std.proofs.KnownBytes.{Appends-nil, Appends-trans}
-use Rattle.tg_base.specs.declared.ends.RunEnd.{RunEnd}
-use Rattle.tg_base.specs.declared.ends.RunEnd.TheVariants.{StepLimit, ReadFault, WriteFault}
+use Rattle.tg_state.specs.declared.ends.RunEnd.{RunEnd}
+use Rattle.tg_state.specs.declared.ends.RunEnd.TheVariants.{StepLimit, ReadFault, WriteFault}
 use Rattle.tg_base.specs.Causes.{Rose}
 use Rattle.tg_base.specs.Writes.{TakesFront}
-use Rattle.tg_base.specs.State.{MachineState}
-use Rattle.tg_base.specs.Services.{Step, Goes, Ends, Reads, Writes, answered}
+use Rattle.tg_state.specs.State.{MachineState}
+use Rattle.tg_state.specs.Services.{Step, Goes, Ends, Reads, Writes, answered}
 use Rattle.tg_isa.specs.Effects.{step}
 use Rattle.tg_isa.specs.Runs.{Execution, Running, run, begun, answers, first_answer, later_answers}
 use Rattle.tg_machine.specs.Machines.{simulated}

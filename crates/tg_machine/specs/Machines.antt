@@ -1,8 +1,8 @@
 -- Machines as contracts see them.
 use Rattle.std.specs.Prelude.{ℕ, ◌≡◌, Option, Some, None}
-use Rattle.tg_base.specs.declared.ends.RunEnd.{RunEnd}
-use Rattle.tg_base.specs.declared.ends.RunEnd.TheVariants.{StepLimit}
-use Rattle.tg_base.specs.State.{MachineState, start}
+use Rattle.tg_state.specs.declared.ends.RunEnd.{RunEnd}
+use Rattle.tg_state.specs.declared.ends.RunEnd.TheVariants.{StepLimit}
+use Rattle.tg_state.specs.State.{MachineState, start}
 use Rattle.tg_isa.specs.declared.images.Image.{Image}
 use Rattle.tg_machine.specs.declared.status.Status.{Status}
 use Rattle.tg_machine.specs.declared.status.Status.TheVariants.{Running, Ended}

@@ -2,12 +2,12 @@
 use Rattle.std.specs.Prelude.{ℕ, ◌≡◌, ◌≤◌, ◌<◌, ◌+◌, List, [], ◌∷◌, length, slice_index, Option}
 use Rattle.std.specs.Prelude.{Some, None, Result, Ok, Err}
 use Rattle.std.specs.Io.KnownBytes.{Appends, Consumes, IsAtEnd, Keeps}
-use Rattle.tg_base.specs.declared.ends.RunEnd.{RunEnd}
-use Rattle.tg_base.specs.declared.ends.RunEnd.TheVariants.{StepLimit, ReadFault, WriteFault}
+use Rattle.tg_state.specs.declared.ends.RunEnd.{RunEnd}
+use Rattle.tg_state.specs.declared.ends.RunEnd.TheVariants.{StepLimit, ReadFault, WriteFault}
 use Rattle.tg_base.specs.Causes.{Rose}
 use Rattle.tg_base.specs.Writes.{TakesAll, TakesFront}
-use Rattle.tg_base.specs.State.{MachineState, go, load_byte, stack_top}
-use Rattle.tg_base.specs.Services.{Step, Goes, Ends, Reads, Writes, answered, text_at}
+use Rattle.tg_state.specs.State.{MachineState, go, load_byte, stack_top}
+use Rattle.tg_state.specs.Services.{Step, Goes, Ends, Reads, Writes, answered, text_at}
 use Rattle.tg_machine.specs.Ran.{saturating_sum}
 
 -- an end that the machine comes to itself, with no limit of steps and no fault of a source or a

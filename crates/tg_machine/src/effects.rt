@@ -1,17 +1,18 @@
 ghost use Rattle.std.specs.Prelude.{◌≡◌, ◌≢◌, ◌+◌, ◌*◌, ◌/◌, ◌^◌};
-ghost use Rattle.tg_base.specs.Services.{Goes};
-ghost use Rattle.tg_base.specs.State as state;
 ghost use Rattle.tg_base.specs.Words as words;
 ghost use Rattle.tg_isa.specs.Effects as effects;
 ghost use Rattle.tg_isa.specs.declared.mips.Mips.TheVariants as mips;
 ghost use Rattle.tg_machine.specs.Moves.{RowIsDone};
 ghost use Rattle.tg_machine.specs.Rows as rows;
+ghost use Rattle.tg_state.specs.Services.{Goes};
+ghost use Rattle.tg_state.specs.State as state;
 
 use crate::cores::Core;
 use crate::rows::Row;
 use crate::words::{difference_of, extend_byte, sum_of};
-use tg_base::{RunEnd, add, less_signed, less_unsigned, sub};
+use tg_base::{add, less_signed, less_unsigned, sub};
 use tg_isa::{Bits, Reg};
+use tg_state::RunEnd;
 
 /// What rows do. `next` is the place of the next instruction, and the one to go on at is answered:
 /// the one in the core isn't read.

@@ -13,9 +13,9 @@ ghost use Rattle.std.specs.Prelude.{
   ◌∷◌,
   [],
 };
-ghost use Rattle.tg_base.specs.State.{most_bytes, most_room, most_words, padded, start};
 ghost use Rattle.tg_machine.specs.Machines.{loaded};
 ghost use Rattle.tg_machine.specs.Rows.{row_of};
+ghost use Rattle.tg_state.specs.State.{most_bytes, most_room, most_words, padded, start};
 
 use crate::cores::Core;
 use crate::machines::Machine;
@@ -23,8 +23,9 @@ use crate::preparing::row_of;
 use crate::rows::Row;
 use crate::stacks::Stack;
 use std::alloc::Global;
-use tg_base::{Memory, STACK_TOP};
+use tg_base::Memory;
 use tg_isa::Image;
+use tg_state::STACK_TOP;
 
 /// A machine at the start of an image, with so many bytes of heap and of stack. It takes all memory
 /// of the run.

@@ -5,7 +5,8 @@ ghost use Rattle.tg_machine.specs.Ran.{IsSimulation};
 use crate::cores::Core;
 use crate::status::Status;
 use std::marker::Model;
-use tg_base::{RunEnd, Sink, Source};
+use tg_base::{Sink, Source};
+use tg_state::RunEnd;
 
 /// A machine with a program: its registers and its regions, how it ended if it has, and how many
 /// bytes its services have written.

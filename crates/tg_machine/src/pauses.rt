@@ -2,7 +2,7 @@ ghost use Rattle.tg_machine.specs.Pauses.{Pauses};
 
 use crate::cores::Core;
 use crate::rows::Row;
-use tg_base::RunEnd;
+use tg_state::RunEnd;
 
 /// How steps without a service come to a pause.
 #[derive(Clone, Copy)]

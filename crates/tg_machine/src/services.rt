@@ -15,8 +15,8 @@ ghost use Rattle.std.specs.Prelude.{
   Err,
 };
 ghost use Rattle.tg_base.specs.Causes.{HasCause};
-ghost use Rattle.tg_base.specs.State as state;
-ghost use Rattle.tg_base.specs.Services.{service, text_at};
+ghost use Rattle.tg_state.specs.State as state;
+ghost use Rattle.tg_state.specs.Services.{service, text_at};
 ghost use Rattle.tg_base.specs.Writes.{TakesAll};
 ghost use Rattle.tg_machine.specs.Moves.{
   Answers,
@@ -32,8 +32,9 @@ ghost use Rattle.tg_machine.specs.Moves.{
 
 use crate::cores::Core;
 use crate::words::{offset, part};
-use tg_base::{Failed, HEAP_BASE, RunEnd, STATICS_BASE, Sink, Source, decimal, write_all};
+use tg_base::{Failed, Sink, Source, decimal, write_all};
 use tg_isa::Reg;
+use tg_state::{HEAP_BASE, RunEnd, STATICS_BASE};
 
 /// How many bytes of a text are written at once.
 const CHUNK: usize = 4096;

@@ -7,7 +7,8 @@ ghost use Rattle.tg_machine.specs.Ran.{IsSimulation};
 use crate::cores::Core;
 use crate::pauses::Pause;
 use crate::status::Status;
-use tg_base::{RunEnd, Sink, Source};
+use tg_base::{Sink, Source};
+use tg_state::RunEnd;
 
 impl Core {
     /// Makes one step.

@@ -8,7 +8,7 @@ ghost use Rattle.tg_base.specs.Words.{
   product,
   rem,
 };
-ghost use Rattle.tg_base.specs.State as state;
+ghost use Rattle.tg_state.specs.State as state;
 
 use byteorder::{ByteOrder, LittleEndian};
 use tg_isa::Bits;

@@ -1,7 +1,8 @@
 use std::alloc::Global;
 use std::process::Abort;
 use std::test::Fail;
-use tg_isa::{Bits, Mips, Reg, decode, encode, line, name};
+use tg_asm_text::line;
+use tg_isa::{Bits, Mips, Reg, decode, encode, name};
 
 // Each word was made by another assembler: GNU `as` for MIPS I, big endian. Its `break 0,7` is
 // `break 7` here.

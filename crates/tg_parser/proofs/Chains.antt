@@ -7,10 +7,10 @@ use Rattle.tg_base.specs.declared.ids.Name.{Name}
 use Rattle.tg_syntax.specs.declared.tokens.Token.TheVariants as token
 use Rattle.tg_syntax.specs.declared.tokens.Spanned.{Spanned}
 use Rattle.tg_syntax.specs.declared.tokens.Ident.{Ident}
-use Rattle.tg_grammar.specs.declared.marks.Mark.{Mark}
-use Rattle.tg_grammar.specs.Steps.{token_of, Answer, Got, Bad, Job, Of, Steps, OneSpan, OneName, give, want, name, split, call}
-use Rattle.tg_grammar.specs.Reading.{Does, job, give_got, want_got, want_bad, want_out, name_got, name_bad, name_out, split_yes, split_no, split_out}
-use Rattle.tg_grammar.specs.Reading.{call_got, call_bad, call_out}
+use Rattle.tg_syntax_laws.specs.declared.marks.Mark.{Mark}
+use Rattle.tg_syntax_laws.specs.Steps.{token_of, Answer, Got, Bad, Job, Of, Steps, OneSpan, OneName, give, want, name, split, call}
+use Rattle.tg_syntax_laws.specs.Reading.{Does, job, give_got, want_got, want_bad, want_out, name_got, name_bad, name_out, split_yes, split_no, split_out}
+use Rattle.tg_syntax_laws.specs.Reading.{call_got, call_bad, call_out}
 use Rattle.tg_parser.specs.declared.faults.Stop.{Stop}
 use Rattle.tg_parser.specs.declared.faults.Stop.TheVariants.{Wrong, More}
 use Rattle.tg_parser.specs.Given.{AnswersJob, Refuses, refuses, wants, no_memory}

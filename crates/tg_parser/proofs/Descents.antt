@@ -17,10 +17,10 @@ use Rattle.tg_parser.specs.Given.{Refuses, refuses, wants, AnswersJob}
 use Rattle.tg_parser.specs.Opens.{Leads, Skips, Operates, Elses}
 use Rattle.tg_parser.specs.Heads.{one_of, Declares}
 use Rattle.tg_parser.proofs.Leading.{last_suffix}
-use Rattle.tg_grammar.specs.declared.marks.Mark.{Mark}
-use Rattle.tg_grammar.specs.declared.marks.Mark.TheVariants.{OfWord}
-use Rattle.tg_grammar.specs.Steps.{Got, Job, Of, At, Suffix, MoreDecs, Steps, give, want, refuse, split, oper, leaf, look, test}
-use Rattle.tg_grammar.specs.Reading.{Does, refuse_bad, leaf_yes, leaf_no, leaf_out, look_at, job, last, more_decs}
+use Rattle.tg_syntax_laws.specs.declared.marks.Mark.{Mark}
+use Rattle.tg_syntax_laws.specs.declared.marks.Mark.TheVariants.{OfWord}
+use Rattle.tg_syntax_laws.specs.Steps.{Got, Job, Of, At, Suffix, MoreDecs, Steps, give, want, refuse, split, oper, leaf, look, test}
+use Rattle.tg_syntax_laws.specs.Reading.{Does, refuse_bad, leaf_yes, leaf_no, leaf_out, look_at, job, last, more_decs}
 
 -- a value, and a program, that equal others
 pub got_is : (j : Job) {s : Steps (Of j)} {x y : Of j} {ts rest : List Spanned} → x ≡ y → Does j s ts (Got y rest) → Does j s ts (Got x rest)

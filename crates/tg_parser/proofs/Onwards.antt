@@ -12,9 +12,9 @@ use Rattle.tg_syntax.specs.Plain.{plain}
 use Rattle.tg_syntax.specs.Lists.{exps_of, inits_of}
 use Rattle.tg_syntax.specs.Groups.{snoc, snoc_init, snoc_dec}
 use Rattle.tg_syntax.specs.Grammar.{Level, Whole}
-use Rattle.tg_grammar.specs.declared.marks.Mark.TheVariants.{OfSign}
-use Rattle.tg_grammar.specs.Steps.{Answer, Got, Bad, Out, Job, Of, At, After, Items, OneInit, MoreInits, MoreDecs, Steps, split}
-use Rattle.tg_grammar.specs.Reading.{Does, job, last, operators, items, more_inits, more_decs, give_got, call_got, call_bad, call_out}
+use Rattle.tg_syntax_laws.specs.declared.marks.Mark.TheVariants.{OfSign}
+use Rattle.tg_syntax_laws.specs.Steps.{Answer, Got, Bad, Out, Job, Of, At, After, Items, OneInit, MoreInits, MoreDecs, Steps, split}
+use Rattle.tg_syntax_laws.specs.Reading.{Does, job, last, operators, items, more_inits, more_decs, give_got, call_got, call_bad, call_out}
 use Rattle.tg_parser.specs.declared.faults.Stop.{Stop}
 use Rattle.tg_parser.specs.declared.heads.DeclarationKind.{DeclarationKind}
 use Rattle.tg_parser.specs.Given.{Refuses, refuses, wants, no_memory}

@@ -7,11 +7,11 @@ use Rattle.tg_syntax.specs.Tree.{Exp}
 use Rattle.tg_syntax.specs.Nesting.{nesting_of, after_token, NestsWithin}
 use Rattle.tg_syntax.specs.Grammar.{IsProgram, program}
 use Rattle.tg_syntax.specs.SyntaxFaults.{IsShallow, HasUnexpected, HasTooDeep, HasNoEnd, EndsOnce}
-use Rattle.tg_grammar.specs.Steps.{Got, Bad, Out, Whole_program}
-use Rattle.tg_grammar.specs.Reading.{whole_program, Does}
-use Rattle.tg_grammar.specs.Laws.{ReadsPrograms, RefusesFirst, WantsMore, EndsAlways}
-use Rattle.tg_grammar.proofs.Sound.{Fine, fine_got, fine}
-use Rattle.tg_grammar.proofs.ValidJobs.{all_valid, valid}
+use Rattle.tg_syntax_laws.specs.Steps.{Got, Bad, Out, Whole_program}
+use Rattle.tg_syntax_laws.specs.Reading.{whole_program, Does}
+use Rattle.tg_syntax_laws.specs.Laws.{ReadsPrograms, RefusesFirst, WantsMore, EndsAlways}
+use Rattle.tg_syntax_laws.proofs.Sound.{Fine, fine_got, fine}
+use Rattle.tg_syntax_laws.proofs.ValidJobs.{all_valid, valid}
 use Rattle.tg_parser.specs.declared.faults.Stop.{Stop}
 use Rattle.tg_parser.specs.declared.faults.Stop.TheVariants.{Wrong, More}
 use Rattle.tg_parser.specs.Given.{Refuses, refuses, wants}

@@ -15,8 +15,8 @@ use Rattle.tg_parser.specs.Opens.{Leads, Passes}
 use Rattle.tg_parser.proofs.Chains.{call_stops}
 use Rattle.tg_parser.proofs.Leading.{then, gives, test_is, test_not, oper_not}
 use Rattle.tg_parser.proofs.Descents.{level_does}
-use Rattle.tg_grammar.specs.Steps.{op_of, Job, Of, At, After, Steps, oper, test}
-use Rattle.tg_grammar.specs.Reading.{give_got, call_got, below, job}
+use Rattle.tg_syntax_laws.specs.Steps.{op_of, Job, Of, At, After, Steps, oper, test}
+use Rattle.tg_syntax_laws.specs.Reading.{give_got, call_got, below, job}
 
 -- no operator of a level follows
 record Quiet (k : Level) (l : Exp) (ts : List Spanned) : Type 0 where

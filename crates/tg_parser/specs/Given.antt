@@ -3,8 +3,8 @@ use Rattle.std.specs.Prelude.{List, Result, Ok, Err}
 use Rattle.tg_syntax.specs.declared.tokens.Spanned.{Spanned}
 use Rattle.tg_parser.specs.declared.faults.Stop.{Stop}
 use Rattle.tg_parser.specs.declared.faults.Stop.TheVariants.{Wrong, More, Memory}
-use Rattle.tg_grammar.specs.Steps.{Job, Of, Steps, Got, Bad, Out}
-use Rattle.tg_grammar.specs.Reading.{Does}
+use Rattle.tg_syntax_laws.specs.Steps.{Job, Of, Steps, Got, Bad, Out}
+use Rattle.tg_syntax_laws.specs.Reading.{Does}
 
 -- a program refuses a token, whose first byte is named, or wants more tokens; want of memory says
 -- nothing

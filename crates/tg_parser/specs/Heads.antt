@@ -16,10 +16,10 @@ use Rattle.tg_parser.specs.declared.heads.DeclarationKind.TheVariants.{OneType, 
 use Rattle.tg_parser.specs.declared.heads.DeclarationKind.TheVariants.{OneFunction}
 use Rattle.tg_parser.specs.Given.{Refuses}
 use Rattle.tg_parser.specs.Opens.{Leads}
-use Rattle.tg_grammar.specs.Steps.{Job, Of, Steps, TypeDec, VarDec, FunDec, MoreDecs, give, refuse}
-use Rattle.tg_grammar.specs.Steps.{name, call}
-use Rattle.tg_grammar.specs.Reading.{assigning, negating, grouping, choosing, looping, counting}
-use Rattle.tg_grammar.specs.Reading.{declaring, naming, more_decs, last}
+use Rattle.tg_syntax_laws.specs.Steps.{Job, Of, Steps, TypeDec, VarDec, FunDec, MoreDecs, give}
+use Rattle.tg_syntax_laws.specs.Steps.{refuse, name, call}
+use Rattle.tg_syntax_laws.specs.Reading.{assigning, negating, grouping, choosing, looping, counting}
+use Rattle.tg_syntax_laws.specs.Reading.{declaring, naming, more_decs, last}
 
 -- by how an expression begins
 abbrev pub unary_of : Start → Steps Exp

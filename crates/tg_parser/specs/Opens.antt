@@ -9,10 +9,10 @@ use Rattle.tg_syntax.specs.Tails.{ends_tail, is_short}
 use Rattle.tg_syntax.specs.Grammar.{Level, Unary}
 use Rattle.tg_parser.specs.declared.faults.Stop.{Stop}
 use Rattle.tg_parser.specs.Given.{Refuses, AnswersJob}
-use Rattle.tg_grammar.specs.declared.marks.Mark.{Mark}
-use Rattle.tg_grammar.specs.declared.marks.Mark.TheVariants.{OfWord}
-use Rattle.tg_grammar.specs.Steps.{Job, Of, At, Steps, Answer, Got, split, want, test, oper}
-use Rattle.tg_grammar.specs.Reading.{Does, job}
+use Rattle.tg_syntax_laws.specs.declared.marks.Mark.{Mark}
+use Rattle.tg_syntax_laws.specs.declared.marks.Mark.TheVariants.{OfWord}
+use Rattle.tg_syntax_laws.specs.Steps.{Job, Of, At, Steps, Answer, Got, split, want, test, oper}
+use Rattle.tg_syntax_laws.specs.Reading.{Does, job}
 
 -- a program, at some tokens, does what another one does at others
 pub record Leads (j : Job) (s : Steps (Of j)) (ts : List Spanned) (z : Steps (Of j))

@@ -3,8 +3,8 @@ use Rattle.std.specs.Prelude.{◌≡◌, None}
 use Rattle.tg_syntax.specs.declared.tokens.Token.{Token}
 use Rattle.tg_syntax.specs.Grammar.{Level}
 use Rattle.tg_syntax.specs.Grammar as grammar
-use Rattle.tg_grammar.specs.Steps.{op_of}
-use Rattle.tg_grammar.specs.Reading.{below}
+use Rattle.tg_syntax_laws.specs.Steps.{op_of}
+use Rattle.tg_syntax_laws.specs.Reading.{below}
 use Rattle.tg_parser.specs.declared.ranks.Rank.{Rank}
 use Rattle.tg_parser.specs.declared.ranks.Rank.TheVariants.{Disjunction, Conjunction, Comparison}
 use Rattle.tg_parser.specs.declared.ranks.Rank.TheVariants.{Sum, Term, Unary}

@@ -16,7 +16,7 @@ ghost use Rattle.tg_syntax.specs.Tree.{
   Neg as PlainNeg,
   Index as PlainIndex,
 };
-ghost use Rattle.tg_grammar.specs.Reading.{binary as plain_binary};
+ghost use Rattle.tg_syntax_laws.specs.Reading.{binary as plain_binary};
 
 use std::alloc::Global;
 use tg_base::{Memory, Span};

@@ -2,7 +2,7 @@ ghost use Rattle.std.specs.Prelude.{◌≡◌, ◌<◌, ◌≤◌, IfOk, length,
 ghost use Rattle.tg_syntax.specs.Plain.{plain_form, plain_type};
 ghost use Rattle.tg_syntax.specs.Groups.{one_type};
 ghost use Rattle.tg_parser.specs.Given.{AnswersJob};
-ghost use Rattle.tg_grammar.specs.Reading.{
+ghost use Rattle.tg_syntax_laws.specs.Reading.{
   one_param,
   more_params,
   listed_params,
@@ -10,7 +10,7 @@ ghost use Rattle.tg_grammar.specs.Reading.{
   annotation,
   type_dec,
 };
-ghost use Rattle.tg_grammar.specs.Steps.{
+ghost use Rattle.tg_syntax_laws.specs.Steps.{
   OneParam,
   MoreParams,
   ListedParams,
@@ -23,8 +23,8 @@ use crate::faults::Stop;
 use crate::taking::{Reading, is, next, take, take_name};
 use std::alloc::Global;
 use tg_base::ListOf;
-use tg_grammar::Mark;
 use tg_syntax::{Form, Ident, Param, Params, Sign, Spanned, TypeDec, Word};
+use tg_syntax_laws::Mark;
 
 fn one_param(tokens: &[Spanned]) -> Reading<Param>
     ensures given { AnswersJob OneParam (λ x. x.0) (λ x. x.1.now) result one_param tokens.now }

@@ -2,9 +2,9 @@ ghost use Rattle.std.specs.Prelude.{◌≡◌, ◌<◌, ◌≤◌, true, IfOk, I
 ghost use Rattle.tg_syntax.specs.declared.tokens.Word.TheVariants.{WFor};
 ghost use Rattle.tg_syntax.specs.declared.tokens.Sign.TheVariants.{LeftParen, RightParen};
 ghost use Rattle.tg_syntax.specs.Plain.{plain};
-ghost use Rattle.tg_grammar.specs.declared.marks.Mark.TheVariants.{OfSign, OfWord};
-ghost use Rattle.tg_grammar.specs.Steps.{want, name, call, ListedParams, Annotation};
-ghost use Rattle.tg_grammar.specs.Reading.{
+ghost use Rattle.tg_syntax_laws.specs.declared.marks.Mark.TheVariants.{OfSign, OfWord};
+ghost use Rattle.tg_syntax_laws.specs.Steps.{want, name, call, ListedParams, Annotation};
+ghost use Rattle.tg_syntax_laws.specs.Reading.{
   unary as unary_steps,
   atom as atom_of_token,
   assigning,
@@ -20,10 +20,10 @@ use crate::ranks::{Rank, is_operator_within, operator};
 use crate::taking::{Reading, is, next, take, take_name};
 use std::alloc::Global;
 use tg_base::{Memory, Span};
-use tg_grammar::Mark;
 use tg_syntax::{
     Exp, Ident, Kind, Op, Params, Sign, Spanned, Token, Var, Word, break_out, int, nil, text,
 };
+use tg_syntax_laws::Mark;
 
 /// How an expression begins that binds more tightly than the operators.
 #[derive(Clone, Copy)]

@@ -10,8 +10,8 @@ use crate::nesting::first_deep;
 use crate::reading::program;
 use std::alloc::Global;
 use tg_base::Memory;
-use tg_grammar::descent_is_exact;
 use tg_syntax::{Program, Spanned};
+use tg_syntax_laws::descent_is_exact;
 
 /// The program that the tokens are.
 pub fn parse(alloc: Global, tokens: &[Spanned]) -> Result<Program, SyntaxFault>

@@ -8,7 +8,7 @@ ghost use Rattle.tg_syntax.specs.Grammar.{
   Comparison as ComparisonLevel,
   Unary as UnaryLevel,
 };
-ghost use Rattle.tg_grammar.specs.Steps.{
+ghost use Rattle.tg_syntax_laws.specs.Steps.{
   Of,
   At,
   After,
@@ -27,7 +27,7 @@ ghost use Rattle.tg_grammar.specs.Steps.{
   name,
   call,
 };
-ghost use Rattle.tg_grammar.specs.Reading.{
+ghost use Rattle.tg_syntax_laws.specs.Reading.{
   job,
   below as below_level,
   last,
@@ -62,8 +62,8 @@ use crate::ranks::{Rank, below};
 use crate::taking::{Reading, next, take, take_name};
 use std::alloc::Global;
 use tg_base::Span;
-use tg_grammar::Mark;
 use tg_syntax::{Dec, Exp, FunDec, Ident, Init, Sign, Spanned, Var, Word, field, read};
+use tg_syntax_laws::Mark;
 
 /// A program: one expression, and the end.
 pub(crate) fn program(alloc: Global, tokens: &[Spanned]) -> Reading<Exp>

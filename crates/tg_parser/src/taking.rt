@@ -1,12 +1,12 @@
 ghost use Rattle.std.specs.Prelude.{◌≡◌, ◌<◌, ◌+◌, ◌↔◌, IsTrue, IfOk, MatchResult, [], ◌∷◌, length};
 ghost use Rattle.tg_parser.specs.declared.faults.Stop.TheVariants.{More};
 ghost use Rattle.tg_parser.specs.Given.{AnswersJob};
-ghost use Rattle.tg_grammar.specs.Steps.{token_of, want, name, give, OneSpan, OneName};
+ghost use Rattle.tg_syntax_laws.specs.Steps.{token_of, want, name, give, OneSpan, OneName};
 
 use crate::faults::Stop;
 use tg_base::Span;
-use tg_grammar::Mark;
 use tg_syntax::{Ident, Spanned, Token};
+use tg_syntax_laws::Mark;
 
 /// What was read, and the tokens behind it.
 pub(crate) type Reading<'a, T> = Result<(T, &'a [Spanned]), Stop>;

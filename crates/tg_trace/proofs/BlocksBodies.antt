@@ -3,12 +3,12 @@ use Rattle.std.proofs.Common.{◌≡◌, ℕ, ◌+◌, ◌*◌, ◌≤◌, List,
 use Rattle.std.specs.Prelude.{Option, Some, None, slice_set, slice_index, pos, if◌then◌else◌}
 use Rattle.std.specs.List.{AllByRecursion}
 use Rattle.std.proofs.lemmas.Option.{get_or_from_slice_get}
-use Rattle.tg_base.specs.declared.ends.RunEnd.TheVariants.{Exit}
-use Rattle.tg_base.specs.State.{stack_top}
-use Rattle.tg_runs.specs.Ran.{Ended}
-use Rattle.tg_runs.specs.Preserving.{Preserves}
-use Rattle.tg_runs.specs.Simulating.{Simulates}
-use Rattle.tg_runs.proofs.Simulations.{simulates_wrong, simulates_stopping, simulates_along, simulates_with_credit, simulation_preserves}
+use Rattle.tg_state.specs.declared.ends.RunEnd.TheVariants.{Exit}
+use Rattle.tg_state.specs.State.{stack_top}
+use Rattle.tg_simulation.specs.Ran.{Ended}
+use Rattle.tg_simulation.specs.Preserving.{Preserves}
+use Rattle.tg_simulation.specs.Simulating.{Simulates}
+use Rattle.tg_simulation.proofs.Simulations.{simulates_wrong, simulates_stopping, simulates_along, simulates_with_credit, simulation_preserves}
 use Rattle.tg_tree.specs.Tree as tree
 use Rattle.tg_tree.specs.Tree.{Cond, Compare, Not, Both, Either, Ts, Move, Store, StoreByte, Do, If, Loop, Break, Seq, Stms, no_stms, stm, Function}
 use Rattle.tg_tree.specs.Tree.{Literal, Code}

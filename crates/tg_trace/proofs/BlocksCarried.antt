@@ -5,11 +5,11 @@ use Rattle.std.specs.Prelude.{Option, Some, None, not, slice_index, if◌then◌
 use Rattle.std.proofs.Math.ListN.{get_or-append}
 use Rattle.std.proofs.Math.Seq.{get_or-append_seam}
 use Rattle.std.proofs.lemmas.Option.{slice_get_within}
-use Rattle.tg_base.specs.declared.ends.RunEnd.TheVariants.{Break as Broken}
-use Rattle.tg_runs.specs.Runs.{Run}
-use Rattle.tg_runs.specs.Ran.{Ran, Ended}
-use Rattle.tg_runs.specs.Simulating.{Simulates}
-use Rattle.tg_runs.proofs.Simulations.{simulates_stopping, simulates_paying, simulates_working, simulates_with_credit, simulates_turn, simulates_less}
+use Rattle.tg_state.specs.declared.ends.RunEnd.TheVariants.{Break as Broken}
+use Rattle.tg_simulation.specs.Runs.{Run}
+use Rattle.tg_simulation.specs.Ran.{Ran, Ended}
+use Rattle.tg_simulation.specs.Simulating.{Simulates}
+use Rattle.tg_simulation.proofs.Simulations.{simulates_stopping, simulates_paying, simulates_working, simulates_with_credit, simulates_turn, simulates_less}
 use Rattle.tg_tree.specs.Tree as tree
 use Rattle.tg_tree.specs.Tree.{Tx, Cond, Compare, Not, Both, Either, Ts, Move, Store, StoreByte, Do, If, Loop, Break, Seq, Stms, no_stms, stm}
 use Rattle.tg_tree.specs.Tree.{Function, Literal, Code}

@@ -1,10 +1,10 @@
 -- Flat statements and expressions do what they did where what comes next does: they look at no loop and no way out of one.
 use Rattle.std.proofs.Common.{◌≡◌, ℕ, ◌+◌, ◌*◌, ◌≤◌, List, ◌∷◌, refl, sym, ◌∙◌, subst, arith}
-use Rattle.tg_runs.specs.Runs.{Run}
-use Rattle.tg_runs.specs.Ran.{Ran, Wrong}
-use Rattle.tg_runs.specs.Simulating.{Simulates}
-use Rattle.tg_runs.proofs.Simulations.{simulates_stopping, simulates_writing, simulates_paying, simulates_working, simulates_with_credit}
-use Rattle.tg_runs.proofs.Simulations.{simulates_turn, simulates_less}
+use Rattle.tg_simulation.specs.Runs.{Run}
+use Rattle.tg_simulation.specs.Ran.{Ran, Wrong}
+use Rattle.tg_simulation.specs.Simulating.{Simulates}
+use Rattle.tg_simulation.proofs.Simulations.{simulates_stopping, simulates_writing, simulates_paying, simulates_working, simulates_with_credit}
+use Rattle.tg_simulation.proofs.Simulations.{simulates_turn, simulates_less}
 use Rattle.tg_tree.specs.Tree.{Tx, Const, Address, Temp, FrameAddress, Binary, Load, LoadByte, Call, Service, After, Txs, no_txs, tx, Ts, Move, Store}
 use Rattle.tg_tree.specs.Tree.{StoreByte, Do, If, Loop, Break, Fault, Seq, Return, Literal}
 use Rattle.tg_tree.specs.Shapes.{IsFlat, AreFlat, IsFlatSide, IsFlatStatement}

@@ -4,8 +4,8 @@ use Rattle.std.proofs.Common.{◌∙◌, arith}
 use Rattle.std.specs.Prelude.{Some, None, reverse, slice_get, slice_index, nat_lt, if◌then◌else◌}
 use Rattle.std.proofs.lemmas.Bool.{ltb-true, ltb-false, lt-ltb, le-ltb}
 use Rattle.std.proofs.lemmas.Option.{slice_get-get_or}
-use Rattle.tg_runs.specs.Runs.{Run}
-use Rattle.tg_runs.specs.Ran.{Ran}
+use Rattle.tg_simulation.specs.Runs.{Run}
+use Rattle.tg_simulation.specs.Ran.{Ran}
 use Rattle.tg_tree.specs.Tree.{Stms, Code}
 use Rattle.tg_tree.specs.Actions.{World, Temps, Around, Acts, Next, ◌>>◌, charged}
 use Rattle.tg_tree.specs.Running.{with_fuel}

@@ -2,12 +2,12 @@
 use Rattle.std.proofs.Common.{◌≡◌, ◌≤◌, ◌<◌, ℕ, zero, suc, ◌+◌, List, [], ◌∷◌, ◌++◌, length, map, true, refl, ap, ◌∙◌, arith}
 use Rattle.std.specs.Prelude.{Option, Some, None, slice_set, pos}
 use Rattle.std.specs.List.{AllByRecursion}
-use Rattle.tg_base.specs.declared.ends.RunEnd.TheVariants.{Exit}
-use Rattle.tg_base.specs.State.{stack_top}
-use Rattle.tg_runs.specs.Ran.{Ended}
-use Rattle.tg_runs.specs.Preserving.{Preserves}
-use Rattle.tg_runs.specs.Simulating.{Simulates}
-use Rattle.tg_runs.proofs.Simulations.{simulation_preserves, simulates_stopping, simulates_with_credit, simulates_along}
+use Rattle.tg_state.specs.declared.ends.RunEnd.TheVariants.{Exit}
+use Rattle.tg_state.specs.State.{stack_top}
+use Rattle.tg_simulation.specs.Ran.{Ended}
+use Rattle.tg_simulation.specs.Preserving.{Preserves}
+use Rattle.tg_simulation.specs.Simulating.{Simulates}
+use Rattle.tg_simulation.proofs.Simulations.{simulation_preserves, simulates_stopping, simulates_with_credit, simulates_along}
 use Rattle.tg_tree.specs.Tree.{Linear, Mark, Function, Literal, Code}
 use Rattle.tg_tree.specs.Memory.{begin}
 use Rattle.tg_tree.specs.Units.{entry_units}

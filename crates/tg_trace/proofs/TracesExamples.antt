@@ -1,9 +1,9 @@
 -- Runs of blocks and of the code in which they are laid, computed: where a loop is entered at its head alone, and where it isn't.
 use Rattle.std.proofs.Common.{◌≡◌, ℕ, ◌-◌, List, [], ◌∷◌, refl}
 use Rattle.std.specs.Prelude.{pos}
-use Rattle.tg_base.specs.declared.ends.RunEnd.TheVariants.{Exit}
-use Rattle.tg_base.specs.State.{stack_top}
-use Rattle.tg_runs.specs.Ran.{Ran, Stop, Ended, WantsFuel}
+use Rattle.tg_state.specs.declared.ends.RunEnd.TheVariants.{Exit}
+use Rattle.tg_state.specs.State.{stack_top}
+use Rattle.tg_simulation.specs.Ran.{Ran, Stop, Ended, WantsFuel}
 use Rattle.tg_tree.specs.declared.operators.Bin.TheVariants.{Add}
 use Rattle.tg_tree.specs.declared.operators.Rel.TheVariants.{Less}
 use Rattle.tg_tree.specs.Forms.{stms}

@@ -3,12 +3,12 @@ use Rattle.std.proofs.Common.{◌≡◌, ◌≤◌, ◌<◌, ℕ, zero, suc, ◌
 use Rattle.std.proofs.Common.{sym, ◌∙◌, arith, drop-cons}
 use Rattle.std.specs.Prelude.{not, nat_lt, Option, Some, None, if◌then◌else◌}
 use Rattle.std.proofs.lemmas.Bool.{cases_lt, lt-ltb, le-ltb, eqb-true}
-use Rattle.tg_base.specs.declared.ends.RunEnd.TheVariants.{Break}
-use Rattle.tg_runs.specs.Runs.{Run}
-use Rattle.tg_runs.specs.Ran.{Ran, Ended, WantsFuel, Wrong, stops}
-use Rattle.tg_runs.specs.Simulating.{Simulates}
-use Rattle.tg_runs.proofs.Simulations.{simulates_turn, simulates_turn_behind, simulates_paying, simulates_working, simulates_with_credit, simulates_along}
-use Rattle.tg_runs.proofs.Simulations.{simulates_trading, simulates_unpaid, simulates_working_less}
+use Rattle.tg_state.specs.declared.ends.RunEnd.TheVariants.{Break}
+use Rattle.tg_simulation.specs.Runs.{Run}
+use Rattle.tg_simulation.specs.Ran.{Ran, Ended, WantsFuel, Wrong, stops}
+use Rattle.tg_simulation.specs.Simulating.{Simulates}
+use Rattle.tg_simulation.proofs.Simulations.{simulates_turn, simulates_turn_behind, simulates_paying, simulates_working, simulates_with_credit, simulates_along}
+use Rattle.tg_simulation.proofs.Simulations.{simulates_trading, simulates_unpaid, simulates_working_less}
 use Rattle.tg_tree.specs.declared.operators.Rel.{Rel}
 use Rattle.tg_tree.specs.Tree.{Tx, Stms, no_stms, stm, Linear, Mark, Function, Literal, Code}
 use Rattle.tg_tree.specs.Operators.{holds, opposite}

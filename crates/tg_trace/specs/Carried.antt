@@ -1,8 +1,8 @@
 -- The laws of runs of blocks, and what is kept where canonical statements are cut into them.
 use Rattle.std.specs.Prelude.{ℕ, ◌≡◌, List, map}
 use Rattle.std.specs.List.{AllByRecursion}
-use Rattle.tg_runs.specs.Ran.{StaysOver, OnlyGoesOn}
-use Rattle.tg_runs.specs.Preserving.{Preserves}
+use Rattle.tg_simulation.specs.Ran.{StaysOver, OnlyGoesOn}
+use Rattle.tg_simulation.specs.Preserving.{Preserves}
 use Rattle.tg_tree.specs.Tree.{Ts, Seq, Stms, Function, Literal, Code}
 use Rattle.tg_tree.specs.Shapes.{AreCanonical, AreClosed}
 use Rattle.tg_tree.specs.Units.{Canonical, marked_entry_units, entry_units}

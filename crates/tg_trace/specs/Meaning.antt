@@ -1,9 +1,9 @@
 -- Runs of blocks. A call takes a unit of fuel, and so does an end that goes on at a place that
 -- isn't above its own block's.
 use Rattle.std.specs.Prelude.{ℕ, zero, suc, ◌+◌, ◌-◌, List, [], ◌∷◌, nat_lt, if◌then◌else◌}
-use Rattle.tg_base.specs.declared.ends.RunEnd.TheVariants.{Break}
-use Rattle.tg_runs.specs.Runs.{Run, again}
-use Rattle.tg_runs.specs.Ran.{Ran, Ended, WantsFuel, Wrong, stops}
+use Rattle.tg_state.specs.declared.ends.RunEnd.TheVariants.{Break}
+use Rattle.tg_simulation.specs.Runs.{Run, again}
+use Rattle.tg_simulation.specs.Ran.{Ran, Ended, WantsFuel, Wrong, stops}
 use Rattle.tg_tree.specs.Tree as tree
 use Rattle.tg_tree.specs.Tree.{Tx, Stms, Mark, Code}
 use Rattle.tg_tree.specs.Operators.{holds}

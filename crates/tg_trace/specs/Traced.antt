@@ -1,7 +1,7 @@
 -- Blocks are laid as flat code that does what they do.
 use Rattle.std.specs.Prelude.{ℕ, List, map}
 use Rattle.std.specs.List.{AllByRecursion}
-use Rattle.tg_runs.specs.Preserving.{Preserves}
+use Rattle.tg_simulation.specs.Preserving.{Preserves}
 use Rattle.tg_tree.specs.Tree.{Linear, Function, Literal, Code}
 use Rattle.tg_tree.specs.Units.{entry_units}
 use Rattle.tg_tree.specs.Carrying.{BodyCarried}

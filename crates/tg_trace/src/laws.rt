@@ -55,7 +55,7 @@ pub fn traces_go_on()
 
 /// The laws that flat code does what the blocks do that are laid in it, where loops are entered at
 /// their heads alone: each body if calls do, and so each program.
-pub fn traces_keep_meaning()
+pub fn traces_are_correct()
     ensures bodies { TracesCarryBodies }
     ensures programs { TracesKeepPrograms }
 {}
@@ -71,7 +71,7 @@ pub fn blocks_run()
 /// The laws that statements which are cut into blocks do what they did: so does the body of each
 /// function if calls do, with a unit of work more at most, and so does a program from its first
 /// activation on.
-pub fn blocks_keep_meaning()
+pub fn blocks_are_correct()
     ensures bodies { BlocksCarryBodies }
     ensures programs { BlocksKeepPrograms }
 {}

@@ -6,9 +6,9 @@ use Rattle.std.specs.List.{list_any}
 use Rattle.std.specs.Prelude.{nat_eq}
 use Prim.Native.String.{String}
 use Rattle.tg_base.specs.declared.ids.Span.{Span}
-use Rattle.tg_base.specs.declared.ends.RunEnd.TheVariants.{Exit, Break as Broken, Overflow}
-use Rattle.tg_base.specs.State.{stack_top}
-use Rattle.tg_runs.specs.Ran.{Ran, Stop, Ended}
+use Rattle.tg_state.specs.declared.ends.RunEnd.TheVariants.{Exit, Break as Broken, Overflow}
+use Rattle.tg_state.specs.State.{stack_top}
+use Rattle.tg_simulation.specs.Ran.{Ran, Stop, Ended}
 use Rattle.tg_symbols.specs.Tables.{named}
 use Rattle.tg_syntax.specs.declared.tokens.Ident.{Ident}
 use Rattle.tg_syntax.specs.declared.trees.Param.{Param}
@@ -17,7 +17,7 @@ use Rattle.tg_syntax.specs.declared.trees.Op.TheVariants as op
 use Rattle.tg_syntax.specs.Tree.{Exp, Nil, Break, Int, Text, Read, Call, Neg, Binary, Make, Fill, Assign, If, When, While, For, Let, Seq, LValue}
 use Rattle.tg_syntax.specs.Tree.{Simple, Field, Index, Exps, no_exps, exp, Inits, no_inits, init, Decs, no_decs, variable, functions, FunDecs}
 use Rattle.tg_syntax.specs.Tree.{no_functions, function}
-use Rattle.tg_meaning.specs.declared.standards.Standard.TheVariants as standard
+use Rattle.tg_semantics.specs.declared.standards.Standard.TheVariants as standard
 use Rattle.tg_types.specs.declared.notes.Means.{Means}
 use Rattle.tg_types.specs.declared.notes.Means.TheVariants as means
 use Rattle.tg_tree.specs.declared.operators.Rel.TheVariants as rel

@@ -4,8 +4,8 @@ use Rattle.std.specs.Prelude.{ℕ, ◌-◌, List, Option, Some, None, Bool, true
 use Rattle.tg_frame.specs.declared.accesses.Access.{Access}
 use Rattle.tg_runtime.specs.declared.routines.Routine.{Routine}
 use Rattle.tg_runtime.specs.declared.routines.Routine.TheVariants as routine
-use Rattle.tg_meaning.specs.declared.standards.Standard.{Standard}
-use Rattle.tg_meaning.specs.declared.standards.Standard.TheVariants as standard
+use Rattle.tg_semantics.specs.declared.standards.Standard.{Standard}
+use Rattle.tg_semantics.specs.declared.standards.Standard.TheVariants as standard
 use Rattle.tg_types.specs.declared.notes.Means.{Means}
 use Rattle.tg_types.specs.declared.notes.Means.TheVariants as means
 use Rattle.tg_tree.specs.Tree.{Tx, Const, Address, Call, Txs, tx, no_stms}

@@ -1,7 +1,7 @@
 -- What comes next matters by what it is at each world and each amount of fuel: runs are equal where what comes next is.
 use Rattle.std.proofs.Common.{◌≡◌, ℕ, refl, ap}
-use Rattle.tg_runs.specs.Runs.{Run}
-use Rattle.tg_runs.specs.Ran.{Ran}
+use Rattle.tg_simulation.specs.Runs.{Run}
+use Rattle.tg_simulation.specs.Ran.{Ran}
 use Rattle.tg_tree.specs.Tree.{Stms, no_stms, stm, Literal}
 use Rattle.tg_tree.specs.Units.{Stage}
 use Rattle.tg_tree.specs.Actions.{World, Temps, Around, Go, Next, Out, Back, ◌>>◌}

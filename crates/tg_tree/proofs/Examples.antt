@@ -1,11 +1,11 @@
 -- Runs of small trees, each computed by the definition itself.
 use Rattle.std.proofs.Common.{◌≡◌, ℕ, ◌+◌, ◌-◌, ◌*◌, List, [], ◌∷◌, ◌++◌, map, Bool, true, false, refl}
 use Rattle.std.specs.Prelude.{codes, pos}
-use Rattle.tg_base.specs.declared.ends.RunEnd.TheVariants.{Exit, Break as Broken, Overflow, HeapFull, StackFull, BadService}
-use Rattle.tg_base.specs.State.{stack_top}
+use Rattle.tg_state.specs.declared.ends.RunEnd.TheVariants.{Exit, Break as Broken, Overflow, HeapFull, StackFull, BadService}
+use Rattle.tg_state.specs.State.{stack_top}
 use Rattle.tg_frame.specs.declared.accesses.Access.{Access}
 use Rattle.tg_frame.specs.declared.accesses.Access.TheVariants.{InTemp, InFrame}
-use Rattle.tg_runs.specs.Ran.{Ran, Stop, Ended, WantsFuel, Wrong}
+use Rattle.tg_simulation.specs.Ran.{Ran, Stop, Ended, WantsFuel, Wrong}
 use Rattle.tg_tree.specs.declared.operators.Bin.TheVariants.{Add, Sub, Mul, Div, And, Or, Xor, ShiftLeft, ShiftRight, ShiftSigned, AddTrap, SubTrap, MulHigh}
 use Rattle.tg_tree.specs.declared.operators.Rel.TheVariants.{Equal, NotEqual, Less, LessEqual, Greater, GreaterEqual, Below, NotBelow}
 use Rattle.tg_tree.specs.Tree.{Tx, Const, Address, Temp, FrameAddress, Binary, Load, LoadByte, Call, Service, After, no_txs, Compare, Both, Not, Ts}

@@ -1,7 +1,7 @@
 -- A run of a flat expression is its value, behind exactly the units that it spends until then.
 use Rattle.std.proofs.Common.{◌≡◌, ℕ, ◌+◌, ◌≤◌, List, Option, Some, None, refl, sym, ap, ◌∙◌, arith}
-use Rattle.tg_runs.specs.Runs.{Run}
-use Rattle.tg_runs.specs.Ran.{Ran, stops, works}
+use Rattle.tg_simulation.specs.Runs.{Run}
+use Rattle.tg_simulation.specs.Ran.{Ran, stops, works}
 use Rattle.tg_tree.specs.Tree.{Tx, Const, Address, Temp, FrameAddress, Binary, Load, LoadByte, Call, Service, After, Literal}
 use Rattle.tg_tree.specs.Operators.{Given, word, stops_by, operate}
 use Rattle.tg_tree.specs.Memory.{Memory, load, load_byte, literal_address}

@@ -2,11 +2,11 @@
 use Rattle.std.proofs.Common.{◌≡◌, ℕ, zero, suc, ◌+◌, ◌^◌, ◌<◌, ◌≤◌, List, [], ◌∷◌, ◌++◌, length, Bool, true, false, Option, Some, None, refl, sym}
 use Rattle.std.proofs.Common.{ap, ◌∙◌, arith, append_assoc}
 use Rattle.std.specs.Prelude.{nat_lt, if◌then◌else◌}
-use Rattle.tg_base.specs.declared.ends.RunEnd.TheVariants.{HeapFull}
-use Rattle.tg_base.specs.State.{heap_base}
-use Rattle.tg_runs.specs.Runs.{Run, IsSameTo}
-use Rattle.tg_runs.specs.Ran.{Ran, Stop, Ended, WantsFuel, Wrong, stops, writes, works, IsOver, GoesOn}
-use Rattle.tg_runs.proofs.Fixpoint.{turn_same}
+use Rattle.tg_state.specs.declared.ends.RunEnd.TheVariants.{HeapFull}
+use Rattle.tg_state.specs.State.{heap_base}
+use Rattle.tg_simulation.specs.Runs.{Run, IsSameTo}
+use Rattle.tg_simulation.specs.Ran.{Ran, Stop, Ended, WantsFuel, Wrong, stops, writes, works, IsOver, GoesOn}
+use Rattle.tg_simulation.proofs.Fixpoint.{turn_same}
 use Rattle.tg_tree.specs.Memory.{Memory, load, load_byte, store, store_byte, Cell}
 use Rattle.tg_tree.specs.Actions.{World, Temps, set_temp, Back, over, charged, written, with_word, with_memory, with_text, text_from, take_heap, read_byte}
 use Rattle.tg_tree.specs.Running.{with_fuel, no_temps}

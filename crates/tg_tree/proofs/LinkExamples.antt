@@ -1,11 +1,11 @@
 -- Static links that are right, and one that isn't, each computed by the definition itself.
 use Rattle.std.proofs.Common.{◌≡◌, ℕ, ◌-◌, List, [], ◌∷◌, ◌++◌, ap, refl}
 use Rattle.std.specs.Prelude.{pos}
-use Rattle.tg_base.specs.declared.ends.RunEnd.TheVariants.{Exit}
-use Rattle.tg_base.specs.State.{stack_top}
+use Rattle.tg_state.specs.declared.ends.RunEnd.TheVariants.{Exit}
+use Rattle.tg_state.specs.State.{stack_top}
 use Rattle.tg_frame.specs.declared.accesses.Access.{Access}
 use Rattle.tg_frame.specs.declared.accesses.Access.TheVariants.{InFrame}
-use Rattle.tg_runs.specs.Ran.{Ran, Stop, Ended, Wrong}
+use Rattle.tg_simulation.specs.Ran.{Ran, Stop, Ended, Wrong}
 use Rattle.tg_tree.specs.declared.operators.Bin.TheVariants.{Sub}
 use Rattle.tg_tree.specs.Tree.{Tx, Const, FrameAddress, Binary, Load, Call, Service, Ts, Store, Do, Return, Function, Code}
 use Rattle.tg_tree.specs.Units.{Trees}

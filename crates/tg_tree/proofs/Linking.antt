@@ -1,13 +1,13 @@
 -- Where each function is carried, calls are, and so is a program from its first activation on.
 use Rattle.std.proofs.Common.{ℕ, zero, suc, ◌+◌, ◌*◌, ◌<◌, ◌≤◌, List, [], ◌∷◌, length, Bool, true, false, Option, Some, arith}
 use Rattle.std.specs.Prelude.{◌==◌, nat_lt, if◌then◌else◌}
-use Rattle.tg_base.specs.declared.ends.RunEnd.TheVariants.{StackFull}
+use Rattle.tg_state.specs.declared.ends.RunEnd.TheVariants.{StackFull}
 use Rattle.tg_frame.specs.declared.accesses.Access.{Access}
 use Rattle.tg_frame.specs.declared.accesses.Access.TheVariants.{InTemp, InFrame}
-use Rattle.tg_runs.specs.Runs.{Run}
-use Rattle.tg_runs.specs.Ran.{Ran, Ended, Wrong, works}
-use Rattle.tg_runs.specs.Simulating.{Simulates}
-use Rattle.tg_runs.proofs.Simulations.{simulates_stopping, simulates_turn, simulates_less, simulates_paying, simulates_working, simulates_with_credit}
+use Rattle.tg_simulation.specs.Runs.{Run}
+use Rattle.tg_simulation.specs.Ran.{Ran, Ended, Wrong, works}
+use Rattle.tg_simulation.specs.Simulating.{Simulates}
+use Rattle.tg_simulation.proofs.Simulations.{simulates_stopping, simulates_turn, simulates_less, simulates_paying, simulates_working, simulates_with_credit}
 use Rattle.tg_tree.specs.Tree.{Function}
 use Rattle.tg_tree.specs.Memory.{Has, put, slot}
 use Rattle.tg_tree.specs.Actions.{World, Temps, set_temp, Activation, Next, Back}

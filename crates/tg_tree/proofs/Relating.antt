@@ -3,13 +3,13 @@
 use Rattle.std.proofs.Common.{◌≡◌, ℕ, zero, suc, ◌+◌, ◌-◌, ◌^◌, ◌%◌, ◌<◌, ◌≤◌, List, [], ◌∷◌, ◌++◌, Bool, true, false, Option, Some, None, refl}
 use Rattle.std.specs.Prelude.{◌==◌, not, nat_lt, pos, if◌then◌else◌}
 use Rattle.std.specs.Fmt.{signed_decimal}
-use Rattle.tg_base.specs.declared.ends.RunEnd.TheVariants.{Exit, Break as Broken, StackFull, BadService}
+use Rattle.tg_state.specs.declared.ends.RunEnd.TheVariants.{Exit, Break as Broken, StackFull, BadService}
 use Rattle.tg_base.specs.Words.{signed}
-use Rattle.tg_base.specs.Services.{whole_words}
+use Rattle.tg_state.specs.Services.{whole_words}
 use Rattle.tg_frame.specs.declared.accesses.Access.{Access}
 use Rattle.tg_frame.specs.declared.accesses.Access.TheVariants.{InTemp, InFrame}
-use Rattle.tg_runs.specs.Runs.{Run}
-use Rattle.tg_runs.specs.Ran.{Ran, Stop, Ended, Wrong}
+use Rattle.tg_simulation.specs.Runs.{Run}
+use Rattle.tg_simulation.specs.Ran.{Ran, Stop, Ended, Wrong}
 use Rattle.tg_tree.specs.Tree.{Tx, Const, Address, Temp, FrameAddress, Binary, Load, LoadByte, Call, Service, After, Txs, no_txs, tx, Cond, Compare}
 use Rattle.tg_tree.specs.Tree.{Not, Both, Either, Ts, Move, Store, StoreByte, Do, If, Loop, Break, Fault, Seq, Return, Stms, no_stms, stm, Literal}
 use Rattle.tg_tree.specs.Tree.{Function}

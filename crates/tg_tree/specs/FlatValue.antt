@@ -1,7 +1,7 @@
 -- The value of a flat expression, without what comes next: a word, or how the run stops.
 use Rattle.std.specs.Prelude.{ℕ, ◌+◌, ◌≡◌, ◌≤◌, List, Option, Some, None}
-use Rattle.tg_runs.specs.Runs.{Run}
-use Rattle.tg_runs.specs.Ran.{Ran, Wrong}
+use Rattle.tg_simulation.specs.Runs.{Run}
+use Rattle.tg_simulation.specs.Ran.{Ran, Wrong}
 use Rattle.tg_tree.specs.Tree.{Tx, Const, Address, Temp, FrameAddress, Binary, Load, LoadByte}
 use Rattle.tg_tree.specs.Tree.{Literal}
 use Rattle.tg_tree.specs.Operators.{Given, word, stops_by, operate}

@@ -1,8 +1,8 @@
 -- What a run may read: temporaries that are set, and slots of open activations that were stored to.
 -- The second of two worlds holds at least what the first holds there.
 use Rattle.std.specs.Prelude.{◌≡◌, ◌≢◌, ℕ, List, Option, Some, None}
-use Rattle.tg_runs.specs.Runs.{Run}
-use Rattle.tg_runs.specs.Ran.{Ran, Wrong}
+use Rattle.tg_simulation.specs.Runs.{Run}
+use Rattle.tg_simulation.specs.Ran.{Ran, Wrong}
 use Rattle.tg_tree.specs.Memory.{Cell, Closed, Unset, Has, Kept}
 use Rattle.tg_tree.specs.Actions.{World, Temps, Next, Back, Around}
 

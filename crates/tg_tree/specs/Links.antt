@@ -3,8 +3,8 @@
 -- any other first argument is the run, where the links are right: unless it goes wrong.
 use Rattle.std.specs.Prelude.{ℕ, ◌-◌, ◌≡◌, ◌≢◌, ◌==◌, List, [], ◌∷◌, length, drop, Bool, false}
 use Rattle.std.specs.Prelude.{nat_lt, if◌then◌else◌}
-use Rattle.tg_runs.specs.Runs.{Run, again}
-use Rattle.tg_runs.specs.Ran.{Ran, WantsFuel, Wrong, stops, StaysOver}
+use Rattle.tg_simulation.specs.Runs.{Run, again}
+use Rattle.tg_simulation.specs.Ran.{Ran, WantsFuel, Wrong, stops, StaysOver}
 use Rattle.tg_tree.specs.Tree.{Ts, Code}
 use Rattle.tg_tree.specs.Units.{Stage, marked_entry_units}
 use Rattle.tg_tree.specs.Actions.{wrong}

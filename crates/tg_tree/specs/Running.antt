@@ -2,12 +2,12 @@
 -- activation of a program takes none.
 use Rattle.std.specs.Prelude.{ℕ, ◌+◌, ◌==◌, List, [], ◌∷◌, Option, Some, None, length, map, nat_lt}
 use Rattle.std.specs.Prelude.{if◌then◌else◌, pos}
-use Rattle.tg_base.specs.declared.ends.RunEnd.TheVariants.{Exit, StackFull}
-use Rattle.tg_base.specs.State.{stack_top}
+use Rattle.tg_state.specs.declared.ends.RunEnd.TheVariants.{Exit, StackFull}
+use Rattle.tg_state.specs.State.{stack_top}
 use Rattle.tg_frame.specs.declared.accesses.Access.{Access}
 use Rattle.tg_frame.specs.declared.accesses.Access.TheVariants.{InTemp, InFrame}
-use Rattle.tg_runs.specs.Runs.{Run, turn, again}
-use Rattle.tg_runs.specs.Ran.{Ran, Ended, WantsFuel, stops}
+use Rattle.tg_simulation.specs.Runs.{Run, turn, again}
+use Rattle.tg_simulation.specs.Ran.{Ran, Ended, WantsFuel, stops}
 use Rattle.tg_tree.specs.Tree.{Ts, Stms, Seq, Function, Code}
 use Rattle.tg_tree.specs.Units.{Stage, Canonical, marked_entry_units}
 use Rattle.tg_tree.specs.Memory.{Unset, Closed, Has, put, slot, lay, begin}

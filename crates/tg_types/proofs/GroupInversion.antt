@@ -5,7 +5,7 @@ use Rattle.std.proofs.lemmas.Bool.{eqb-true, eq-eqb}
 use Rattle.tg_syntax.specs.declared.tokens.Ident.{Ident}
 use Rattle.tg_syntax.specs.declared.trees.Param.{Param}
 use Rattle.tg_syntax.specs.Tree.{Form, Alias, Fields, Array, TypeDec, Exp, LValue, Simple, Field, Index, FunDecs, no_functions, function}
-use Rattle.tg_meaning.specs.Environments.{function_named}
+use Rattle.tg_semantics.specs.Environments.{function_named}
 use Rattle.tg_types.specs.declared.faults.TypeRule.{TypeRule}
 use Rattle.tg_types.specs.Types.{Ty, none_type, same}
 use Rattle.tg_types.specs.Checks.{Noted, fine}

@@ -3,8 +3,8 @@ use Rattle.std.specs.Prelude.{Option, Some, None, ◌==◌, if◌then◌else◌,
 use Rattle.std.specs.Option.{option_map}
 use Rattle.std.proofs.Common.{◌≡◌, ℕ, zero, suc, ◌+◌, ◌<◌, List, [], ◌∷◌, ◌++◌, Bool, true, false, refl, sym, ap, ◌∙◌, subst, arith, eq-eqb}
 use Rattle.tg_syntax.specs.declared.tokens.Ident.{Ident}
-use Rattle.tg_meaning.specs.declared.standards.Standard.{Standard}
-use Rattle.tg_meaning.specs.Environments.{standards}
+use Rattle.tg_semantics.specs.declared.standards.Standard.{Standard}
+use Rattle.tg_semantics.specs.Environments.{standards}
 use Rattle.tg_types.specs.declared.faults.TypeRule.{TypeRule}
 use Rattle.tg_types.specs.declared.faults.TypeRule.TheVariants.{T1, T2, T3, T4, T5}
 use Rattle.tg_types.specs.declared.faults.TypeFault.{TypeFault}

@@ -2,9 +2,9 @@
 use Rattle.std.proofs.Common.{◌≡◌, ◌≢◌, ℕ, List, refl}
 use Rattle.tg_syntax.specs.Tree.{Exp}
 use Rattle.tg_syntax.specs.Beginnings.{BeginsApart}
-use Rattle.tg_runs.specs.Outcomes.{stuck}
-use Rattle.tg_meaning.specs.Direct.{evaluate}
-use Rattle.tg_meaning.specs.Environments.{outermost as entries_of}
+use Rattle.tg_simulation.specs.Outcomes.{stuck}
+use Rattle.tg_semantics.specs.Direct.{evaluate}
+use Rattle.tg_semantics.specs.Environments.{outermost as entries_of}
 use Rattle.tg_types.specs.declared.notes.Note.{Note}
 use Rattle.tg_types.specs.Scopes.{outermost}
 use Rattle.tg_types.specs.Accepted.{finding, accepted}

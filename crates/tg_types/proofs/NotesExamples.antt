@@ -5,7 +5,7 @@ use Prim.Native.String.{String}
 use Rattle.tg_syntax.specs.declared.trees.Op.TheVariants as op
 use Rattle.tg_syntax.specs.Tree.{Fields, Exp, Nil, Int, Text, Read, Call, Binary, Make, For, Let, Seq, Simple, Field, no_inits, init, no_decs, types}
 use Rattle.tg_syntax.specs.Tree.{variable, functions, no_functions, function}
-use Rattle.tg_meaning.specs.declared.standards.Standard.TheVariants as standard
+use Rattle.tg_semantics.specs.declared.standards.Standard.TheVariants as standard
 use Rattle.tg_types.specs.declared.notes.Note.{Note}
 use Rattle.tg_types.specs.declared.notes.Means.{Means}
 use Rattle.tg_types.specs.declared.notes.Means.TheVariants as m

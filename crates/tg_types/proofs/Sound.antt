@@ -9,15 +9,15 @@ use Rattle.tg_syntax.specs.declared.trees.Param.{Param}
 use Rattle.tg_syntax.specs.declared.trees.Op.{Op}
 use Rattle.tg_syntax.specs.declared.trees.Op.TheVariants.{Plus, Minus, Times, Divide, Equal, NotEqual, Less, LessEqual, Greater, GreaterEqual, And, Or}
 use Rattle.tg_syntax.specs.Tree.{Exp, LValue, Exps, Inits, Decs, FunDecs, no_functions, function}
-use Rattle.tg_runs.specs.Outcomes.{End, ended, stuck}
-use Rattle.tg_meaning.specs.declared.standards.Standard.{Standard}
-use Rattle.tg_meaning.specs.declared.standards.Standard.TheVariants.{Print, Flush, Getchar, Ord, Chr, Size, Substring, Concat, Not, Exit}
-use Rattle.tg_meaning.specs.Values.{Value, int, string, nothing, Object, fields, Entry, group, Env, Ending, by_chr, by_index}
-use Rattle.tg_meaning.specs.Actions.{Actions}
-use Rattle.tg_meaning.specs.Environments.{SourceFunction, Bound, find}
-use Rattle.tg_meaning.specs.Operators.{exact_quotient, is_below, string_less, comparison, identity, field_in, element_in, with_field, with_element}
-use Rattle.tg_meaning.specs.Evaluation as E
-use Rattle.tg_meaning.specs.Evaluation.{Location, in_variable, in_field, in_element, Job, run_function, repeat_while, repeat_for, with_variable, count}
+use Rattle.tg_simulation.specs.Outcomes.{End, ended, stuck}
+use Rattle.tg_semantics.specs.declared.standards.Standard.{Standard}
+use Rattle.tg_semantics.specs.declared.standards.Standard.TheVariants.{Print, Flush, Getchar, Ord, Chr, Size, Substring, Concat, Not, Exit}
+use Rattle.tg_semantics.specs.Values.{Value, int, string, nothing, Object, fields, Entry, group, Env, Ending, by_chr, by_index}
+use Rattle.tg_semantics.specs.Actions.{Actions}
+use Rattle.tg_semantics.specs.Environments.{SourceFunction, Bound, find}
+use Rattle.tg_semantics.specs.Operators.{exact_quotient, is_below, string_less, comparison, identity, field_in, element_in, with_field, with_element}
+use Rattle.tg_semantics.specs.Evaluation as E
+use Rattle.tg_semantics.specs.Evaluation.{Location, in_variable, in_field, in_element, Job, run_function, repeat_while, repeat_for, with_variable, count}
 use Rattle.std.proofs.lemmas.Bool.{ltb-true}
 use Rattle.tg_types.specs.Types.{Ty, int_type, string_type, none_type, record_type, array_type, Shape, record_shape, array_shape}
 use Rattle.tg_symbols.specs.Tables.{named}

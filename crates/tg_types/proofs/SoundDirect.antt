@@ -3,13 +3,13 @@ use Rattle.std.proofs.Common.{◌≡◌, ◌≢◌, ℕ, zero, suc, ◌+◌, Lis
 use Rattle.std.specs.Prelude.{slice_get, if◌then◌else◌}
 use Rattle.std.specs.Str.{bytes_eq}
 use Rattle.tg_syntax.specs.Tree.{Exp}
-use Rattle.tg_runs.specs.Outcomes.{End, ended, stuck}
-use Rattle.tg_meaning.specs.declared.standards.Standard.{Standard}
-use Rattle.tg_meaning.specs.Values.{Value, Entry, standard, by_heap, add_heap, Ending}
-use Rattle.tg_meaning.specs.Environments.{standard_text, standards, standards_of, outermost_from}
-use Rattle.tg_meaning.specs.Evaluation.{Job, meaning, program}
-use Rattle.tg_meaning.specs.Direct.{RunState, Result, gives, breaks, is_over, Direct, after, after_body, returned, fuelled, found, changed, direct}
-use Rattle.tg_meaning.specs.Direct.{begin, outcome}
+use Rattle.tg_simulation.specs.Outcomes.{End, ended, stuck}
+use Rattle.tg_semantics.specs.declared.standards.Standard.{Standard}
+use Rattle.tg_semantics.specs.Values.{Value, Entry, standard, by_heap, add_heap, Ending}
+use Rattle.tg_semantics.specs.Environments.{standard_text, standards, standards_of, outermost_from}
+use Rattle.tg_semantics.specs.Evaluation.{Job, meaning, program}
+use Rattle.tg_semantics.specs.Direct.{RunState, Result, gives, breaks, is_over, Direct, after, after_body, returned, fuelled, found, changed, direct}
+use Rattle.tg_semantics.specs.Direct.{begin, outcome}
 use Rattle.tg_types.specs.Types.{Ty, none_type, Shape}
 use Rattle.tg_types.specs.Scopes.{Binding, standard_one, Scope, standard_of, entry, standard_bindings}
 use Rattle.tg_types.specs.declared.notes.Note.{Note}

@@ -4,10 +4,10 @@ use Rattle.std.proofs.Common.{arith, replicate}
 use Rattle.std.specs.Prelude.{slice_get, slice_set, ◌==◌, if◌then◌else◌}
 use Rattle.std.proofs.lemmas.Bool.{eqb-true}
 use Rattle.tg_syntax.specs.Tree.{FunDecs, function}
-use Rattle.tg_meaning.specs.Values.{Value, int, string, nil, reference, nothing, Object, fields, elements, Entry, variable, group, standard}
-use Rattle.tg_meaning.specs.Values.{SourceWorld, start, add_variable, put_variable, add_object, put_object}
-use Rattle.tg_meaning.specs.Operators.{get_field, set_field, field_in, element_in, with_field, with_element}
-use Rattle.tg_meaning.specs.Environments.{SourceFunction, Bound, to_variable, to_function, to_standard, function_named, or_beyond, find}
+use Rattle.tg_semantics.specs.Values.{Value, int, string, nil, reference, nothing, Object, fields, elements, Entry, variable, group, standard}
+use Rattle.tg_semantics.specs.Values.{SourceWorld, start, add_variable, put_variable, add_object, put_object}
+use Rattle.tg_semantics.specs.Operators.{get_field, set_field, field_in, element_in, with_field, with_element}
+use Rattle.tg_semantics.specs.Environments.{SourceFunction, Bound, to_variable, to_function, to_standard, function_named, or_beyond, find}
 use Rattle.tg_types.specs.Types.{Ty, int_type, string_type, nil_type, none_type, record_type, array_type, Shape, record_shape, array_shape}
 use Rattle.tg_symbols.specs.Tables.{named}
 use Rattle.tg_types.specs.Scopes.{Signature, Binding, variable_at, function_at, standard_one, Scope, name_of, at_of, binding, in_no_loop}

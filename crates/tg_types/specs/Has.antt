@@ -14,8 +14,8 @@ use Rattle.tg_syntax.specs.Tree.{Fill, Assign, If, When, While, For, Let, Seq, L
 use Rattle.tg_syntax.specs.Tree.{Field, Index, Exps, no_exps, exp, Inits, no_inits, init, Decs}
 use Rattle.tg_syntax.specs.Tree.{no_decs, types, variable, functions, FunDecs, no_functions}
 use Rattle.tg_syntax.specs.Tree.{function}
-use Rattle.tg_meaning.specs.Operators.{comparison, identity}
-use Rattle.tg_meaning.specs.Environments.{function_named}
+use Rattle.tg_semantics.specs.Operators.{comparison, identity}
+use Rattle.tg_semantics.specs.Environments.{function_named}
 use Rattle.tg_types.specs.declared.notes.Note.{Note}
 use Rattle.tg_types.specs.declared.notes.Means.{Means}
 use Rattle.tg_types.specs.declared.notes.Means.TheVariants as means

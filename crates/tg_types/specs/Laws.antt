@@ -1,8 +1,8 @@
 -- Laws of typing and evaluation.
 use Rattle.std.specs.Prelude.{◌≡◌, ◌≢◌, ◌↔◌, ℕ, List, Some, Bool, IsTrue}
 use Rattle.tg_syntax.specs.Tree.{Exp}
-use Rattle.tg_runs.specs.Outcomes.{stuck}
-use Rattle.tg_meaning.specs.Direct.{evaluate}
+use Rattle.tg_simulation.specs.Outcomes.{stuck}
+use Rattle.tg_semantics.specs.Direct.{evaluate}
 use Rattle.tg_types.specs.declared.faults.TypeRule.{TypeRule}
 use Rattle.tg_types.specs.declared.notes.Means.{Means}
 use Rattle.tg_types.specs.Accepted.{finding, at_fault}

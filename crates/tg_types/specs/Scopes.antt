@@ -4,11 +4,11 @@ use Rattle.std.specs.Prelude.{ℕ, suc, List, [], ◌∷◌, ◌++◌, Option, S
 use Rattle.std.specs.Prelude.{if◌then◌else◌, codes}
 use Rattle.std.specs.Str.{bytes_eq}
 use Rattle.tg_syntax.specs.declared.tokens.Ident.{Ident}
-use Rattle.tg_meaning.specs.declared.standards.Standard.{Standard}
-use Rattle.tg_meaning.specs.declared.standards.Standard.TheVariants.{Print, Flush, Getchar, Ord}
-use Rattle.tg_meaning.specs.declared.standards.Standard.TheVariants.{Chr, Size, Substring, Concat}
-use Rattle.tg_meaning.specs.declared.standards.Standard.TheVariants.{Not, Exit}
-use Rattle.tg_meaning.specs.Environments.{standard_text, standards}
+use Rattle.tg_semantics.specs.declared.standards.Standard.{Standard}
+use Rattle.tg_semantics.specs.declared.standards.Standard.TheVariants.{Print, Flush, Getchar, Ord}
+use Rattle.tg_semantics.specs.declared.standards.Standard.TheVariants.{Chr, Size, Substring, Concat}
+use Rattle.tg_semantics.specs.declared.standards.Standard.TheVariants.{Not, Exit}
+use Rattle.tg_semantics.specs.Environments.{standard_text, standards}
 use Rattle.tg_types.specs.Types.{Ty, int_type, string_type, none_type}
 use Rattle.tg_symbols.specs.Tables.{named}
 

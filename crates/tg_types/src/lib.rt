@@ -27,4 +27,4 @@ pub use checking::{Checked, Notes, check};
 pub use faults::{TypeFault, TypeRule};
 pub use laws::{checked_has_type, faults_stand_within, never_stuck, notes_are_found};
 pub use notes::{Means, Note};
-pub use tg_meaning::Standard;
+pub use tg_semantics::Standard;

@@ -1,4 +1,4 @@
-use tg_meaning::Standard;
+use tg_semantics::Standard;
 
 /// What a part of a program means.
 #[derive(Clone, Copy, Debug, PartialEq, Eq)]

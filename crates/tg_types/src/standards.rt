@@ -1,12 +1,12 @@
 ghost use Rattle.std.specs.Prelude.{◌≡◌, IfOk};
-ghost use Rattle.tg_meaning.specs.Environments.{standards};
+ghost use Rattle.tg_semantics.specs.Environments.{standards};
 ghost use Rattle.tg_types.specs.Scopes as scopes;
 
 use crate::bindings::Signature;
 use crate::kinds::Ty;
 use std::alloc::Global;
 use tg_base::Memory;
-use tg_meaning::Standard;
+use tg_semantics::Standard;
 
 /// The standard function of a name's text.
 pub(crate) fn standard_of(text: &str) -> Option<Standard>

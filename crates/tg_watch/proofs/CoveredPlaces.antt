@@ -7,7 +7,7 @@ use Rattle.std.proofs.lemmas.Bool.Decides.{eqb_tells}
 use Rattle.std.proofs.lemmas.List.{get_or-set_same, get_or-set_other, length-set}
 use Rattle.std.proofs.lemmas.List.Folds.{list_any-append}
 use Rattle.std.proofs.lemmas.Option.{slice_get-get_or, get_or_from_slice_get}
-use Rattle.tg_base.specs.State.{code_base}
+use Rattle.tg_state.specs.State.{code_base}
 use Rattle.tg_machine.specs.declared.fetches.Seen.{Seen}
 use Rattle.tg_watch.specs.Reports.{is_seen, covered}
 use Rattle.tg_watch.specs.Standing.{Covers}

@@ -5,17 +5,18 @@ use Rattle.std.specs.Fmt.{decimal}
 use Rattle.std.specs.List.{list_any}
 use Rattle.std.specs.Str.{bytes_eq}
 use Rattle.tg_isa.specs.declared.mips.Mips.{Mips}
-use Rattle.tg_isa.specs.declared.keywords.Keyword.{Keyword}
-use Rattle.tg_isa.specs.declared.keywords.Keyword.TheVariants.{Sll, Srl, Sra, Jr, Jalr, Syscall}
-use Rattle.tg_isa.specs.declared.keywords.Keyword.TheVariants.{Break, Mfhi, Mflo, Mult, Div, Add}
-use Rattle.tg_isa.specs.declared.keywords.Keyword.TheVariants.{Sub, Addu, Subu, And, Or, Xor, Nor}
-use Rattle.tg_isa.specs.declared.keywords.Keyword.TheVariants.{Slt, Sltu, J, Jal, Beq, Bne, Blez}
-use Rattle.tg_isa.specs.declared.keywords.Keyword.TheVariants.{Bgtz, Bltz, Bgez, Addi, Addiu, Slti}
-use Rattle.tg_isa.specs.declared.keywords.Keyword.TheVariants.{Sltiu, Andi, Ori, Xori, Lui, Lb, Lbu}
-use Rattle.tg_isa.specs.declared.keywords.Keyword.TheVariants.{Lw, Sb, Sw}
-use Rattle.tg_isa.specs.Items.{spelling}
+use Rattle.tg_asm_text.specs.declared.keywords.Keyword.{Keyword}
+use Rattle.tg_asm_text.specs.declared.keywords.Keyword.TheVariants.{Sll, Srl, Sra, Jr, Jalr}
+use Rattle.tg_asm_text.specs.declared.keywords.Keyword.TheVariants.{Syscall, Break, Mfhi, Mflo}
+use Rattle.tg_asm_text.specs.declared.keywords.Keyword.TheVariants.{Mult, Div, Add, Sub, Addu, Subu}
+use Rattle.tg_asm_text.specs.declared.keywords.Keyword.TheVariants.{And, Or, Xor, Nor, Slt, Sltu, J}
+use Rattle.tg_asm_text.specs.declared.keywords.Keyword.TheVariants.{Jal, Beq, Bne, Blez, Bgtz, Bltz}
+use Rattle.tg_asm_text.specs.declared.keywords.Keyword.TheVariants.{Bgez, Addi, Addiu, Slti, Sltiu}
+use Rattle.tg_asm_text.specs.declared.keywords.Keyword.TheVariants.{Andi, Ori, Xori, Lui, Lb, Lbu}
+use Rattle.tg_asm_text.specs.declared.keywords.Keyword.TheVariants.{Lw, Sb, Sw}
+use Rattle.tg_asm_text.specs.Items.{spelling}
 use Rattle.tg_isa.specs.Table.{decode_of}
-use Rattle.tg_isa.specs.Writing.{keyword_of}
+use Rattle.tg_asm_text.specs.Writing.{keyword_of}
 use Rattle.tg_machine.specs.declared.fetches.Seen.{Seen}
 use Rattle.tg_watch.specs.Watching.{Report}
 use Rattle.tg_watch.specs.Words.{word_text}

@@ -1,7 +1,7 @@
 -- What each kind of watcher keeps of the fetches that it stands for.
 use Rattle.std.specs.Prelude.{ℕ, ◌≡◌, ◌<◌, ◌≤◌, ◌+◌, ◌*◌, ◌%◌, List, [], length, slice_get, Bool}
 use Rattle.std.specs.Prelude.{slice_index, slice_index_or, Some}
-use Rattle.tg_base.specs.State.{code_base}
+use Rattle.tg_state.specs.State.{code_base}
 use Rattle.tg_machine.specs.declared.fetches.Seen.{Seen}
 use Rattle.tg_watch.specs.Reports.{counted_names, count_of, is_seen, covered}
 

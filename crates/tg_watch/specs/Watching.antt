@@ -1,7 +1,7 @@
 -- What watchers stand for, and what their calls promise.
 use Rattle.std.specs.Prelude.{ℕ, ◌≡◌, ◌<◌, ◌≤◌, ◌+◌, ◌*◌, ◌%◌, ◌^◌, List, [], ◌∷◌, ◌++◌, length}
 use Rattle.std.specs.Prelude.{map, take, slice_get, All, Option, Some, None}
-use Rattle.tg_base.specs.State.{code_base}
+use Rattle.tg_state.specs.State.{code_base}
 use Rattle.tg_machine.specs.declared.fetches.Seen.{Seen}
 
 -- a report: its lines, by the fetches in order and the number of words of the code

@@ -5,8 +5,9 @@ ghost use Rattle.tg_watch.specs.Standing.{Covers};
 use crate::lines::{put, put_decimal};
 use crate::watchers::Watcher;
 use std::alloc::Global;
-use tg_base::{CODE_BASE, Memory};
+use tg_base::Memory;
 use tg_machine::Seen;
+use tg_state::CODE_BASE;
 
 /// Which words of the code were fetched. Its report is one line: how many, and of how many.
 #[derive(Drop)]

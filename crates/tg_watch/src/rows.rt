@@ -1,7 +1,7 @@
 ghost use Rattle.std.specs.Prelude.{◌≡◌, ◌<◌, ◌≤◌, [], length, slice_index_or};
-ghost use Rattle.tg_isa.specs.Items.{spelling};
+ghost use Rattle.tg_asm_text.specs.Items.{spelling};
+ghost use Rattle.tg_asm_text.specs.Writing.{keyword_of};
 ghost use Rattle.tg_isa.specs.Table.{decode_of};
-ghost use Rattle.tg_isa.specs.Writing.{keyword_of};
 ghost use Rattle.tg_watch.specs.Reports.{counted_names, row_text};
 
 use tg_isa::{Mips, decode};

@@ -1,6 +1,6 @@
 use Rattle.std.proofs.Common.{Bool, ℕ, ◌<◌, false, List, [], ◌∷◌, ◌++◌, length, get_or, map, ap, ◌∙◌}
 use Rattle.std.proofs.lemmas.List.{take_all}
-use Rattle.tg_rounds.specs.declared.candidates.Mark.{Mark}
+use Rattle.tg_irc.specs.declared.candidates.Mark.{Mark}
 use Rattle.tg_coalesce.proofs.Vectors.{map_taken}
 use Rattle.tg_coalesce.proofs.classes.made_of.Goals as goal
 

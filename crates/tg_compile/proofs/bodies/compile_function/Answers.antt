@@ -4,7 +4,7 @@ use Rattle.std.specs.List.{list_all}
 use Rattle.tg_tree.specs.Plain.{plain_fragment}
 use Rattle.tg_instr.specs.Codes.{has_slots_below, names_registers}
 use Rattle.tg_instr.specs.declared.instr.Instr.{Instr}
-use Rattle.tg_spill.specs.Conditions.{is_fixed}
+use Rattle.tg_regalloc.specs.Conditions.{is_fixed}
 use Rattle.tg_compile.proofs.bodies.compile_function.Goals as goal
 
 pub returns-clause-compiles : goal.returns-clause-compiles

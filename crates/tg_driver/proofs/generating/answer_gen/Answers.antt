@@ -1,5 +1,5 @@
 use Rattle.tg_driver.specs.Calls.{stream_of}
-use Rattle.tg_meant.specs.Sources.{IsSource}
+use Rattle.tg_correct.specs.Sources.{IsSource}
 use Rattle.tg_driver.proofs.AnswerLemmas.{in_number}
 use Rattle.tg_driver.proofs.generating.answer_gen.Goals as goal
 

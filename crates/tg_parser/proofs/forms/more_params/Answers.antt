@@ -1,6 +1,6 @@
 use Rattle.std.proofs.Common.{arith}
-use Rattle.tg_grammar.specs.Steps.{MoreParams, OneParam, Got}
-use Rattle.tg_grammar.specs.Reading.{give_got}
+use Rattle.tg_syntax_laws.specs.Steps.{MoreParams, OneParam, Got}
+use Rattle.tg_syntax_laws.specs.Reading.{give_got}
 use Rattle.tg_parser.specs.Given.{no_memory}
 use Rattle.tg_parser.proofs.Chains.{call_stops, ended, split_then, split_off, split_none}
 use Rattle.tg_parser.proofs.Params.{onward_more, onward_stops}

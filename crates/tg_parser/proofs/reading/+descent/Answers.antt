@@ -6,9 +6,9 @@ use Rattle.tg_syntax.specs.Tree.{no_decs, no_exps, exp, init, no_inits}
 use Rattle.tg_syntax.specs.Lists.{exps_of, inits_of, decs_of}
 use Rattle.tg_syntax.specs.Groups.{one_function}
 use Rattle.tg_syntax.specs.Grammar.{Whole, Disjunction, Comparison, Sum, Unary}
-use Rattle.tg_grammar.specs.declared.marks.Mark.TheVariants.{OfSign, OfWord}
-use Rattle.tg_grammar.specs.Steps.{Got, At, After, Suffix, Listed, Items, OneInit, ListedInits, MoreInits, VarDec, FunDec, MoreDecs, want, call, give}
-use Rattle.tg_grammar.specs.Reading.{give_got, call_got, below, last, binary}
+use Rattle.tg_syntax_laws.specs.declared.marks.Mark.TheVariants.{OfSign, OfWord}
+use Rattle.tg_syntax_laws.specs.Steps.{Got, At, After, Suffix, Listed, Items, OneInit, ListedInits, MoreInits, VarDec, FunDec, MoreDecs, want, call, give}
+use Rattle.tg_syntax_laws.specs.Reading.{give_got, call_got, below, last, binary}
 use Rattle.tg_parser.specs.Given.{no_memory}
 use Rattle.tg_parser.specs.Ranks.{level_of}
 use Rattle.tg_parser.specs.Heads.{plain_of}

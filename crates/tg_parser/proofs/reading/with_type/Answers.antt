@@ -1,5 +1,5 @@
 use Rattle.std.proofs.Common.{sym, ap}
-use Rattle.tg_grammar.specs.Steps.{TypeDec}
+use Rattle.tg_syntax_laws.specs.Steps.{TypeDec}
 use Rattle.tg_parser.specs.Given.{no_memory}
 use Rattle.tg_parser.proofs.Chains.{call_stops}
 use Rattle.tg_parser.proofs.Leading.{begins_ended, then, call_leads}

@@ -1,6 +1,6 @@
 use Rattle.std.proofs.Common.{◌≡◌, ◌<◌, length, get_or, sym, ap, ◌∙◌, arith}
 use Rattle.std.proofs.lemmas.Bool.{cond-false, cond-true}
-use Rattle.tg_rounds.specs.declared.moves.MoveState.TheVariants.{Frozen}
+use Rattle.tg_irc.specs.declared.moves.MoveState.TheVariants.{Frozen}
 use Rattle.tg_coalesce.specs.Lists.{list_at}
 use Rattle.tg_coalesce.specs.Tables.{is_unsettled}
 use Rattle.tg_coalesce.specs.Works.{Work, settled}

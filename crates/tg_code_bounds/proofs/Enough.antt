@@ -1,0 +1,27 @@
+-- A function whose tree is small meets the conditions of the passes.
+use Rattle.std.proofs.Common.{arith}
+use Rattle.tg_canon.specs.Meaning as canon
+use Rattle.tg_flatten_proof.specs.Flattened.{flattened}
+use Rattle.tg_flatten_proof.specs.Laws as carried
+use Rattle.tg_munch.specs.Lengths.{InstructionsAreFew}
+use Rattle.tg_code_bounds.specs.Conditions.{SmallIsEnough}
+
+pub enough : canon.LengthStays → canon.RoomStays → carried.LengthStays → carried.RoomStays → InstructionsAreFew → SmallIsEnough
+enough canonical_short canonical_small flat_short flat_small few f may h =
+    let s = h.short in
+    let r = h.small in
+    let a = canonical_short f may.temps in
+    let b = canonical_small f may.temps in
+    let c = flat_short f may in
+    let d = flat_small f may in
+    let n = (few (flattened f)).code in
+    let t = (few (flattened f)).temps in
+    record {
+      tree_short = omega (arith, s);
+      tree_small = omega (arith, r);
+      canonical_short = omega (arith, s, a);
+      canonical_small = omega (arith, r, b);
+      flat_short = omega (arith, s, c);
+      flat_small = omega (arith, r, d);
+      instructions = omega (arith, s, r, c, d, n, t);
+    }

@@ -1,9 +1,0 @@
-pub mod Compiled
-pub mod Fields
-pub mod Constants
-pub mod RuntimeFrames
-pub mod Sizes
-pub mod Translating
-pub mod Choosing
-pub mod Allocated
-pub mod Composing

@@ -1,8 +1,0 @@
-use Rattle.tg_compile_meaning.proofs.Composing.{compiled_agrees}
-use Rattle.tg_compile_meaning.proofs.laws.compiled_agrees.Goals as goal
-
-pub returns : goal.returns
-returns c =
-    compiled_agrees c.compiled_may_run.ensures.run c.trees_are_preserved.ensures c.emission_keeps.ensures
-    c.trees_run.ensures.over c.machine_runs_by_fuel.ensures.over c.passes_agree.ensures
-    c.choice_is_kept.ensures c.allocation_is_kept.ensures

@@ -1,5 +1,0 @@
-use Rattle.tg_compile_meaning.proofs.Compiled.{compiled_may_run, frames_are_sizes, frames_are_sizes_of_trees}
-use Rattle.tg_compile_meaning.proofs.laws.compiled_may_run.Goals as goal
-
-pub returns : goal.returns
-returns c = record { run = compiled_may_run; frames = frames_are_sizes; trees = frames_are_sizes_of_trees }

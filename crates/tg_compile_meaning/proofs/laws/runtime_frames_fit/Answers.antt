@@ -1,7 +1,0 @@
-use Rattle.tg_compile_meaning.proofs.RuntimeFrames.{runtime_frames_fit}
-use Rattle.tg_compile_meaning.proofs.laws.runtime_frames_fit.Goals as goal
-
-pub returns : goal.returns
-returns c =
-    runtime_frames_fit c.programs_are_linked.ensures.above c.routines_are_closed.ensures.routines
-    c.functions_are_short.ensures.frames

@@ -1,0 +1,15 @@
+pub mod Building
+pub mod Ending
+pub mod SmallValues
+pub mod SmallRuns
+pub mod ExitCodes
+pub mod Lowering
+pub mod Compiled
+pub mod Fields
+pub mod Constants
+pub mod RuntimeFrames
+pub mod Sizes
+pub mod Translating
+pub mod Choosing
+pub mod Allocated
+pub mod Composing

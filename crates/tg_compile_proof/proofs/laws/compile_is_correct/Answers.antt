@@ -1,0 +1,11 @@
+use Rattle.tg_compile.proofs.WellFormed.{functions_are}
+use Rattle.tg_compile_proof.proofs.Composing.{compile_is_correct}
+use Rattle.tg_compile_proof.proofs.laws.compile_is_correct.Goals as goal
+
+pub returns : goal.returns
+returns c =
+    compile_is_correct c.compiled_agrees.ensures c.program_has_image.ensures.image c.image_agrees.ensures
+    c.forms_agree.ensures c.programs_as_sources.ensures.full c.programs_as_sources.ensures.stuck c.never_stuck.ensures
+    c.programs_are_translated.ensures
+    (λ program accepted. functions_are program accepted c.bodies_are_closed.ensures.checked
+    c.temporaries_are_drawn.ensures.checked c.frames_are_small.ensures.checked c.routines_are_closed.ensures.routines)

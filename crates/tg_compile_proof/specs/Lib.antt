@@ -1,0 +1,5 @@
+pub mod Builds
+pub mod TextLaws
+pub mod Lowering
+pub mod Forms
+pub mod Laws

@@ -1,5 +1,0 @@
-use Rattle.tg_emit_meaning.proofs.Emission.{emission_keeps_runs}
-use Rattle.tg_emit_meaning.proofs.laws.emission_keeps_runs.Goals as goal
-
-pub returns : goal.returns
-returns c = emission_keeps_runs

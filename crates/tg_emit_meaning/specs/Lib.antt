@@ -1,4 +1,0 @@
-pub mod Setting
-pub mod Standing
-pub mod Emission
-pub mod Situation

@@ -1,0 +1,40 @@
+ghost use Rattle.tg_flatten_proof.specs.Laws.{
+  LengthStays,
+  RoomIsLeft,
+  RoomStays,
+  TreesArePreserved,
+};
+ghost use Rattle.tg_flatten_proof.specs.Programs.{AddingEndsAlike, CountingEndsAlike};
+
+use tg_trace::{blocks_are_correct, blocks_are_well_formed, traces_are_correct};
+
+/// The law of runs: a code of trees in canonical form, cut into blocks and laid as flat code, is a
+/// code whose runs are those of the trees that don't go wrong, with at least as much fuel, the same
+/// output, input left and end, and at most a unit of work more.
+pub fn flatten_is_correct()
+    ensures { TreesArePreserved }
+{
+    tg_canon::canon_is_correct();
+    tg_canon::canonical_statements();
+    blocks_are_correct();
+    blocks_are_well_formed();
+    traces_are_correct();
+}
+
+/// The laws of sizes: the flat code of a function is at most two units longer than its tree, and
+/// has no more room, of the 256 words that all passes may add.
+pub fn sizes_stay()
+    ensures length { LengthStays }
+    ensures room { RoomStays }
+    ensures left { RoomIsLeft }
+{
+    tg_canon::sizes_stay();
+    tg_trace::sizes_stay();
+}
+
+/// Programs of three functions, computed: they come to one end as trees, as canonical statements,
+/// as blocks and as flat code.
+pub fn programs_end_alike()
+    ensures adding { AddingEndsAlike }
+    ensures counting { CountingEndsAlike }
+{}

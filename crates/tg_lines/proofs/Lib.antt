@@ -1,7 +1,0 @@
-mod Examples
-pub mod Fetching
-pub mod Machine
-pub mod PlacedWords
-pub mod Statics
-pub mod ReturnWords
-pub mod OnMachine

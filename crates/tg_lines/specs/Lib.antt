@@ -1,2 +1,0 @@
-pub mod LinesRun
-pub mod Laws

@@ -1,5 +1,0 @@
-use Rattle.tg_meant.proofs.ExitCodes as codes
-use Rattle.tg_meant.proofs.laws.exits_are_words.Goals as goal
-
-pub returns : goal.returns
-returns c = codes.exits_are_words c.trees_are_of_words.ensures c.strings_fit_text.ensures.short

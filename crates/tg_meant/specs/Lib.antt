@@ -1,5 +1,0 @@
-pub mod Sources
-pub mod Meant
-pub mod Ends
-pub mod Builds
-pub mod Laws

@@ -1,3 +1,0 @@
-pub mod Outlines
-pub mod Chosen
-pub mod Relating

@@ -1,0 +1,30 @@
+ghost use Rattle.tg_munch_proof.specs.Chosen.{
+  ChosenKeepCounts,
+  ChosenKeepPrograms,
+  ChosenKeepWords,
+};
+ghost use Rattle.tg_munch_proof.specs.Values.{BranchesCompare, ExpressionsGiveValues};
+
+use tg_munch::code_is_marked;
+
+/// The laws of values: the instructions of a flat expression come to its value, or end as it does,
+/// in at most the units that it spends, and one more where an operand is asked for; and those of a
+/// comparison of two come to its mark where the relation holds and go on where it doesn't, in at
+/// most two units besides.
+pub fn expressions_give_values()
+    ensures expressions { ExpressionsGiveValues }
+    ensures branches { BranchesCompare }
+{}
+
+/// The laws of runs: instructions do what the flat code of their functions did. Each run of that
+/// which doesn't go wrong is one of theirs, with at least as much fuel, the same output, input left
+/// and end. Each counts a unit of work, and they do no more than the flat code did but for the
+/// registers that the program's body keeps; counted otherwise, as many times that as one counts at
+/// most, as where it counts the words that come of it.
+pub fn munch_is_correct()
+    ensures programs { ChosenKeepPrograms }
+    ensures counts { ChosenKeepCounts }
+    ensures words { ChosenKeepWords }
+{
+    code_is_marked();
+}

@@ -1,0 +1,6 @@
+pub mod Blocks
+pub mod Named
+pub mod Places
+pub mod Keeping
+pub mod Replaced
+pub mod Laws

@@ -1,0 +1,46 @@
+ghost use Rattle.tg_regalloc_proof.specs.Keeping.{
+  ChargedLessDoesNoMore,
+  KeepsCompose,
+  ProgramsAreKept,
+};
+ghost use Rattle.tg_regalloc_proof.specs.Laws.{AllocationKeeps, AllocationsKeep, FramesKeep};
+ghost use Rattle.tg_regalloc_proof.specs.Replaced.{ReplacedKeep};
+
+use tg_interference::nodes_are_operands;
+use tg_regalloc::allocations_grow_little;
+
+/// The generic law: where a block stands for each instruction of a function, with operands in places
+/// of their own, and what interferes in places apart, the function may stand in the place of the
+/// other.
+pub fn replaced_functions_keep()
+    ensures { ReplacedKeep }
+{}
+
+/// The laws of functions that may stand in the place of others: what is kept is kept on, and a
+/// program does the same with all its functions replaced; and a program that is charged less does no
+/// more.
+pub fn programs_are_kept()
+    ensures compose { KeepsCompose }
+    ensures programs { ProgramsAreKept }
+    ensures cheaper { ChargedLessDoesNoMore }
+{}
+
+/// The laws of one function: in every program the code of an allocation, by whatever policy, may
+/// stand in the place of the code that was handed in, and so may the code with every temporary in
+/// the frame.
+pub fn allocations_keep()
+    ensures keep { AllocationsKeep }
+    ensures frames { FramesKeep }
+{
+    nodes_are_operands();
+}
+
+/// The law of programs: where each function is replaced by an allocation of it, the program does the
+/// same, with as much fuel, and with no more work than the most words of each instruction that was
+/// handed in.
+pub fn regalloc_is_correct()
+    ensures { AllocationKeeps }
+{
+    allocations_keep();
+    allocations_grow_little();
+}

@@ -1,5 +1,0 @@
-use Rattle.tg_replaced.proofs.Kept.{replaced_keeps}
-use Rattle.tg_replaced.proofs.laws.replaced_functions_keep.Goals as goal
-
-pub returns : goal.returns
-returns c = replaced_keeps

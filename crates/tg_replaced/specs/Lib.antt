@@ -1,5 +1,0 @@
-pub mod Blocks
-pub mod Named
-pub mod Places
-pub mod Keeping
-pub mod Replaced

@@ -1,5 +1,0 @@
-use Rattle.tg_runtime_meaning.proofs.Running.{linked_are_served}
-use Rattle.tg_runtime_meaning.proofs.laws.linked_are_served.Goals as goal
-
-pub returns : goal.returns
-returns c = linked_are_served

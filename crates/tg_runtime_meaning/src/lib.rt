@@ -1,7 +1,0 @@
-//! The runtime does what the standard functions do: laws of its functions by the meaning of trees
-//! and the meaning of programs.
-#![tactic(auto)]
-
-mod laws;
-
-pub use laws::{linked_are_served, runtime_serves, trees_are_served};

@@ -1,8 +1,0 @@
-use Rattle.tg_shapes.proofs.Shaping as shaping
-use Rattle.tg_shapes.proofs.laws.bodies_are_closed.Goals as goal
-
-pub returns : goal.returns
-returns c = record {
-  text = shaping.bodies_are_closed;
-  checked = shaping.checked_bodies_are_closed c.checked_has_type.ensures;
-}

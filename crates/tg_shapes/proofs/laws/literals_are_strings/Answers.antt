@@ -1,5 +1,0 @@
-use Rattle.tg_shapes.proofs.Shaping as shaping
-use Rattle.tg_shapes.proofs.laws.literals_are_strings.Goals as goal
-
-pub returns : goal.returns
-returns c = record { strings = shaping.literals_are_strings; short = shaping.literals_are_short }

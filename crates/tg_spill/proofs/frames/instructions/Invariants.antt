@@ -1,6 +1,0 @@
-use Rattle.std.proofs.Common.{take, ◌≡◌}
-use Rattle.tg_spill.specs.InFrame.{code_in_frame}
-use Rattle.tg_spill.proofs.frames.instructions.Given as goal
-
-abbrev pub invariant-loop-one : goal.invariant-loop-one
-invariant-loop-one l = l.list.items ≡ code_in_frame l.base (take l.one-index l.code)

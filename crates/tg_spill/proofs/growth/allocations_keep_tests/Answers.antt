@@ -1,5 +1,0 @@
-use Rattle.tg_spill.proofs.TestsKept.{allocations_keep_tests}
-use Rattle.tg_spill.proofs.growth.allocations_keep_tests.Goals as goal
-
-pub returns : goal.returns
-returns c = allocations_keep_tests

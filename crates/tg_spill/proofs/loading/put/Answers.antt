@@ -1,5 +1,0 @@
-use Rattle.tg_spill.proofs.Naming.{no_move}
-use Rattle.tg_spill.proofs.loading.put.Goals as goal
-
-pub returns-in_default : goal.returns-in_default
-returns-in_default c = rw (no_move c.args.base c.args.one.now c.in_default.not-Move) c.put_through.ensures

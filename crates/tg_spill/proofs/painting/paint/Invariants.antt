@@ -1,6 +1,0 @@
-use Rattle.std.proofs.Common.{take, ◌≡◌}
-use Rattle.tg_spill.specs.Painting.{code_painted, colour_in}
-use Rattle.tg_spill.proofs.painting.paint.Given as goal
-
-abbrev pub invariant-loop-one : goal.invariant-loop-one
-invariant-loop-one l = l.list.items ≡ code_painted (colour_in l.colours) (take l.one-index l.code)

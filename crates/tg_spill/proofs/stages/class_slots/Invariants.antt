@@ -1,5 +1,0 @@
-use Rattle.tg_spill.proofs.Slots.{AreSlots}
-use Rattle.tg_spill.proofs.stages.class_slots.Given as goal
-
-abbrev pub invariant-loop-at : goal.invariant-loop-at
-invariant-loop-at l = AreSlots l.classes l.base l.nodes l.at l.table.items

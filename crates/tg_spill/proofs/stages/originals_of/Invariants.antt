@@ -1,6 +1,0 @@
-use Rattle.std.proofs.Common.{◌≡◌, take}
-use Rattle.std.specs.Prelude.{filter, nat_lt}
-use Rattle.tg_spill.proofs.stages.originals_of.Given as goal
-
-abbrev pub invariant-loop-node : goal.invariant-loop-node
-invariant-loop-node l = l.some.items ≡ filter (λ x. nat_lt x l.end) (take l.node-index l.nodes)

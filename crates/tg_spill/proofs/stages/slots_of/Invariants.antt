@@ -1,6 +1,0 @@
-use Rattle.std.proofs.Common.{◌≡◌, take, map}
-use Rattle.tg_spill.specs.Rewriting.{slot_by}
-use Rattle.tg_spill.proofs.stages.slots_of.Given as goal
-
-abbrev pub invariant-loop-class : goal.invariant-loop-class
-invariant-loop-class l = l.slots.items ≡ map (slot_by l.classes l.base) (take l.class-index l.aliases)

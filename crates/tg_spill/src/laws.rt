@@ -1,7 +1,0 @@
-ghost use Rattle.tg_spill.specs.InFrame.{StaysShort};
-
-/// The law that code in the frame is at most four instructions, and at most ten words of code, for
-/// each instruction.
-pub fn code_stays_short()
-    ensures { StaysShort }
-{}

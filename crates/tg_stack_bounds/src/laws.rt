@@ -1,0 +1,37 @@
+ghost use Rattle.tg_stack_bounds.specs.Weights.{
+  AcceptedTreesAreLight,
+  FramesAreLight,
+  ProgramFramesAreLight,
+};
+
+use tg_code_bounds::functions_are_short;
+use tg_flatten_proof::sizes_stay;
+use tg_munch::temporaries_are_few;
+use tg_regalloc::allocations_are_short;
+use tg_runtime::routines_are_closed;
+use tg_translate_laws::{bodies_are_closed, frames_are_small, temporaries_are_drawn};
+
+/// Law of the trees of an accepted program: each takes as much room and length as its nodes and the
+/// levels that it crosses pay for.
+pub fn trees_are_light()
+    ensures { AcceptedTreesAreLight }
+{
+    frames_are_small();
+}
+
+/// Laws of the frames of functions that are allocated, by any policy, where their trees are light,
+/// as those of an accepted program are: 256 bytes a node, 64 a level that is crossed, and 1,024;
+/// 4,096 for each of the runtime.
+pub fn frames_are_light()
+    ensures frames { FramesAreLight }
+    ensures programs { ProgramFramesAreLight }
+{
+    sizes_stay();
+    temporaries_are_few();
+    allocations_are_short();
+    functions_are_short();
+    bodies_are_closed();
+    temporaries_are_drawn();
+    routines_are_closed();
+    trees_are_light();
+}

@@ -1,5 +1,0 @@
-use Rattle.tg_texts.proofs.WordTrees.{trees_are_of_words}
-use Rattle.tg_texts.proofs.laws.trees_are_of_words.Goals as goal
-
-pub returns : goal.returns
-returns c = trees_are_of_words

@@ -1,0 +1,244 @@
+-- Lengths, rooms and depths of trees in which each choice counts as much more as it takes to return from its arms. So what gives
+-- a value back is no longer, and no deeper, than a return of it counts here.
+use Rattle.std.proofs.Common.{◌==◌, ◌≤◌, ◌+◌, ℕ, Bool, true, false, arith}
+use Rattle.std.specs.Prelude.{suc, max, if◌then◌else◌}
+use Rattle.tg_tree.specs.Tree.{Tx, Const, Address, Temp, FrameAddress, Binary, Load, LoadByte, Call, Service, After, Txs, no_txs, tx, Cond, Compare}
+use Rattle.tg_tree.specs.Tree.{Not, Both, Either, Ts, Move, Store, StoreByte, Do, If, Loop, Break, Fault, Seq, Return, Stms, no_stms, stm}
+use Rattle.tg_tree.specs.Units.{Trees, expression_units, argument_units, condition_units, statement_units}
+use Rattle.tg_tree.specs.Sizes.{expression_length, arguments_length, condition_length, statement_length, statements_length, in_trees, shift_room}
+use Rattle.tg_tree.specs.Sizes.{expression_room, arguments_room, condition_room, statement_room, statements_room}
+use Rattle.tg_translate.specs.Returning.{in_turn, returned, returned_behind, returned_from, returned_last, all_returned_from, value_has_loop, given_back}
+use Rattle.tg_translate_laws.specs.Depths as depths
+
+-- what a choice counts more
+abbrev pub arms_length : ℕ
+arms_length = 16
+
+abbrev mutual
+  pub tx_length : Tx → ℕ
+  tx_length (Binary op x y) = expression_units Trees (Binary op x y) + (tx_length x + tx_length y)
+  tx_length (Load x) = expression_units Trees (Load x) + tx_length x
+  tx_length (LoadByte x) = expression_units Trees (LoadByte x) + tx_length x
+  tx_length (Call label xs) = expression_units Trees (Call label xs) + txs_length xs
+  tx_length (Service n x) = expression_units Trees (Service n x) + tx_length x
+  tx_length (After s x) = expression_units Trees (After s x) + (ts_length s + tx_length x)
+  tx_length x = expression_units Trees x
+
+  pub txs_length : Txs → ℕ
+  txs_length no_txs = 0
+  txs_length (tx x xs) = argument_units Trees xs + (tx_length x + txs_length xs)
+
+  pub cond_length : Cond → ℕ
+  cond_length (Compare rel x y) = condition_units Trees (Compare rel x y) + (tx_length x + tx_length y)
+  cond_length (Not c) = condition_units Trees (Not c) + cond_length c
+  cond_length (Both c d) = condition_units Trees (Both c d) + (cond_length c + cond_length d)
+  cond_length (Either c d) = condition_units Trees (Either c d) + (cond_length c + cond_length d)
+
+  pub ts_length : Ts → ℕ
+  ts_length (Move i x) = statement_units Trees (Move i x) + tx_length x
+  ts_length (Store x y) = statement_units Trees (Store x y) + (tx_length x + tx_length y)
+  ts_length (StoreByte x y) = statement_units Trees (StoreByte x y) + (tx_length x + tx_length y)
+  ts_length (Do x) = statement_units Trees (Do x) + tx_length x
+  ts_length (If c s t) = statement_units Trees (If c s t) + arms_length + (cond_length c + (ts_length s + ts_length t))
+  ts_length (Loop s) = statement_units Trees (Loop s) + ts_length s
+  ts_length (Seq ss) = statement_units Trees (Seq ss) + stms_length ss
+  ts_length (Return x) = statement_units Trees (Return x) + tx_length x
+  ts_length s = statement_units Trees s
+
+  pub stms_length : Stms → ℕ
+  stms_length no_stms = 0
+  stms_length (stm s ss) = ts_length s + stms_length ss
+
+abbrev mutual
+  pub tx_room : Tx → ℕ
+  tx_room (Temp _) = 1
+  tx_room (Binary op x y) = 2 + shift_room in_trees op + (tx_room x + tx_room y)
+  tx_room (Load x) = 2 + tx_room x
+  tx_room (LoadByte x) = 2 + tx_room x
+  tx_room (Call _ xs) = 3 + txs_room xs
+  tx_room (Service _ x) = 3 + tx_room x
+  tx_room (After s x) = ts_room s + tx_room x
+  tx_room _ = 2
+
+  pub txs_room : Txs → ℕ
+  txs_room no_txs = 0
+  txs_room (tx x xs) = 2 + (tx_room x + txs_room xs)
+
+  pub cond_room : Cond → ℕ
+  cond_room (Compare _ x y) = 6 + (tx_room x + tx_room y)
+  cond_room (Not c) = 6 + cond_room c
+  cond_room (Both c d) = 6 + (cond_room c + cond_room d)
+  cond_room (Either c d) = 6 + (cond_room c + cond_room d)
+
+  pub ts_room : Ts → ℕ
+  ts_room (Move _ x) = tx_room x
+  ts_room (Store x y) = tx_room x + tx_room y
+  ts_room (StoreByte x y) = tx_room x + tx_room y
+  ts_room (Do x) = tx_room x
+  ts_room (If c s t) = 1 + (cond_room c + (ts_room s + ts_room t))
+  ts_room (Loop s) = ts_room s
+  ts_room (Seq ss) = stms_room ss
+  ts_room (Return x) = tx_room x
+  ts_room _ = 0
+
+  pub stms_room : Stms → ℕ
+  stms_room no_stms = 0
+  stms_room (stm s ss) = ts_room s + stms_room ss
+
+abbrev mutual
+  pub ts_depth : Ts → ℕ
+  ts_depth (Move _ x) = suc (tx_depth x)
+  ts_depth (Store x y) = suc (max (tx_depth x) (tx_depth y))
+  ts_depth (StoreByte x y) = suc (max (tx_depth x) (tx_depth y))
+  ts_depth (Do x) = suc (tx_depth x)
+  ts_depth (If c s t) = suc (suc (max (cond_depth c) (max (ts_depth s) (ts_depth t))))
+  ts_depth (Loop s) = suc (ts_depth s)
+  ts_depth (Break _) = 1
+  ts_depth (Fault _) = 1
+  ts_depth (Seq ss) = suc (stms_depth ss)
+  ts_depth (Return x) = suc (tx_depth x)
+
+  pub stms_depth : Stms → ℕ
+  stms_depth no_stms = 0
+  stms_depth (stm s ss) = max (ts_depth s) (stms_depth ss)
+
+  pub tx_depth : Tx → ℕ
+  tx_depth (Const _) = 1
+  tx_depth (Address _) = 1
+  tx_depth (Temp _) = 1
+  tx_depth FrameAddress = 1
+  tx_depth (Binary _ x y) = suc (max (tx_depth x) (tx_depth y))
+  tx_depth (Load x) = suc (tx_depth x)
+  tx_depth (LoadByte x) = suc (tx_depth x)
+  tx_depth (Call _ xs) = suc (txs_depth xs)
+  tx_depth (Service _ x) = suc (tx_depth x)
+  tx_depth (After s x) = suc (max (ts_depth s) (tx_depth x))
+
+  pub txs_depth : Txs → ℕ
+  txs_depth no_txs = 0
+  txs_depth (tx x xs) = max (tx_depth x) (txs_depth xs)
+
+  pub cond_depth : Cond → ℕ
+  cond_depth (Compare _ x y) = suc (max (tx_depth x) (tx_depth y))
+  cond_depth (Not c) = suc (cond_depth c)
+  cond_depth (Both c d) = suc (max (cond_depth c) (cond_depth d))
+  cond_depth (Either c d) = suc (max (cond_depth c) (cond_depth d))
+
+-- what a tree has, each is at most that
+abbrev pub LessTx : Tx → Type 0
+LessTx x = (expression_length Trees x ≤ tx_length x) × (expression_room in_trees x ≤ tx_room x) × (depths.tx_depth x ≤ tx_depth x)
+
+abbrev pub LessTxs : Txs → Type 0
+LessTxs xs = (arguments_length Trees xs ≤ txs_length xs) × (arguments_room in_trees xs ≤ txs_room xs) × (depths.txs_depth xs ≤ txs_depth xs)
+
+abbrev pub LessCond : Cond → Type 0
+LessCond c = (condition_length Trees c ≤ cond_length c) × (condition_room in_trees c ≤ cond_room c) × (depths.cond_depth c ≤ cond_depth c)
+
+abbrev pub LessTs : Ts → Type 0
+LessTs s = (statement_length Trees s ≤ ts_length s) × (statement_room in_trees s ≤ ts_room s) × (depths.ts_depth s ≤ ts_depth s)
+
+abbrev pub LessStms : Stms → Type 0
+LessStms ss = (statements_length Trees ss ≤ stms_length ss) × (statements_room in_trees ss ≤ stms_room ss) × (depths.stms_depth ss ≤ stms_depth ss)
+
+mutual
+  pub less_tx : (x : Tx) → LessTx x
+  less_tx (Const n) = (omega arith, omega arith, omega arith)
+  less_tx (Address label) = (omega arith, omega arith, omega arith)
+  less_tx (Temp i) = (omega arith, omega arith, omega arith)
+  less_tx FrameAddress = (omega arith, omega arith, omega arith)
+  less_tx (Binary op x y) =
+      let h = less_tx x in let k = less_tx y in (omega (arith, h.0, k.0), omega (arith, h.1, k.1), omega (arith, h.2, k.2))
+  less_tx (Load x) = let h = less_tx x in (omega (arith, h.0), omega (arith, h.1), omega (arith, h.2))
+  less_tx (LoadByte x) = let h = less_tx x in (omega (arith, h.0), omega (arith, h.1), omega (arith, h.2))
+  less_tx (Call label xs) = let h = less_txs xs in (omega (arith, h.0), omega (arith, h.1), omega (arith, h.2))
+  less_tx (Service n x) = let h = less_tx x in (omega (arith, h.0), omega (arith, h.1), omega (arith, h.2))
+  less_tx (After s x) = let h = less_ts s in let k = less_tx x in (omega (arith, h.0, k.0), omega (arith, h.1, k.1), omega (arith, h.2, k.2))
+
+  pub less_txs : (xs : Txs) → LessTxs xs
+  less_txs no_txs = (omega arith, omega arith, omega arith)
+  less_txs (tx x xs) = let h = less_tx x in let k = less_txs xs in (omega (arith, h.0, k.0), omega (arith, h.1, k.1), omega (arith, h.2, k.2))
+
+  pub less_cond : (c : Cond) → LessCond c
+  less_cond (Compare rel x y) =
+      let h = less_tx x in let k = less_tx y in (omega (arith, h.0, k.0), omega (arith, h.1, k.1), omega (arith, h.2, k.2))
+  less_cond (Not c) = let h = less_cond c in (omega (arith, h.0), omega (arith, h.1), omega (arith, h.2))
+  less_cond (Both c d) =
+      let h = less_cond c in let k = less_cond d in (omega (arith, h.0, k.0), omega (arith, h.1, k.1), omega (arith, h.2, k.2))
+  less_cond (Either c d) =
+      let h = less_cond c in let k = less_cond d in (omega (arith, h.0, k.0), omega (arith, h.1, k.1), omega (arith, h.2, k.2))
+
+  pub less_ts : (s : Ts) → LessTs s
+  less_ts (Move i x) = let h = less_tx x in (omega (arith, h.0), omega (arith, h.1), omega (arith, h.2))
+  less_ts (Store x y) =
+      let h = less_tx x in let k = less_tx y in (omega (arith, h.0, k.0), omega (arith, h.1, k.1), omega (arith, h.2, k.2))
+  less_ts (StoreByte x y) =
+      let h = less_tx x in let k = less_tx y in (omega (arith, h.0, k.0), omega (arith, h.1, k.1), omega (arith, h.2, k.2))
+  less_ts (Do x) = let h = less_tx x in (omega (arith, h.0), omega (arith, h.1), omega (arith, h.2))
+  less_ts (If c s t) =
+      let h = less_cond c in
+      let k = less_ts s in
+      let l = less_ts t in
+      (omega (arith, h.0, k.0, l.0), omega (arith, h.1, k.1, l.1), omega (arith, h.2, k.2, l.2))
+  less_ts (Loop s) = let h = less_ts s in (omega (arith, h.0), omega (arith, h.1), omega (arith, h.2))
+  less_ts (Break k) = (omega arith, omega arith, omega arith)
+  less_ts (Fault k) = (omega arith, omega arith, omega arith)
+  less_ts (Seq ss) = let h = less_stms ss in (omega (arith, h.0), omega (arith, h.1), omega (arith, h.2))
+  less_ts (Return x) = let h = less_tx x in (omega (arith, h.0), omega (arith, h.1), omega (arith, h.2))
+
+  pub less_stms : (ss : Stms) → LessStms ss
+  less_stms no_stms = (omega arith, omega arith, omega arith)
+  less_stms (stm s ss) = let h = less_ts s in let k = less_stms ss in (omega (arith, h.0, k.0), omega (arith, h.1, k.1), omega (arith, h.2, k.2))
+
+-- What gives back: a return counts 16, and one of a temporary a word of room.
+
+abbrev AtMost : (length room depth : ℕ) → Ts → Type 0
+AtMost l r d s = (statement_length Trees s ≤ 16 + l) × (statement_room in_trees s ≤ r) × (depths.ts_depth s ≤ d)
+
+abbrev AllAtMost : (length room depth : ℕ) → Stms → Type 0
+AllAtMost l r d ss = (statements_length Trees ss ≤ 16 + l) × (statements_room in_trees ss ≤ r) × (depths.stms_depth ss ≤ d)
+
+by_test : (b : Bool) (l r d : ℕ) (s t : Ts) → AtMost l r d s → AtMost l r d t → AtMost l r d (if b then s else t)
+by_test true l r d s t h k = h
+by_test false l r d s t h k = k
+
+-- one statement, and then a return of a temporary
+then_back : (s : Ts) (i : ℕ) → 1 ≤ ts_depth s → AtMost (ts_length s) (ts_room s + 1) (ts_depth s + 2) (in_turn s (Return (Temp i)))
+then_back s i l = let h = less_ts s in (omega (arith, h.0), omega (arith, h.1), omega (arith, h.2, l))
+
+behind_most : (s : Ts) (x : Tx) (from : ℕ → Ts) (last : Ts) → ((i : ℕ) → AtMost (ts_length s) (ts_room s + 1) (ts_depth s + 2) (from i)) →
+    AtMost (tx_length x) (tx_room x) (tx_depth x + 1) last →
+    AtMost (tx_length (After s x)) (tx_room (After s x)) (tx_depth (After s x) + 1) (returned_behind s x from last)
+behind_most s (Temp i) from last h k = let g = h i in (omega (arith, g.0), omega (arith, g.1), omega (arith, g.2))
+behind_most s x from last h k = let g = less_ts s in (omega (arith, g.0, k.0), omega (arith, g.1, k.1), omega (arith, g.2, k.2))
+
+lasts_most : (s : Ts) (ss : Stms) (last : Ts) (rest : Stms) → AtMost (ts_length s) (ts_room s + 1) (ts_depth s + 2) last →
+    AllAtMost (stms_length ss) (stms_room ss + 1) (stms_depth ss + 2) rest →
+    AllAtMost (stms_length (stm s ss)) (stms_room (stm s ss) + 1) (stms_depth (stm s ss) + 2) (returned_last s ss last rest)
+lasts_most s no_stms last rest h k = (omega (arith, h.0), omega (arith, h.1), omega (arith, h.2))
+lasts_most s (stm t ss) last rest h k = let g = less_ts s in (omega (arith, g.0, k.0), omega (arith, g.1, k.1), omega (arith, g.2, k.2))
+
+mutual
+  returned_most : (x : Tx) → AtMost (tx_length x) (tx_room x) (tx_depth x + 1) (returned x)
+  returned_most (After s x) = behind_most s x (λ i. returned_from i s) (returned x) (λ i. from_most i s) (returned_most x)
+  returned_most x = let h = less_tx x in (omega (arith, h.0), omega (arith, h.1), omega (arith, h.2))
+
+  from_most : (i : ℕ) (s : Ts) → AtMost (ts_length s) (ts_room s + 1) (ts_depth s + 2) (returned_from i s)
+  from_most i (Move j x) =
+      let h = returned_most x in
+      by_test (i == j) _ _ _ (returned x) _ (omega (arith, h.0), omega (arith, h.1), omega (arith, h.2)) (then_back (Move j x) i (omega arith))
+  from_most i (If c s t) =
+      let g = less_cond c in
+      let h = from_most i s in
+      let k = from_most i t in
+      (omega (arith, g.0, h.0, k.0), omega (arith, g.1, h.1, k.1), omega (arith, g.2, h.2, k.2))
+  from_most i (Seq ss) = let h = all_most i ss in (omega (arith, h.0), omega (arith, h.1), omega (arith, h.2))
+  from_most i s = then_back s i (omega arith)
+
+  all_most : (i : ℕ) (ss : Stms) → AllAtMost (stms_length ss) (stms_room ss + 1) (stms_depth ss + 2) (all_returned_from i ss)
+  all_most i no_stms = (omega arith, omega arith, omega arith)
+  all_most i (stm s ss) = lasts_most s ss (returned_from i s) (all_returned_from i ss) (from_most i s) (all_most i ss)
+
+pub given_back_most : (x : Tx) → AtMost (tx_length x) (tx_room x) (tx_depth x + 1) (given_back x)
+given_back_most x =
+    let h = less_tx x in
+    by_test (value_has_loop x) _ _ _ (Return x) (returned x) (omega (arith, h.0), omega (arith, h.1), omega (arith, h.2)) (returned_most x)

@@ -1,8 +1,0 @@
-use Rattle.tg_translate_meaning.proofs.Activations as activations
-use Rattle.tg_translate_meaning.proofs.laws.assignments_find_their_activation.Goals as goal
-
-pub returns : goal.returns
-returns c = record {
-  frames = activations.assignments_find_their_activation;
-  temporaries = activations.temporaries_are_own;
-}

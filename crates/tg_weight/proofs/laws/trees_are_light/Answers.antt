@@ -1,9 +1,0 @@
-use Rattle.tg_shapes.specs.Laws.{findings_in}
-use Rattle.tg_weight.proofs.Light.{functions_are_light}
-use Rattle.tg_weight.proofs.Tabled.{levels, accepted_leads}
-use Rattle.tg_weight.proofs.laws.trees_are_light.Goals as goal
-
-pub returns : goal.returns
-returns c =
-    λ p links a.
-    functions_are_light c.frames_are_small.ensures.within (levels p a) (findings_in p links) p.body (accepted_leads p a links)

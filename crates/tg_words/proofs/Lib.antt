@@ -1,5 +1,0 @@
-mod Functions
-mod Lines
-mod Allocating
-mod Programs
-mod Examples

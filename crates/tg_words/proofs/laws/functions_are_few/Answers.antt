@@ -1,5 +1,0 @@
-use Rattle.tg_words.proofs.Functions as functions
-use Rattle.tg_words.proofs.laws.functions_are_few.Goals as goal
-
-pub returns : goal.returns
-returns c = functions.functions_are_few

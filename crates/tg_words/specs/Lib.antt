@@ -1,2 +1,0 @@
-pub mod Allocating
-pub mod Laws
