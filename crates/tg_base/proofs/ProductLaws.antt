@@ -95,11 +95,11 @@ by_sign (negsuc n) h =
       inexact = λ e. out_below n (negsuc_inexact n small e);
     }
 
-abs_signed : (a : ℕ) → a < 2 ^ 32 → unsigned_abs (signed a) ≤ 2 ^ 31
+pub abs_signed : (a : ℕ) → a < 2 ^ 32 → unsigned_abs (signed a) ≤ 2 ^ 31
 abs_signed a h = grind (arith, common_steps, ints)
 
 -- a product of two words has 64 bits
-abs_product : (a b : ℕ) → a < 2 ^ 32 → b < 2 ^ 32 → unsigned_abs (signed a *ℤ signed b) < 2 ^ 63
+pub abs_product : (a b : ℕ) → a < 2 ^ 32 → b < 2 ^ 32 → unsigned_abs (signed a *ℤ signed b) < 2 ^ 63
 abs_product a b p q =
     let m : unsigned_abs (signed a) * unsigned_abs (signed b) ≤ 2 ^ 31 * 2 ^ 31 = mul-le-mul (abs_signed a p) (abs_signed b q) in
     rw (unsigned_abs-mul (signed a) (signed b)) (omega (arith, m))

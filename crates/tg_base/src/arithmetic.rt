@@ -25,6 +25,37 @@ pub fn mul(a: u32, b: u32) -> u32
     a.wrapping_mul(b)
 }
 
+/// The exact sum of two words, where it has a word.
+#[inline(always)]
+pub fn exact_sum(a: u32, b: u32) -> Option<u32>
+    ensures { result ≡ words.exact_sum a b }
+{
+    match a.cast_signed().checked_add(b.cast_signed()) {
+        Some(sum) => Some(sum.cast_unsigned()),
+        None => None,
+    }
+}
+
+/// The exact difference of two words, where it has a word.
+#[inline(always)]
+pub fn exact_difference(a: u32, b: u32) -> Option<u32>
+    ensures { result ≡ words.exact_difference a b }
+{
+    match a.cast_signed().checked_sub(b.cast_signed()) {
+        Some(rest) => Some(rest.cast_unsigned()),
+        None => None,
+    }
+}
+
+/// The signed product of two words, in 64 bits.
+#[inline(always)]
+pub fn product(a: u32, b: u32) -> u64
+    ensures { result ≡ words.product a b }
+{
+    let value = i64::from(a.cast_signed()) * i64::from(b.cast_signed());
+    value.cast_unsigned()
+}
+
 /// The quotient toward zero of the ints that two words stand for; 80000000 by -1 gives 80000000.
 #[inline(always)]
 pub fn quot(a: u32, b: u32) -> u32

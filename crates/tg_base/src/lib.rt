@@ -19,7 +19,9 @@ mod sinks;
 mod sources;
 mod tallies;
 
-pub use arithmetic::{add, less_signed, less_unsigned, mul, quot, sub};
+pub use arithmetic::{
+    add, exact_difference, exact_sum, less_signed, less_unsigned, mul, product, quot, sub,
+};
 pub use decimals::decimal;
 pub use faults::{Failed, Memory};
 pub use holding::keep_with;

@@ -1,5 +1,4 @@
 mod Examples
-pub mod Product
 pub mod Walks
 pub mod Handing
 pub mod Words

@@ -6,34 +6,10 @@ ghost use Rattle.tg_fold.specs.Sides as sides;
 ghost use Rattle.tg_fold.specs.Folding as folding;
 
 use std::alloc::Global;
-use tg_base::{Memory, add, less_signed, less_unsigned, mul, quot, sub};
+use tg_base::{
+    Memory, add, exact_difference, exact_sum, less_signed, less_unsigned, mul, product, quot, sub,
+};
 use tg_tree::{Bin, Rel, Tx, binary};
-
-fn exact_sum(left: u32, right: u32) -> Option<u32>
-    ensures { result ≡ words.exact_sum left right }
-{
-    match left.cast_signed().checked_add(right.cast_signed()) {
-        Some(sum) => Some(sum.cast_unsigned()),
-        None => None,
-    }
-}
-
-fn exact_difference(left: u32, right: u32) -> Option<u32>
-    ensures { result ≡ words.exact_difference left right }
-{
-    match left.cast_signed().checked_sub(right.cast_signed()) {
-        Some(rest) => Some(rest.cast_unsigned()),
-        None => None,
-    }
-}
-
-// The signed product, in 64 bits.
-fn product(left: u32, right: u32) -> u64
-    ensures { result ≡ words.product left right }
-{
-    let value = i64::from(left.cast_signed()) * i64::from(right.cast_signed());
-    value.cast_unsigned()
-}
 
 fn product_high(left: u32, right: u32) -> u32
     ensures { result ≡ words.product_high left right }

@@ -1,4 +1,3 @@
-pub mod Product
 mod WrittenWords
 pub mod RowEffects
 pub mod Texts

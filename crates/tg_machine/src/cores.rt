@@ -8,9 +8,9 @@ ghost use Rattle.tg_state.specs.State as state;
 
 use crate::rows::Row;
 use crate::stacks::Stack;
-use crate::words::{offset, product, remainder, set_word, word_at};
+use crate::words::{offset, remainder, set_word, word_at};
 use std::marker::Model;
-use tg_base::quot;
+use tg_base::{product, quot};
 use tg_isa::Reg;
 use tg_state::{CODE_BASE, HEAP_BASE, RunEnd, STACK_REACH, STACK_TOP, STATICS_BASE};
 

@@ -9,8 +9,8 @@ ghost use Rattle.tg_state.specs.State as state;
 
 use crate::cores::Core;
 use crate::rows::Row;
-use crate::words::{difference_of, extend_byte, sum_of};
-use tg_base::{add, less_signed, less_unsigned, sub};
+use crate::words::extend_byte;
+use tg_base::{add, exact_difference, exact_sum, less_signed, less_unsigned, sub};
 use tg_isa::{Bits, Reg};
 use tg_state::RunEnd;
 
@@ -173,12 +173,12 @@ impl Core {
             Row::Div(rs, rt) => self.divide_to(rs, rt, next),
             Row::Add(rd, rs, rt) => self.put_exact(
                 rd,
-                sum_of(self.register(rs), self.register(rt)),
+                exact_sum(self.register(rs), self.register(rt)),
                 next,
             ),
             Row::Sub(rd, rs, rt) => self.put_exact(
                 rd,
-                difference_of(self.register(rs), self.register(rt)),
+                exact_difference(self.register(rs), self.register(rt)),
                 next,
             ),
             Row::Addu(rd, rs, rt) => self.put(rd, add(self.register(rs), self.register(rt)), next),
@@ -213,7 +213,7 @@ impl Core {
             Row::Bgtz(rs, bytes) => self.go_if(less_signed(0, self.register(rs)), next, bytes),
             Row::Bltz(rs, bytes) => self.go_if(less_signed(self.register(rs), 0), next, bytes),
             Row::Bgez(rs, bytes) => self.go_if(!less_signed(self.register(rs), 0), next, bytes),
-            Row::Addi(rt, rs, word) => self.put_exact(rt, sum_of(self.register(rs), word), next),
+            Row::Addi(rt, rs, word) => self.put_exact(rt, exact_sum(self.register(rs), word), next),
             Row::Addiu(rt, rs, word) => self.put(rt, add(self.register(rs), word), next),
             Row::Slti(rt, rs, word) => self.put(
                 rt,

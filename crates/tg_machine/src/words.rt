@@ -1,13 +1,6 @@
 ghost use Rattle.std.specs.Prelude.{◌≡◌, ◌≢◌, ◌+◌, ◌≤◌, ◌/◌, ◌%◌, [], ◌∷◌, length, vec_capacity};
 ghost use Rattle.std.specs.Prelude.{◌<◌, ◌^◌, IfSome, slice_range};
-ghost use Rattle.tg_base.specs.Words.{
-  exact_difference,
-  exact_sum,
-  extended,
-  extended_byte,
-  product,
-  rem,
-};
+ghost use Rattle.tg_base.specs.Words.{extended, extended_byte, rem};
 ghost use Rattle.tg_state.specs.State as state;
 
 use byteorder::{ByteOrder, LittleEndian};
@@ -89,35 +82,4 @@ pub(crate) fn set_word(bytes: &mut Vec<u8>, at: usize, value: u32)
     ensures capacity { vec_capacity bytes.new ≡ vec_capacity bytes.old }
 {
     put_word(bytes, at, value);
-}
-
-/// The signed sum, where it is in range.
-#[inline(always)]
-pub(crate) fn sum_of(left: u32, right: u32) -> Option<u32>
-    ensures { result ≡ exact_sum left right }
-{
-    match left.cast_signed().checked_add(right.cast_signed()) {
-        Some(sum) => Some(sum.cast_unsigned()),
-        None => None,
-    }
-}
-
-/// The signed difference, where it is in range.
-#[inline(always)]
-pub(crate) fn difference_of(left: u32, right: u32) -> Option<u32>
-    ensures { result ≡ exact_difference left right }
-{
-    match left.cast_signed().checked_sub(right.cast_signed()) {
-        Some(rest) => Some(rest.cast_unsigned()),
-        None => None,
-    }
-}
-
-/// The signed product, in 64 bits.
-#[inline(always)]
-pub(crate) fn product(left: u32, right: u32) -> u64
-    ensures { result ≡ product left right }
-{
-    let value = i64::from(left.cast_signed()) * i64::from(right.cast_signed());
-    value.cast_unsigned()
 }
