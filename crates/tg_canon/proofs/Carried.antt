@@ -12,12 +12,12 @@ use Rattle.tg_tree.specs.Sizes.{expression_length, arguments_length, statement_l
 use Rattle.tg_tree.specs.Sizes.{statement_room, statements_room, in_trees, in_canonical}
 use Rattle.tg_tree.specs.Shapes.{IsFlat, AreFlat, is_flat, are_flat, is_flat_condition}
 use Rattle.tg_tree.specs.Actions.{World, Temps, Around, Acts, Go, charged, with_word, with_given, read_memory, ask, give as acts_give}
+use Rattle.tg_tree.proofs.NamesPassing.{TxPasses, TxsPass, CondPasses, TsPasses, StmsPass}
 use Rattle.tg_canon.specs.Drawing.{Draws, Drawn, give, ◌>>=◌}
 use Rattle.tg_canon.specs.Canon.{Part, still, nothing, is_nothing, first_then, ◌before◌, Parts, in_front, Lifted, Arguments, no_arguments, whole}
 use Rattle.tg_canon.specs.Canon.{is_side, word, in_front_of, acts, dropped, is_whole, choice, wide_choice, deeper, inside, choose, lift, lift_all}
 use Rattle.tg_canon.specs.Canon.{condition, leave, linear, linear_all}
-use Rattle.tg_canon.proofs.Passing.{TxPasses, TxsPass, CondPasses, TsPasses, StmsPass}
-use Rattle.tg_canon.proofs.Naming.{below}
+use Rattle.tg_canon.proofs.Naming.{IsBelow}
 use Rattle.tg_canon.proofs.Growing.{in_front_grows}
 use Rattle.tg_canon.proofs.Sizing.{size, takes, in_turn_counts}
 use Rattle.tg_canon.proofs.Paying.{pays, unpaid, credit, along}
@@ -278,7 +278,7 @@ module _ (z : Scene) (out : ℕ → ℕ) where
     grows = pairs.grows;
   }
 
-module _ (z : Scene) (pay : JoinsPay) (again : (out : ℕ → ℕ) (s : Ts) (k : ℕ) → TsPasses (below z.own) s → z.own ≤ k →
+module _ (z : Scene) (pay : JoinsPay) (again : (out : ℕ → ℕ) (s : Ts) (k : ℕ) → TsPasses (IsBelow z.own) s → z.own ≤ k →
     GoesOn z out s (linear (inside out) s k).it k (linear (inside out) s k).next) where
   abbrev LiftedAt : (out : ℕ → ℕ) → Tx → ℕ → Type 1
   LiftedAt out x k = LiftIs z out x k (lift out x k).it (lift out x k).next
@@ -500,7 +500,7 @@ module _ (z : Scene) (pay : JoinsPay) (again : (out : ℕ → ℕ) (s : Ts) (k :
   if_by out c s t k true f g = f refl
   if_by out c s t k false f g = g refl
 
-  loop_at : (out : ℕ → ℕ) (s : Ts) (k : ℕ) → z.own ≤ k → TsPasses (below z.own) s → PartAt (inside out) s k → PartAt out (Loop s) k
+  loop_at : (out : ℕ → ℕ) (s : Ts) (k : ℕ) → z.own ≤ k → TsPasses (IsBelow z.own) s → PartAt (inside out) s k → PartAt out (Loop s) k
   loop_at out s k le passes h =
       let p = linear (inside out) s k in
       record {
@@ -585,7 +585,7 @@ module _ (z : Scene) (pay : JoinsPay) (again : (out : ℕ → ℕ) (s : Ts) (k :
       exit_left z out (Compare rel x y) k t.it t.next refl h when n
 
   mutual
-    lift_at : (x : Tx) (out : ℕ → ℕ) (k : ℕ) → TxPasses (below z.own) x → z.own ≤ k → LiftedAt out x k
+    lift_at : (x : Tx) (out : ℕ → ℕ) (k : ℕ) → TxPasses (IsBelow z.own) x → z.own ≤ k → LiftedAt out x k
     lift_at (Const n) out k h le = leaf z out (Const n) k tt refl refl (λ i o. absurd o) (λ e go w t t' a. refl) (omega arith) (omega arith)
     lift_at (Address n) out k h le = leaf z out (Address n) k tt refl refl (λ i o. absurd o) (λ e go w t t' a. refl) (omega arith) (omega arith)
     lift_at (Temp j) out k h le =
@@ -600,11 +600,11 @@ module _ (z : Scene) (pay : JoinsPay) (again : (out : ℕ → ℕ) (s : Ts) (k :
     lift_at (Service n x) out k h le = service_lift z out n x k (word (lift out x) k).it (word (lift out x) k).next (word_at out x k le (lift_at x out k h.1 le))
     lift_at (After s x) out k h le = after_at out s x k le (lift_at x out k h.1 le) (λ j lj. linear_at s out j h.0 lj)
 
-    lift_all_at : (xs : Txs) (out : ℕ → ℕ) (k : ℕ) → TxsPass (below z.own) xs → z.own ≤ k → ArgumentsAt out xs k
+    lift_all_at : (xs : Txs) (out : ℕ → ℕ) (k : ℕ) → TxsPass (IsBelow z.own) xs → z.own ≤ k → ArgumentsAt out xs k
     lift_all_at no_txs out k h le = no_arguments_are z out k
     lift_all_at (tx x xs) out k h le = arguments_at out x xs k le (lift_all_at xs out k h.1 le) (λ j lj. lift_at x out j h.0 lj)
 
-    condition_at : (c : Cond) (out : ℕ → ℕ) (k : ℕ) → CondPasses (below z.own) c → is_whole c ≡ true → z.own ≤ k → TestAt out c k
+    condition_at : (c : Cond) (out : ℕ → ℕ) (k : ℕ) → CondPasses (IsBelow z.own) c → is_whole c ≡ true → z.own ≤ k → TestAt out c k
     condition_at (Compare rel x y) out k h e le = compare_at out x y k le (lift_at y out k h.1 le) (λ j lj. lift_at x out j h.0 lj) rel
     condition_at (Not c) out k h e le = not_is z out c k (condition out c k).it (condition out c k).next (condition_at c out k h e le)
     condition_at (Both c d) out k h e le =
@@ -614,7 +614,7 @@ module _ (z : Scene) (pay : JoinsPay) (again : (out : ℕ → ℕ) (s : Ts) (k :
         let f = both_true (is_whole c) (is_flat_condition d) e in
         or_at out c d k le f.1 (condition_at d out k h.1 (flat_whole d f.1) le) (λ j lj. condition_at c out j h.0 f.0 lj)
 
-    leave_at : (c : Cond) (when : Bool) (out : ℕ → ℕ) (n k : ℕ) → CondPasses (below z.own) c → z.own ≤ k → LeftAt out when n c k
+    leave_at : (c : Cond) (when : Bool) (out : ℕ → ℕ) (n k : ℕ) → CondPasses (IsBelow z.own) c → z.own ≤ k → LeftAt out when n c k
     leave_at (Compare rel x y) when out n k h le = exit_at out when n rel x y k
         (compare_at out x y k le (lift_at y out k h.1 le) (λ j lj. lift_at x out j h.0 lj) rel)
     leave_at (Not c) when out n k h le = left_opposite z out when n c k (leave out (not when) n c k).it (leave out (not when) n c k).next
@@ -626,7 +626,7 @@ module _ (z : Scene) (pay : JoinsPay) (again : (out : ℕ → ℕ) (s : Ts) (k :
     leave_at (Either c d) false out n k h le = or_block out c d n k le (leave_at d false (deeper 1 out) (n + 1) k h.1 le)
         (λ j lj. leave_at c true (deeper 1 out) 0 j h.0 lj)
 
-    pub linear_at : (s : Ts) (out : ℕ → ℕ) (k : ℕ) → TsPasses (below z.own) s → z.own ≤ k → PartAt out s k
+    pub linear_at : (s : Ts) (out : ℕ → ℕ) (k : ℕ) → TsPasses (IsBelow z.own) s → z.own ≤ k → PartAt out s k
     linear_at (Move i x) out k h le = move_at out i x k (ltb-true i z.own h.0) (lift_at x out k h.1 le)
     linear_at (Store x y) out k h le = store_at out x y k le (lift_at y out k h.1 le) (λ j lj. lift_at x out j h.0 lj)
     linear_at (StoreByte x y) out k h le = store_byte_at out x y k le (lift_at y out k h.1 le) (λ j lj. lift_at x out j h.0 lj)
@@ -654,7 +654,7 @@ module _ (z : Scene) (pay : JoinsPay) (again : (out : ℕ → ℕ) (s : Ts) (k :
     linear_at (Seq ss) out k h le = sequence_at out ss k (linear_all_at ss out k h le)
     linear_at (Return x) out k h le = return_at out x k (word_at out x k le (lift_at x out k h le))
 
-    linear_all_at : (ss : Stms) (out : ℕ → ℕ) (k : ℕ) → StmsPass (below z.own) ss → z.own ≤ k → PartsAt out ss k
+    linear_all_at : (ss : Stms) (out : ℕ → ℕ) (k : ℕ) → StmsPass (IsBelow z.own) ss → z.own ≤ k → PartsAt out ss k
     linear_all_at no_stms out k h le = record {
       done = none_done z out k;
       owned = owned_none z.own;

@@ -23,5 +23,4 @@ pub mod Arms
 pub mod Walks
 pub mod Growing
 pub mod Cases
-pub mod Passing
 pub mod Naming

@@ -1,10 +1,12 @@
 -- What the pass gives names nothing that the body doesn't name, but for the temporaries that it draws.
 use Rattle.std.proofs.Common.{ℕ, ◌+◌, ◌<◌, ◌≤◌, Bool, true, false, List, [], refl, ltb, arith}
 use Rattle.std.proofs.lemmas.Bool.{ltb-true, lt-ltb}
+use Rattle.std.specs.Prelude.{IsTrue}
 use Rattle.tg_tree.specs.declared.operators.Bin.{Bin}
 use Rattle.tg_tree.specs.Tree.{Tx, Const, Address, Temp, FrameAddress, Binary, Load, LoadByte, Call, Service, After, Txs, no_txs, tx, Cond, Compare}
 use Rattle.tg_tree.specs.Tree.{Not, Both, Either, Ts, Move, Store, StoreByte, Do, If, Loop, Break, Fault, Seq, Return, Stms, no_stms, stm}
 use Rattle.tg_tree.specs.Named.{NamesAreAllowed, Named, function, literal, fault, temporary, constant, named_ts, named_stms}
+use Rattle.tg_tree.proofs.NamesPassing.{TxPasses, TxsPass, CondPasses, TsPasses, StmsPass, body_passes, statements_names}
 use Rattle.tg_canon.specs.Drawing.{Draws, give, ◌>>=◌}
 use Rattle.tg_canon.specs.Canon.{Part, still, nothing, is_nothing, first_then, ◌before◌, loop_of, block, Parts, in_front, in_turn, Lifted, Two}
 use Rattle.tg_canon.specs.Canon.{Arguments, behind, hold, is_side, hold_side, word, stays, hold_unless, hold_but_offset, hold_for, hold_before}
@@ -16,10 +18,12 @@ use Rattle.tg_canon.proofs.Always.{one_of_two}
 use Rattle.tg_canon.proofs.Growing as growing
 use Rattle.tg_canon.proofs.Growing.{Grows, two, hold_side_grows, word_grows, side_by_side_grows, argument_grows, lift_grows, condition_grows}
 use Rattle.tg_canon.proofs.Growing.{leave_grows, linear_grows, linearized_grows}
-use Rattle.tg_canon.proofs.Passing.{Passes, TxPasses, TxsPass, CondPasses, TsPasses, StmsPass, body_passes, statements_allowed}
 
 -- The test passes the temporaries from one number up to another.
 module _ (allowed : Named → Bool) (from top : ℕ) (drawn : AllowsDrawn allowed from top) where
+  abbrev Passes : Named → Type 0
+  Passes x = IsTrue (allowed x)
+
   -- what holds of what is drawn there
   record Keeps {A : Type 0} (P : A → Type 0) (m : Draws A) : Type 0 where
     at : (k : ℕ) → from ≤ k → (m k).next ≤ top → P (m k).it
@@ -41,39 +45,39 @@ module _ (allowed : Named → Bool) (from top : ℕ) (drawn : AllowsDrawn allowe
   made m f h g = record { at = λ k low high. g (m k).it (h.at k low high) }
 
   record PartPasses (p : Part) : Type 0 where
-    part : TsPasses allowed p.statement
+    part : TsPasses Passes p.statement
 
   record LiftedPasses (a : Lifted) : Type 0 where
-    front : TsPasses allowed a.front.statement
-    rest : TxPasses allowed a.rest
+    front : TsPasses Passes a.front.statement
+    rest : TxPasses Passes a.rest
 
   record TwoPass (a : Two) : Type 0 where
-    front : TsPasses allowed a.front.statement
-    left : TxPasses allowed a.left
-    right : TxPasses allowed a.right
+    front : TsPasses Passes a.front.statement
+    left : TxPasses Passes a.left
+    right : TxPasses Passes a.right
 
   record ArgumentsPass (a : Arguments) : Type 0 where
-    front : TsPasses allowed a.front.statement
-    rest : TxsPass allowed a.rest
+    front : TsPasses Passes a.front.statement
+    rest : TxsPass Passes a.rest
 
   record PartsPass (p : Parts) : Type 0 where
-    list : StmsPass allowed p.list
+    list : StmsPass Passes p.list
 
   record TestedPasses (t : Tested) : Type 0 where
-    front : TsPasses allowed t.front.statement
-    condition : CondPasses allowed t.condition
+    front : TsPasses Passes t.front.statement
+    condition : CondPasses Passes t.condition
 
-  first_then_passes : (s t : Ts) → TsPasses allowed s → TsPasses allowed t → TsPasses allowed (first_then s t)
+  first_then_passes : (s t : Ts) → TsPasses Passes s → TsPasses Passes t → TsPasses Passes (first_then s t)
   first_then_passes s t p q =
-      one_of_two (TsPasses allowed) (is_nothing s) q (one_of_two (TsPasses allowed) (is_nothing t) p (p, (q, tt)))
+      one_of_two (TsPasses Passes) (is_nothing s) q (one_of_two (TsPasses Passes) (is_nothing t) p (p, (q, tt)))
 
-  hold_passes : (x : Tx) → TxPasses allowed x → Keeps LiftedPasses (hold x)
+  hold_passes : (x : Tx) → TxPasses Passes x → Keeps LiftedPasses (hold x)
   hold_passes x h = record {
-    at = λ k low high. let up : k + 1 ≤ top = high in let it : Passes allowed (temporary k) = drawn k low (omega arith) in
+    at = λ k low high. let up : k + 1 ≤ top = high in let it : Passes (temporary k) = drawn k low (omega arith) in
         record { front = (it, h); rest = it };
   }
 
-  behind_passes : (p : Part) (a : Lifted) → TsPasses allowed p.statement → LiftedPasses a → LiftedPasses (behind p a)
+  behind_passes : (p : Part) (a : Lifted) → TsPasses Passes p.statement → LiftedPasses a → LiftedPasses (behind p a)
   behind_passes p a h w = record { front = first_then_passes p.statement a.front.statement h w.front; rest = w.rest }
 
   hold_side_passes : (b : Bool) (a : Lifted) → LiftedPasses a → Keeps LiftedPasses (hold_side b a)
@@ -83,18 +87,18 @@ module _ (allowed : Named → Bool) (from top : ℕ) (drawn : AllowsDrawn allowe
   word_passes : (m : Draws Lifted) → Grows m → Keeps LiftedPasses m → Keeps LiftedPasses (word m)
   word_passes m g h = next m (λ a. hold_side (is_side a.rest) a) g (λ a. hold_side_grows (is_side a.rest) a) h (λ a w. hold_side_passes (is_side a.rest) a w)
 
-  hold_unless_passes : (b : Bool) (x : Tx) → TxPasses allowed x → Keeps LiftedPasses (hold_unless b x)
+  hold_unless_passes : (b : Bool) (x : Tx) → TxPasses Passes x → Keeps LiftedPasses (hold_unless b x)
   hold_unless_passes true x h = given (record { front = tt; rest = h })
   hold_unless_passes false x h = hold_passes x h
 
-  hold_but_offset_passes : (b : Bool) (p : Part) (op : Bin) (x y : Tx) → TxPasses allowed x → TxPasses allowed y →
+  hold_but_offset_passes : (b : Bool) (p : Part) (op : Bin) (x y : Tx) → TxPasses Passes x → TxPasses Passes y →
       Keeps LiftedPasses (hold_but_offset b p op x y)
   hold_but_offset_passes true p op x y hx hy =
       made (hold_unless (stays p x) x) (λ a. record { front = a.front; rest = Binary op a.rest y })
       (hold_unless_passes (stays p x) x hx) (λ a w. record { front = w.front; rest = (w.rest, hy) })
   hold_but_offset_passes false p op x y hx hy = hold_passes (Binary op x y) (hx, hy)
 
-  hold_for_passes : (p : Part) (x : Tx) → TxPasses allowed x → Keeps LiftedPasses (hold_for p x)
+  hold_for_passes : (p : Part) (x : Tx) → TxPasses Passes x → Keeps LiftedPasses (hold_for p x)
   hold_for_passes p (Binary op x y) h = hold_but_offset_passes _ p op x y h.0 h.1
   hold_for_passes p (Const i) h = hold_unless_passes (stays p (Const i)) (Const i) h
   hold_for_passes p (Address i) h = hold_unless_passes (stays p (Address i)) (Address i) h
@@ -145,7 +149,7 @@ module _ (allowed : Named → Bool) (from top : ℕ) (drawn : AllowsDrawn allowe
   in_turn_pass m l f gm gl hm hl g = next m (λ a. l >>= (λ b. give (f a b))) gm (λ a. growing.made l (f a) gl) hm (λ a w. made l (f a) hl (λ b v. g a b w v))
 
   in_front_passes : (p : Part) (all : Parts) → PartPasses p → PartsPass all → PartsPass (in_front p all)
-  in_front_passes p all h l = record { list = one_of_two (StmsPass allowed) (is_nothing p.statement) l.list (h.part, l.list) }
+  in_front_passes p all h l = record { list = one_of_two (StmsPass Passes) (is_nothing p.statement) l.list (h.part, l.list) }
 
   choice_passes : (t : Tested) (p q : Part) → TestedPasses t → PartPasses p → PartPasses q → PartPasses (choice t p q)
   choice_passes t p q ht hp hq = record { part = first_then_passes t.front.statement _ ht.front (ht.condition, hp.part, hq.part) }
@@ -176,11 +180,11 @@ module _ (allowed : Named → Bool) (from top : ℕ) (drawn : AllowsDrawn allowe
   choose_passes true m l h k = h
   choose_passes false m l h k = k
 
-  dropped_passes : (x : Tx) → TxPasses allowed x → TsPasses allowed (dropped x).statement
-  dropped_passes x h = one_of_two (TsPasses allowed) (acts x) h tt
+  dropped_passes : (x : Tx) → TxPasses Passes x → TsPasses Passes (dropped x).statement
+  dropped_passes x h = one_of_two (TsPasses Passes) (acts x) h tt
 
   mutual
-    lift_passes : (out : ℕ → ℕ) (x : Tx) → TxPasses allowed x → Keeps LiftedPasses (lift out x)
+    lift_passes : (out : ℕ → ℕ) (x : Tx) → TxPasses Passes x → Keeps LiftedPasses (lift out x)
     lift_passes out (Const i) h = given (record { front = tt; rest = h })
     lift_passes out (Address i) h = given (record { front = tt; rest = h })
     lift_passes out (Temp i) h = given (record { front = tt; rest = h })
@@ -197,7 +201,7 @@ module _ (allowed : Named → Bool) (from top : ℕ) (drawn : AllowsDrawn allowe
     lift_passes out (After s x) h = in_turn_pass (lift out x) (linear out s) (λ a p. behind p a) (lift_grows out x)
         (linear_grows out s) (lift_passes out x h.1) (linear_passes out s h.0) (λ a p w l. behind_passes p a l.part w)
 
-    lift_all_pass : (out : ℕ → ℕ) (xs : Txs) → TxsPass allowed xs → Keeps ArgumentsPass (lift_all out xs)
+    lift_all_pass : (out : ℕ → ℕ) (xs : Txs) → TxsPass Passes xs → Keeps ArgumentsPass (lift_all out xs)
     lift_all_pass out no_txs h = given (record { front = tt; rest = tt })
     lift_all_pass out (tx x xs) h =
         next (lift_all out xs) (λ all. word (lift out x) >>= (λ a. argument a all)) (growing.lift_all_grows out xs)
@@ -206,7 +210,7 @@ module _ (allowed : Named → Bool) (from top : ℕ) (drawn : AllowsDrawn allowe
         next (word (lift out x)) (λ a. argument a all) (word_grows (lift out x) (lift_grows out x)) (λ a. argument_grows a all)
         (word_passes (lift out x) (lift_grows out x) (lift_passes out x h.0)) (λ a w. argument_passes a all w l))
 
-    condition_passes : (out : ℕ → ℕ) (c : Cond) → CondPasses allowed c → Keeps TestedPasses (condition out c)
+    condition_passes : (out : ℕ → ℕ) (c : Cond) → CondPasses Passes c → Keeps TestedPasses (condition out c)
     condition_passes out (Compare rel x y) h = two_pass (lift out x) (lift out y) (compared (Compare rel)) (lift_grows out x)
         (lift_grows out y) (lift_passes out x h.0) (lift_passes out y h.1) (λ a t. record { front = t.front; condition = (t.left, t.right) })
     condition_passes out (Not c) h = made (condition out c) opposite (condition_passes out c h) (λ t l. record { front = l.front; condition = l.condition })
@@ -215,7 +219,7 @@ module _ (allowed : Named → Bool) (from top : ℕ) (drawn : AllowsDrawn allowe
     condition_passes out (Either c d) h = in_turn_pass (condition out d) (condition out c) (λ u t. joined Either t u)
         (condition_grows out d) (condition_grows out c) (condition_passes out d h.1) (condition_passes out c h.0) (λ u t l m. either_passes t u m l)
 
-    leave_passes : (out : ℕ → ℕ) (w : Bool) (k : ℕ) (c : Cond) → CondPasses allowed c → Keeps PartPasses (leave out w k c)
+    leave_passes : (out : ℕ → ℕ) (w : Bool) (k : ℕ) (c : Cond) → CondPasses Passes c → Keeps PartPasses (leave out w k c)
     leave_passes out w k (Compare rel x y) h = two_pass (lift out x) (lift out y) (λ ab. exit_where w k (compared (Compare rel) ab))
         (lift_grows out x) (lift_grows out y) (lift_passes out x h.0) (lift_passes out y h.1)
         (λ a t. exit_passes w k (compared (Compare rel) a) (record { front = t.front; condition = (t.left, t.right) }))
@@ -237,7 +241,7 @@ module _ (allowed : Named → Bool) (from top : ℕ) (drawn : AllowsDrawn allowe
         (leave_passes (deeper 1 out) false (k + 1) d h.1) (leave_passes (deeper 1 out) true 0 c h.0)
         (λ q p l m. block_passes (p before q) (before_passes p q m l))
 
-    linear_passes : (out : ℕ → ℕ) (s : Ts) → TsPasses allowed s → Keeps PartPasses (linear out s)
+    linear_passes : (out : ℕ → ℕ) (s : Ts) → TsPasses Passes s → Keeps PartPasses (linear out s)
     linear_passes out (Move i x) h = made (lift out x) (with_one (λ v. assigning i (Move i v))) (lift_passes out x h.1)
         (λ a w. record { part = first_then_passes a.front.statement (Move i a.rest) w.front (h.0, w.rest) })
     linear_passes out (Store x y) h = two_pass (lift out x) (lift out y) (with_two Store) (lift_grows out x) (lift_grows out y)
@@ -268,12 +272,12 @@ module _ (allowed : Named → Bool) (from top : ℕ) (drawn : AllowsDrawn allowe
     linear_passes out (Return x) h = one_passes (lift out x) (with_one (λ v. still (Return v))) (lift_grows out x)
         (lift_passes out x h) (λ a w. record { part = first_then_passes a.front.statement (Return a.rest) w.front w.rest })
 
-    linear_all_pass : (out : ℕ → ℕ) (ss : Stms) → StmsPass allowed ss → Keeps PartsPass (linear_all out ss)
+    linear_all_pass : (out : ℕ → ℕ) (ss : Stms) → StmsPass Passes ss → Keeps PartsPass (linear_all out ss)
     linear_all_pass out no_stms h = given (record { list = tt })
     linear_all_pass out (stm s ss) h = in_turn_pass (linear_all out ss) (linear out s) (λ all p. in_front p all)
         (growing.linear_all_grows out ss) (linear_grows out s) (linear_all_pass out ss h.1) (linear_passes out s h.0) (λ all p l m. in_front_passes p all m l)
 
-  statements_pass : (s : Ts) → TsPasses allowed s → StmsPass allowed (statements_of s)
+  statements_pass : (s : Ts) → TsPasses Passes s → StmsPass Passes (statements_of s)
   statements_pass (Seq ss) h = h
   statements_pass (Fault n) h = (h, tt)
   statements_pass (Return x) h = (h, tt)
@@ -286,14 +290,14 @@ module _ (allowed : Named → Bool) (from top : ℕ) (drawn : AllowsDrawn allowe
   statements_pass (Break k) h = (h, tt)
 
   -- a body's statements, from the first number on
-  statements_keep : (body : Ts) → TsPasses allowed body → (linearized body from).next ≤ top → StmsPass allowed (linearized body from).it
+  statements_keep : (body : Ts) → TsPasses Passes body → (linearized body from).next ≤ top → StmsPass Passes (linearized body from).it
   statements_keep body h high = statements_pass (linear (λ i. i) body from).it.statement ((linear_passes (λ i. i) body h).at from (omega arith) high).part
 
 pub linearized_names : (allowed : Named → Bool) (body : Ts) (temps : ℕ) → NamesAreAllowed allowed (named_ts body []) →
     AllowsDrawn allowed temps (linearized body temps).next → NamesAreAllowed allowed (named_stms (linearized body temps).it [])
 linearized_names allowed body temps h drawn =
-    statements_allowed allowed (linearized body temps).it (statements_keep allowed temps (linearized body temps).next
-    drawn body (body_passes allowed body h) (omega arith))
+    statements_names (λ x. IsTrue (allowed x)) (linearized body temps).it (statements_keep allowed temps (linearized body temps).next
+    drawn body (body_passes (λ x. IsTrue (allowed x)) body h) (omega arith))
 
 -- a test of temporaries alone
 abbrev pub below : ℕ → Named → Bool
@@ -302,6 +306,9 @@ below n (function label) = true
 below n (literal label) = true
 below n (fault i) = true
 below n (constant i) = true
+
+abbrev pub IsBelow : ℕ → Named → Type 0
+IsBelow n x = IsTrue (below n x)
 
 pub below_more : (m n : ℕ) (names : List Named) → m ≤ n → AreTempsBelow m names → NamesAreAllowed (below n) names
 below_more m n names le h (temporary j) d = let lt : j < m = h j d in lt-ltb j n (omega arith)

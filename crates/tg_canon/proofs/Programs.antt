@@ -18,11 +18,11 @@ use Rattle.tg_tree.specs.Carrying.{CallsSimulate, EntriesPay, BodyCarried, AllCa
 use Rattle.tg_tree.specs.Named.{named_ts}
 use Rattle.tg_tree.proofs.TreeRuns.{trees_step}
 use Rattle.tg_tree.proofs.Linking.{calls_carried, programs_carried}
+use Rattle.tg_tree.proofs.NamesPassing.{TsPasses, body_passes}
 use Rattle.tg_canon.specs.Canon.{statements_of, inside, linear, linearized}
 use Rattle.tg_canon.specs.Laws.{AreTempsBelow}
 use Rattle.tg_canon.specs.Meaning.{canonical, canonical_code, HasOwnTemps, runner, added_work}
-use Rattle.tg_canon.proofs.Passing.{TsPasses, body_passes}
-use Rattle.tg_canon.proofs.Naming.{below, below_more}
+use Rattle.tg_canon.proofs.Naming.{IsBelow, below_more}
 use Rattle.tg_canon.proofs.Paying.{credit, along, free}
 use Rattle.tg_canon.proofs.Fixed.{Scene, around, then_does}
 use Rattle.tg_canon.proofs.Dones.{GoesOn}
@@ -79,7 +79,7 @@ module _ (functions functions' : List (Function Ts)) (literals : List Literal) (
 
   module _ (pay : JoinsPay) (own : ℕ) where
     abbrev Again : (n : ℕ) → Calls n → Type 1
-    Again n calls = (out : ℕ → ℕ) (s : Ts) (k : ℕ) → TsPasses (below own) s → own ≤ k → GoesOn (scene own n calls) out s (linear (inside out) s k).it k
+    Again n calls = (out : ℕ → ℕ) (s : Ts) (k : ℕ) → TsPasses (IsBelow own) s → own ≤ k → GoesOn (scene own n calls) out s (linear (inside out) s k).it k
         (linear (inside out) s k).next
 
     -- a return to a loop's head, with less fuel
@@ -107,7 +107,7 @@ module _ (functions functions' : List (Function Ts)) (literals : List Literal) (
       (runner Canonical functions' literals size floor room) functions functions' body (Seq (linearized body temps).it)
   bodies_carried pay body temps own n r act back back' w t calls backs =
       let z = scene temps n calls in
-      let passes = body_passes (below temps) body (below_more temps temps (named_ts body []) (omega arith) own) in
+      let passes = body_passes (IsBelow temps) body (below_more temps temps (named_ts body []) (omega arith) own) in
       let part = linear (λ k. k) body temps in
       along n (r + 0) _ _ (then_does z (Seq (statements_of part.it.statement)) (outermost act back') (λ w1 t1. wrong w1) w t) _
       (λ i j. trees_step Trees code size floor room (body_point body (outermost act back) w t) j i)

@@ -7,10 +7,10 @@ use Rattle.tg_tree.specs.Units.{Canonical}
 use Rattle.tg_tree.specs.Sizes.{statements_length, statements_room, in_canonical, tree_length, tree_room, canonical_length, canonical_room}
 use Rattle.tg_tree.specs.Named.{named_ts}
 use Rattle.tg_tree.specs.Actions.{wrong}
+use Rattle.tg_tree.proofs.NamesPassing.{body_passes}
 use Rattle.tg_canon.specs.Canon.{statements_of, linear}
 use Rattle.tg_canon.specs.Meaning.{canonical, HasOwnTemps, added_length, added_room}
-use Rattle.tg_canon.proofs.Passing.{body_passes}
-use Rattle.tg_canon.proofs.Naming.{below, below_more}
+use Rattle.tg_canon.proofs.Naming.{IsBelow, below_more}
 use Rattle.tg_canon.proofs.Sizing.{size, takes}
 use Rattle.tg_canon.proofs.Fixed.{Scene}
 use Rattle.tg_canon.proofs.Tests.{JoinsPay}
@@ -45,7 +45,7 @@ module _ (pay : JoinsPay) (f : Function Ts) (own : HasOwnTemps f) where
   part : PartIs (idle f.temps) (λ k. k) f.body f.temps (linear (λ k. k) f.body f.temps).it (linear (λ k. k) f.body f.temps).next
   part =
       linear_at (idle f.temps) pay (λ out s k passes le J r a o o' b b' next next' kept outs backs nexts w t t' near. simulates_stopping 1 r 0 w.input Wrong)
-      f.body (λ k. k) f.temps (body_passes (below f.temps) f.body (below_more f.temps f.temps (named_ts f.body []) (omega arith) own)) (omega arith)
+      f.body (λ k. k) f.temps (body_passes (IsBelow f.temps) f.body (below_more f.temps f.temps (named_ts f.body []) (omega arith) own)) (omega arith)
 
   pub length_stays : canonical_length (canonical f) ≤ tree_length f + added_length
   length_stays = let p = part in let n = p.length in let c = (statements_count (linear (λ k. k) f.body f.temps).it.statement).0 in omega arith

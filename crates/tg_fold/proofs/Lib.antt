@@ -3,7 +3,6 @@ pub mod Walks
 pub mod Handing
 pub mod Words
 pub mod Sides
-pub mod Passes
 pub mod Naming
 pub mod Closing
 pub mod Shaping

@@ -12,7 +12,7 @@ use Rattle.tg_fold.specs.Copies.{copy, takes_copy, instead, renamed, renamed_stm
 use Rattle.tg_fold.specs.Folding.{given_word, word_of, constant_or, operated, Tested, Known, Open, compared_by, compared, negated}
 use Rattle.tg_fold.specs.Folding.{both_of, either_of, chosen, passed, passed_on, folded_tx, folded_txs, tested, folded, each_folded}
 use Rattle.tg_fold.proofs.Sides.{AreSides, two, others, sides}
-use Rattle.tg_fold.proofs.Passes.{TxPasses, TxsPass, CondPasses, TsPasses, StmsPass}
+use Rattle.tg_tree.proofs.NamesPassing.{TxPasses, TxsPass, CondPasses, TsPasses, StmsPass}
 
 module _ (P : Named → Type 0) where
   -- the temporaries of a copy

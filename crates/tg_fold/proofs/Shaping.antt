@@ -6,7 +6,7 @@ use Rattle.tg_tree.specs.Named.{Named, function, literal, fault, temporary, cons
 use Rattle.tg_fold.specs.Folding.{folded}
 use Rattle.tg_fold.specs.Laws.{folded_function, IsNoConstant, AreWords}
 use Rattle.tg_fold.proofs.Words.{operate_word}
-use Rattle.tg_fold.proofs.Passes.{body_passes, body_names}
+use Rattle.tg_tree.proofs.NamesPassing.{body_passes, body_names}
 use Rattle.tg_fold.proofs.Naming.{folded_passes}
 
 -- a name that is no constant and that the body has

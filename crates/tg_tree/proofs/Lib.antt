@@ -14,3 +14,4 @@ pub mod Linking
 pub mod Linked
 pub mod Alikes
 pub mod Opposites
+pub mod NamesPassing

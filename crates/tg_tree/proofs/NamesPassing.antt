@@ -1,15 +1,11 @@
--- Trees whose names pass a test, tree by tree and as lists of names.
-use Rattle.std.proofs.Common.{zero, suc, Bool, List, [], ◌∷◌, refl, subst, arith}
-use Rattle.std.specs.Prelude.{IsTrue}
+-- Trees whose names all have a property, tree by tree and as lists of names.
+use Rattle.std.proofs.Common.{zero, suc, List, [], ◌∷◌, refl, subst, arith}
 use Rattle.std.specs.List.{Contains}
 use Rattle.tg_tree.specs.Tree.{Tx, Const, Address, Temp, FrameAddress, Binary, Load, LoadByte, Call, Service, After, Txs, no_txs, tx, Cond, Compare}
 use Rattle.tg_tree.specs.Tree.{Not, Both, Either, Ts, Move, Store, StoreByte, Do, If, Loop, Break, Fault, Seq, Return, Stms, no_stms, stm}
-use Rattle.tg_tree.specs.Named.{NamesAreAllowed, Named, function, literal, fault, temporary, constant, named_tx, named_txs, named_cond, named_ts, named_stms}
+use Rattle.tg_tree.specs.Named.{Named, function, literal, fault, temporary, constant, named_tx, named_txs, named_cond, named_ts, named_stms}
 
-module _ (allowed : Named → Bool) where
-  abbrev pub Passes : Named → Type 0
-  Passes x = IsTrue (allowed x)
-
+module _ (Passes : Named → Type 0) where
   abbrev mutual
     pub TxPasses : Tx → Type 0
     TxPasses (Const n) = Passes (constant n)
@@ -147,18 +143,21 @@ module _ (allowed : Named → Bool) where
   in_rest : (x : Named) (xs : List Named) (y : Named) → Contains xs y → Contains (x ∷ xs) y
   in_rest x xs y (k, l, e) = (suc k, omega arith, e)
 
-  all_pass : (xs : List Named) → NamesAreAllowed allowed xs → AllPass xs
+  all_pass : (xs : List Named) → ((x : Named) → Contains xs x → Passes x) → AllPass xs
   all_pass [] h = tt
   all_pass (x ∷ xs) h = (h x (0, omega arith, refl), all_pass xs (λ y c. h y (in_rest x xs y c)))
 
-  all_allowed : (xs : List Named) → AllPass xs → NamesAreAllowed allowed xs
+  all_allowed : (xs : List Named) → AllPass xs → ((x : Named) → Contains xs x → Passes x)
   all_allowed [] h y (k, l, e) = absurd (omega arith)
   all_allowed (x ∷ xs) h y (zero, l, e) = subst (λ v. Passes v) e h.0
   all_allowed (x ∷ xs) h y (suc k, l, e) = all_allowed xs h.1 y (k, omega arith, e)
 
   -- a body, and statements
-  pub body_passes : (s : Ts) → NamesAreAllowed allowed (named_ts s []) → TsPasses s
+  pub body_passes : (s : Ts) → ((x : Named) → Contains (named_ts s []) x → Passes x) → TsPasses s
   body_passes s h = (ts_passes s [] (all_pass (named_ts s []) h)).0
 
-  pub statements_allowed : (ss : Stms) → StmsPass ss → NamesAreAllowed allowed (named_stms ss [])
-  statements_allowed ss h = all_allowed (named_stms ss []) (stms_names ss [] h tt)
+  pub body_names : (s : Ts) → TsPasses s → (x : Named) → Contains (named_ts s []) x → Passes x
+  body_names s h = all_allowed (named_ts s []) (ts_names s [] h tt)
+
+  pub statements_names : (ss : Stms) → StmsPass ss → (x : Named) → Contains (named_stms ss []) x → Passes x
+  statements_names ss h = all_allowed (named_stms ss []) (stms_names ss [] h tt)
