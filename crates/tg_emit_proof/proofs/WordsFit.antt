@@ -1,25 +1,17 @@
 -- What rows give has 32 bits.
 use Rattle.std.proofs.Common.{ℕ, ◌≡◌, ◌<◌, ◌≤◌, ◌*◌, ◌^◌, ◌&&◌, ℤ, pos, negsuc, ◌*ℤ◌, refl, arith, Bool, true, false}
 use Rattle.std.proofs.Common.{Some, None}
-use Rattle.std.proofs.Common.{mul-le-mul, w64, unsigned_abs, int_lt, int_div, int_rem}
-use Rattle.std.proofs.lemmas.Int.{unsigned_abs-mul, ints}
+use Rattle.std.proofs.Common.{w64, unsigned_abs, int_lt, int_div, int_rem}
+use Rattle.std.proofs.lemmas.Int.{ints}
 use Rattle.std.proofs.lemmas.Grind.{common_steps}
 use Rattle.std.proofs.lemmas.Nat.{or_of_32, xor_of_32, and_le_l}
 use Rattle.std.specs.Prelude.{if◌then◌else◌, bit_and, bit_or, bit_xor}
 use Rattle.std.specs.Int.{cast_unsigned, int_shr}
 use Rattle.tg_base.specs.Words.{signed, unsigned, quot, rem, is_word, within, product_high, extended_byte}
 use Rattle.tg_base.specs.Words.{shift_right, shift_signed, neither, flag}
+use Rattle.tg_base.proofs.ProductLaws.{abs_signed, abs_product}
 use Rattle.tg_tree.specs.Operators.{exactly}
 use Rattle.tg_emit_proof.proofs.Registers.{IsGivenWord}
-
-abs_signed : (a : ℕ) → a < 2 ^ 32 → unsigned_abs (signed a) ≤ 2 ^ 31
-abs_signed a h = grind (arith, common_steps, ints)
-
-abs_product : (a b : ℕ) → a < 2 ^ 32 → b < 2 ^ 32 → unsigned_abs (signed a *ℤ signed b) < 2 ^ 63
-abs_product a b p q =
-    let m : unsigned_abs (signed a) * unsigned_abs (signed b) ≤ 2 ^ 31 * 2 ^ 31 =
-    mul-le-mul (abs_signed a p) (abs_signed b q) in
-    rw (unsigned_abs-mul (signed a) (signed b)) (omega (arith, m))
 
 -- the word of a small int
 int_fits : (z : ℤ) → unsigned_abs z ≤ 2 ^ 31 → unsigned z < 2 ^ 32

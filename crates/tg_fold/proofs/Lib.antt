@@ -1,7 +1,6 @@
 mod Examples
 pub mod Walks
 pub mod Handing
-pub mod Words
 pub mod Sides
 pub mod Naming
 pub mod Closing

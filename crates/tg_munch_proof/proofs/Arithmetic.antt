@@ -1,7 +1,7 @@
 -- Words and the fields of instructions.
 use Rattle.std.proofs.Common.{◌≡◌, ◌≢◌, ◌≤◌, ◌<◌, ◌+◌, ◌-◌, ◌*◌, ◌/◌, ◌%◌, ◌^◌, ℕ, ℤ, pos, negsuc, ◌-ℤ◌, ◌*ℤ◌, Bool}
-use Rattle.std.proofs.Common.{true, false, refl, sym, ap, ◌∙◌, arith, w32, w64, mul-le-mul, unsigned_abs}
-use Rattle.std.proofs.lemmas.Int.{ints, unsigned_abs-mul, wrapping_mul-bits, of_z-to_z}
+use Rattle.std.proofs.Common.{true, false, refl, sym, ap, ◌∙◌, arith, w32, w64, unsigned_abs}
+use Rattle.std.proofs.lemmas.Int.{ints, wrapping_mul-bits, of_z-to_z}
 use Rattle.std.proofs.lemmas.Nat.{pow-add, shr-shr, shr_le, mul-mod_first}
 use Rattle.std.proofs.Math.Nat.{mul_assoc}
 use Rattle.std.specs.Int.{int_shr, cast_unsigned, int_wrap}
@@ -10,6 +10,7 @@ use Rattle.std.proofs.lemmas.Bool.Decides.{nat_tests}
 use Rattle.std.specs.Prelude.{not, nat_lt}
 use Rattle.tg_base.specs.Words.{add, sub, mul, less, signed, unsigned, exact_sum, exact_difference, product_low}
 use Rattle.tg_base.specs.Words.{extended, shift_left, shift_right, shift_signed}
+use Rattle.tg_base.proofs.ProductLaws.{abs_product}
 use Rattle.tg_munch.specs.Tiles.{is_small, field, negated}
 
 -- the field of a small constant stands for it
@@ -40,15 +41,6 @@ low_word : (z : ℤ) → unsigned_abs z < 2 ^ 63 → cast_unsigned w32 (int_wrap
 unfolding int_wrap
 low_word (pos n) h = grind (arith, common_steps, ints)
 low_word (negsuc n) h = let small : n < 2 ^ 63 = omega (arith, h) in grind (arith, common_steps, ints)
-
-abs_signed : (a : ℕ) → a < 2 ^ 32 → unsigned_abs (signed a) ≤ 2 ^ 31
-abs_signed a h = grind (arith, common_steps, ints)
-
-pub abs_product : (a b : ℕ) → a < 2 ^ 32 → b < 2 ^ 32 → unsigned_abs (signed a *ℤ signed b) < 2 ^ 63
-abs_product a b p q =
-    let m : unsigned_abs (signed a) * unsigned_abs (signed b) ≤ 2 ^ 31 * 2 ^ 31 = mul-le-mul (abs_signed a p)
-    (abs_signed b q) in
-    rw (unsigned_abs-mul (signed a) (signed b)) (omega (arith, m))
 
 pub low_product : (a b : ℕ) → a < 2 ^ 32 → b < 2 ^ 32 → mul a b ≡ product_low a b
 low_product a b h k =

@@ -46,7 +46,7 @@ use Rattle.tg_munch_proof.specs.Relating.{Program, code_behind, most_statics, Ar
 use Rattle.tg_munch_proof.specs.Relating.{HiIsThere, outline_in, BacksMatch, EntersMatch, IsActivation}
 use Rattle.tg_munch_proof.proofs.Asking.{same_input}
 use Rattle.tg_munch_proof.proofs.Moves.{SameTemps, knows, temps_same, kept_same}
-use Rattle.tg_munch_proof.proofs.Reading.{load_is_word, byte_is_word, literal_is_word, quotient_is_word}
+use Rattle.tg_munch_proof.proofs.Reading.{load_is_word, byte_is_word, literal_is_word}
 use Rattle.tg_munch_proof.proofs.Seeing.{HasFrame, sees_it, walks_it}
 
 -- statements and elements whose constants are words
@@ -251,7 +251,6 @@ module _ (a : Activated) where
     loads = λ b v e. load_is_word w.memory b v h.words e;
     loads_byte = λ b v e. byte_is_word w.memory b v h.words e;
     temps = λ i v e. (temps i v e).1;
-    quotients = λ u v small other. quotient_is_word u v small;
   }
 
   abbrev pub scene_in : (w x : World) (t : Temps) (s : Contents) → AlikeIn w x → TempsAlike a.function.temps t s → Scene

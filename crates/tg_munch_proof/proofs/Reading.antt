@@ -1,16 +1,12 @@
--- What flat code reads is words: bytes of regions and words of the stack, and a quotient of words too.
-use Rattle.std.proofs.Common.{◌≡◌, ◌≤◌, ◌<◌, ℕ, zero, suc, ℤ, pos, negsuc, unsigned_abs, ◌+◌, ◌/◌, ◌%◌, ◌^◌, List}
+-- What flat code reads is words: bytes of regions and words of the stack.
+use Rattle.std.proofs.Common.{◌≡◌, ◌≤◌, ◌<◌, ℕ, ◌+◌, ◌/◌, ◌%◌, ◌^◌, List}
 use Rattle.std.proofs.Common.{[], ◌∷◌, ◌++◌, length, Bool, nat_lt, refl, sym, subst, arith}
-use Rattle.std.proofs.lemmas.Int.{ints}
-use Rattle.std.proofs.lemmas.Grind.{common_steps}
 use Rattle.std.proofs.lemmas.Bool.Decides.{nat_tests}
 use Rattle.std.proofs.lemmas.List.Elements.{All-set}
 use Rattle.std.proofs.Math.ListN.{get_or-eq_default}
-use Rattle.std.proofs.Math.Nat.{div-le_self}
 use Rattle.std.proofs.lemmas.List.{length-append}
-use Rattle.std.specs.Prelude.{◌==◌, ◌-◌, false, true, Some, None, neg_ℤ, slice_index, int_div, if◌then◌else◌}
+use Rattle.std.specs.Prelude.{◌==◌, ◌-◌, false, true, Some, None, slice_index, if◌then◌else◌}
 use Rattle.tg_state.specs.State.{word_at, set_word, statics_base, padded}
-use Rattle.tg_base.specs.Words.{signed, unsigned, quot}
 use Rattle.tg_tree.specs.Tree.{Literal}
 use Rattle.tg_tree.specs.Memory.{Memory, Cell, Closed, Unset, Has, Kept, Spot, in_statics, in_heap, elsewhere, spot}
 use Rattle.tg_tree.specs.Memory.{load, load_byte, word_in, byte_in, cell_word, cell_byte, byte_of, statics_of}
@@ -112,27 +108,3 @@ pub literal_is_word : (ls : List Literal) (label v : ℕ) → statics_base + len
 literal_is_word ls label v fits e =
     let le = literal_within label statics_base v ls e in
     omega (arith, le, fits)
-
--- a quotient is no further from 0 than what is divided
-abs_negated : (n : ℕ) → unsigned_abs (neg_ℤ (pos n)) ≡ n
-abs_negated zero = refl
-abs_negated (suc n) = refl
-
-abs_quotient : (a d : ℤ) → unsigned_abs (int_div a d) ≤ unsigned_abs a
-abs_quotient (pos a) (pos b) = div-le_self a b
-abs_quotient (pos a) (negsuc b) = subst (λ n. n ≤ a) (sym (abs_negated (a / suc b))) (div-le_self a (suc b))
-abs_quotient (negsuc a) (pos b) = subst (λ n. n ≤ suc a) (sym (abs_negated (suc a / b))) (div-le_self (suc a) b)
-abs_quotient (negsuc a) (negsuc b) = div-le_self (suc a) (suc b)
-
-abs_signed : (a : ℕ) → IsWord a → unsigned_abs (signed a) ≤ 2 ^ 31
-abs_signed a h = grind (arith, common_steps, ints)
-
-unsigned_small : (z : ℤ) → unsigned_abs z ≤ 2 ^ 31 → IsWord (unsigned z)
-unsigned_small (pos n) h = grind (arith, common_steps, ints)
-unsigned_small (negsuc n) h = let le : suc n ≤ 2 ^ 31 = h in grind (arith, common_steps, ints)
-
-pub quotient_is_word : (u v : ℕ) → IsWord u → IsWord (quot u v)
-quotient_is_word u v h =
-    let le = abs_quotient (signed u) (signed v) in
-    let small = abs_signed u h in
-    unsigned_small (int_div (signed u) (signed v)) (omega (arith, le, small))

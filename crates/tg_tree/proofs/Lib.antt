@@ -15,3 +15,4 @@ pub mod Linked
 pub mod Alikes
 pub mod Opposites
 pub mod NamesPassing
+pub mod OperatorWords

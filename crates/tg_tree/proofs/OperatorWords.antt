@@ -1,7 +1,7 @@
 -- Operators make words of words.
-use Rattle.std.proofs.Common.{◌≡◌, ◌≤◌, ◌<◌, ℕ, zero, suc, ℤ, ◌+ℤ◌, ◌-ℤ◌, ◌*ℤ◌, pos, negsuc, unsigned_abs, ◌+◌, ◌-◌, ◌*◌, ◌/◌, ◌%◌, ◌^◌}
-use Rattle.std.proofs.Common.{Bool, w64, mul-le-mul, refl, sym, subst, arith}
-use Rattle.std.proofs.lemmas.Int.{ints, unsigned_abs-mul}
+use Rattle.std.proofs.Common.{◌≡◌, ◌≤◌, ◌<◌, ℕ, zero, suc, ℤ, ◌+ℤ◌, ◌-ℤ◌, ◌*ℤ◌, pos, negsuc, unsigned_abs, ◌+◌, ◌-◌, ◌*◌, ◌/◌}
+use Rattle.std.proofs.Common.{◌%◌, ◌^◌, Bool, w64, refl, sym, subst, arith}
+use Rattle.std.proofs.lemmas.Int.{ints}
 use Rattle.std.proofs.lemmas.Nat.{or_lt, xor_lt, shr_le}
 use Rattle.std.proofs.lemmas.Grind.{common_steps}
 use Rattle.std.proofs.Math.Nat.{div-le_self}
@@ -9,6 +9,7 @@ use Rattle.std.specs.Int.{cast_unsigned, int_shr}
 use Rattle.std.specs.Int.Bits.{and_lt}
 use Rattle.std.specs.Prelude.{◌==◌, false, true, Some, None, neg_ℤ, int_div, if◌then◌else◌}
 use Rattle.tg_base.specs.Words.{signed, unsigned, quot, product_high, within, is_word}
+use Rattle.tg_base.proofs.ProductLaws.{abs_signed, abs_product}
 use Rattle.tg_tree.specs.declared.operators.Bin.{Bin}
 use Rattle.tg_tree.specs.declared.operators.Bin.TheVariants as bin
 use Rattle.tg_tree.specs.Operators.{word, exactly, operate}
@@ -26,14 +27,6 @@ of_word : (n r : ℕ) → IsWord n → word n ≡ word r → IsWord r
 of_word n r h e = subst (λ i. IsWord i) (same_word n r e) h
 
 -- a product, and a quotient, which is no further from 0 than what is divided
-abs_signed : (a : ℕ) → IsWord a → unsigned_abs (signed a) ≤ 2 ^ 31
-abs_signed a h = grind (arith, common_steps, ints)
-
-abs_product : (a b : ℕ) → IsWord a → IsWord b → unsigned_abs (signed a *ℤ signed b) < 2 ^ 63
-abs_product a b p q =
-    let m : unsigned_abs (signed a) * unsigned_abs (signed b) ≤ 2 ^ 31 * 2 ^ 31 = mul-le-mul (abs_signed a p) (abs_signed b q) in
-    rw (unsigned_abs-mul (signed a) (signed b)) (omega (arith, m))
-
 product_word : (z : ℤ) → unsigned_abs z < 2 ^ 63 → cast_unsigned w64 z / 2 ^ 32 < 2 ^ 32
 product_word (pos n) h = grind (arith, common_steps, ints)
 product_word (negsuc n) h = let small : n < 2 ^ 63 = omega (arith, h) in grind (arith, common_steps, ints)
