@@ -1,14 +1,14 @@
 -- Lengths, rooms and depths of trees in which each choice counts as much more as it takes to return from its arms. So what gives
 -- a value back is no longer, and no deeper, than a return of it counts here.
 use Rattle.std.proofs.Common.{◌==◌, ◌≤◌, ◌+◌, ℕ, Bool, true, false, arith}
-use Rattle.std.specs.Prelude.{suc, max, if◌then◌else◌}
+use Rattle.std.specs.Prelude.{if◌then◌else◌}
 use Rattle.tg_tree.specs.Tree.{Tx, Const, Address, Temp, FrameAddress, Binary, Load, LoadByte, Call, Service, After, Txs, no_txs, tx, Cond, Compare}
 use Rattle.tg_tree.specs.Tree.{Not, Both, Either, Ts, Move, Store, StoreByte, Do, If, Loop, Break, Fault, Seq, Return, Stms, no_stms, stm}
 use Rattle.tg_tree.specs.Units.{Trees, expression_units, argument_units, condition_units, statement_units}
 use Rattle.tg_tree.specs.Sizes.{expression_length, arguments_length, condition_length, statement_length, statements_length, in_trees, shift_room}
 use Rattle.tg_tree.specs.Sizes.{expression_room, arguments_room, condition_room, statement_room, statements_room}
 use Rattle.tg_translate.specs.Returning.{in_turn, returned, returned_behind, returned_from, returned_last, all_returned_from, value_has_loop, given_back}
-use Rattle.tg_translate_laws.specs.Depths as depths
+use Rattle.tg_translate_laws.specs.Depths.{statement_depth, statements_depth, expression_depth, arguments_depth, condition_depth}
 
 -- what a choice counts more
 abbrev pub arms_length : ℕ
@@ -85,60 +85,37 @@ abbrev mutual
   stms_room no_stms = 0
   stms_room (stm s ss) = ts_room s + stms_room ss
 
-abbrev mutual
-  pub ts_depth : Ts → ℕ
-  ts_depth (Move _ x) = suc (tx_depth x)
-  ts_depth (Store x y) = suc (max (tx_depth x) (tx_depth y))
-  ts_depth (StoreByte x y) = suc (max (tx_depth x) (tx_depth y))
-  ts_depth (Do x) = suc (tx_depth x)
-  ts_depth (If c s t) = suc (suc (max (cond_depth c) (max (ts_depth s) (ts_depth t))))
-  ts_depth (Loop s) = suc (ts_depth s)
-  ts_depth (Break _) = 1
-  ts_depth (Fault _) = 1
-  ts_depth (Seq ss) = suc (stms_depth ss)
-  ts_depth (Return x) = suc (tx_depth x)
+-- a choice is two deeper than its parts
+abbrev pub ts_depth : Ts → ℕ
+ts_depth s = statement_depth 2 s
 
-  pub stms_depth : Stms → ℕ
-  stms_depth no_stms = 0
-  stms_depth (stm s ss) = max (ts_depth s) (stms_depth ss)
+abbrev pub stms_depth : Stms → ℕ
+stms_depth ss = statements_depth 2 ss
 
-  pub tx_depth : Tx → ℕ
-  tx_depth (Const _) = 1
-  tx_depth (Address _) = 1
-  tx_depth (Temp _) = 1
-  tx_depth FrameAddress = 1
-  tx_depth (Binary _ x y) = suc (max (tx_depth x) (tx_depth y))
-  tx_depth (Load x) = suc (tx_depth x)
-  tx_depth (LoadByte x) = suc (tx_depth x)
-  tx_depth (Call _ xs) = suc (txs_depth xs)
-  tx_depth (Service _ x) = suc (tx_depth x)
-  tx_depth (After s x) = suc (max (ts_depth s) (tx_depth x))
+abbrev pub tx_depth : Tx → ℕ
+tx_depth x = expression_depth 2 x
 
-  pub txs_depth : Txs → ℕ
-  txs_depth no_txs = 0
-  txs_depth (tx x xs) = max (tx_depth x) (txs_depth xs)
+abbrev pub txs_depth : Txs → ℕ
+txs_depth xs = arguments_depth 2 xs
 
-  pub cond_depth : Cond → ℕ
-  cond_depth (Compare _ x y) = suc (max (tx_depth x) (tx_depth y))
-  cond_depth (Not c) = suc (cond_depth c)
-  cond_depth (Both c d) = suc (max (cond_depth c) (cond_depth d))
-  cond_depth (Either c d) = suc (max (cond_depth c) (cond_depth d))
+abbrev pub cond_depth : Cond → ℕ
+cond_depth c = condition_depth 2 c
 
 -- what a tree has, each is at most that
 abbrev pub LessTx : Tx → Type 0
-LessTx x = (expression_length Trees x ≤ tx_length x) × (expression_room in_trees x ≤ tx_room x) × (depths.tx_depth x ≤ tx_depth x)
+LessTx x = (expression_length Trees x ≤ tx_length x) × (expression_room in_trees x ≤ tx_room x) × (expression_depth 1 x ≤ tx_depth x)
 
 abbrev pub LessTxs : Txs → Type 0
-LessTxs xs = (arguments_length Trees xs ≤ txs_length xs) × (arguments_room in_trees xs ≤ txs_room xs) × (depths.txs_depth xs ≤ txs_depth xs)
+LessTxs xs = (arguments_length Trees xs ≤ txs_length xs) × (arguments_room in_trees xs ≤ txs_room xs) × (arguments_depth 1 xs ≤ txs_depth xs)
 
 abbrev pub LessCond : Cond → Type 0
-LessCond c = (condition_length Trees c ≤ cond_length c) × (condition_room in_trees c ≤ cond_room c) × (depths.cond_depth c ≤ cond_depth c)
+LessCond c = (condition_length Trees c ≤ cond_length c) × (condition_room in_trees c ≤ cond_room c) × (condition_depth 1 c ≤ cond_depth c)
 
 abbrev pub LessTs : Ts → Type 0
-LessTs s = (statement_length Trees s ≤ ts_length s) × (statement_room in_trees s ≤ ts_room s) × (depths.ts_depth s ≤ ts_depth s)
+LessTs s = (statement_length Trees s ≤ ts_length s) × (statement_room in_trees s ≤ ts_room s) × (statement_depth 1 s ≤ ts_depth s)
 
 abbrev pub LessStms : Stms → Type 0
-LessStms ss = (statements_length Trees ss ≤ stms_length ss) × (statements_room in_trees ss ≤ stms_room ss) × (depths.stms_depth ss ≤ stms_depth ss)
+LessStms ss = (statements_length Trees ss ≤ stms_length ss) × (statements_room in_trees ss ≤ stms_room ss) × (statements_depth 1 ss ≤ stms_depth ss)
 
 mutual
   pub less_tx : (x : Tx) → LessTx x
@@ -192,10 +169,10 @@ mutual
 -- What gives back: a return counts 16, and one of a temporary a word of room.
 
 abbrev AtMost : (length room depth : ℕ) → Ts → Type 0
-AtMost l r d s = (statement_length Trees s ≤ 16 + l) × (statement_room in_trees s ≤ r) × (depths.ts_depth s ≤ d)
+AtMost l r d s = (statement_length Trees s ≤ 16 + l) × (statement_room in_trees s ≤ r) × (statement_depth 1 s ≤ d)
 
 abbrev AllAtMost : (length room depth : ℕ) → Stms → Type 0
-AllAtMost l r d ss = (statements_length Trees ss ≤ 16 + l) × (statements_room in_trees ss ≤ r) × (depths.stms_depth ss ≤ d)
+AllAtMost l r d ss = (statements_length Trees ss ≤ 16 + l) × (statements_room in_trees ss ≤ r) × (statements_depth 1 ss ≤ d)
 
 by_test : (b : Bool) (l r d : ℕ) (s t : Ts) → AtMost l r d s → AtMost l r d t → AtMost l r d (if b then s else t)
 by_test true l r d s t h k = h
