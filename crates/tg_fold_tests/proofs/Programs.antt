@@ -1,115 +1,27 @@
 -- Programs that are translated and then folded. Each is run with the runtime, before and behind the pass, by the meaning of
--- trees itself. Above each stands its text. An identifier is its byte, and each use has the byte of what it means.
-use Rattle.std.proofs.Common.{◌≡◌, ℕ, ◌-◌, ◌++◌, List, [], ◌∷◌, Some, None, Bool, true, refl}
-use Rattle.std.specs.Prelude.{codes, pos, nat_eq, nat_le, nat_lt, ◌&&◌}
-use Rattle.std.specs.List.{list_any, list_all}
-use Prim.Native.String.{String}
-use Rattle.tg_base.specs.declared.ids.Span.{Span}
+-- trees itself. Above each stands its text, but for those of ExampleTrees. An identifier is its byte, and each use has the
+-- byte of what it means.
+use Rattle.std.proofs.Common.{◌≡◌, ℕ, ◌-◌, ◌++◌, List, [], ◌∷◌, Bool, true, refl}
+use Rattle.std.specs.Prelude.{codes, pos, nat_le, nat_lt, ◌&&◌}
+use Rattle.std.specs.List.{list_all}
 use Rattle.tg_state.specs.declared.ends.RunEnd.TheVariants.{Exit, Break as Broken}
 use Rattle.tg_state.specs.State.{stack_top}
 use Rattle.tg_simulation.specs.Ran.{Ran, Stop, Ended}
-use Rattle.tg_symbols.specs.Tables.{named}
-use Rattle.tg_syntax.specs.declared.tokens.Ident.{Ident}
-use Rattle.tg_syntax.specs.declared.trees.Param.{Param}
-use Rattle.tg_syntax.specs.declared.trees.Op.{Op}
 use Rattle.tg_syntax.specs.declared.trees.Op.TheVariants as op
-use Rattle.tg_syntax.specs.Tree.{Exp, Break, Int, Text, Read, Call, Binary, Make, Fill, Assign, If, When, While, For, Let}
-use Rattle.tg_syntax.specs.Tree.{Seq, Simple, Field, Index, Exps, no_exps, exp, no_inits, init, Decs, no_decs, variable}
-use Rattle.tg_syntax.specs.Tree.{functions, no_functions, function}
-use Rattle.tg_semantics.specs.declared.standards.Standard.TheVariants as standard
-use Rattle.tg_types.specs.declared.notes.Means.{Means}
-use Rattle.tg_types.specs.declared.notes.Means.TheVariants as means
+use Rattle.tg_syntax.specs.Tree.{Exp, Binary, If, When, While, For, no_decs}
 use Rattle.tg_tree.specs.Tree.{Ts, Function, Code}
 use Rattle.tg_tree.specs.Units.{Trees}
 use Rattle.tg_tree.specs.Sizes.{tree_length, tree_room}
 use Rattle.tg_tree.specs.Running.{tree_run}
 use Rattle.tg_runtime.specs.Routines.{runtime}
-use Rattle.tg_translate.specs.Scopes.{Findings}
 use Rattle.tg_translate.specs.Translate.{translated}
+use Rattle.tg_translate.proofs.ExampleTrees.{sp, id, x, i, k, g, findings, num, get, set, call, seq, text, exit, binary, plus, let_var, block}
+use Rattle.tg_translate.proofs.ExampleTrees.{counts_to_three, fields_added, elements_added, element_after_the_last, factorial_of_four, sum_by_links}
 use Rattle.tg_fold.specs.Laws.{folded_function}
 use Rattle.tg_fold.specs.Meaning.{folded_code}
 
-abbrev sp : Span
-sp = record { from = 0; to = 0 }
-
-abbrev id : ℕ → Ident
-id n = record { name = record { 0 = n }; span = record { from = n; to = n } }
-
--- Names: variables x, i, k; functions f, g, h; fields 20 and 21; 40 compares strings, and 0 is any other operator.
-abbrev x : ℕ
-x = 1
-
-abbrev i : ℕ
-i = 3
-
-abbrev k : ℕ
-k = 4
-
-abbrev f : ℕ
-f = 11
-
-abbrev g : ℕ
-g = 12
-
-abbrev h : ℕ
-h = 13
-
-abbrev meanings : List (ℕ × Means)
-meanings =
-    (1, means.Variable 1) ∷ (3, means.Variable 3) ∷ (4, means.Variable 4) ∷ (11, means.Function 11) ∷ (12, means.Function 12)
-    ∷ (13, means.Function 13) ∷ (20, means.Field 0) ∷ (21, means.Field 1) ∷ (30, means.Standard standard.Print)
-    ∷ (31, means.Standard standard.Exit) ∷ (32, means.Standard standard.Concat) ∷ (40, means.Content) ∷ []
-
-abbrev findings : (escaping links : List ℕ) → Findings
-findings escaping links = record {
-  meaning = λ at. named at meanings;
-  escapes = λ at. list_any (nat_eq at) escaping;
-  keeps_link = λ at. list_any (nat_eq at) links;
-}
-
-abbrev exps : List Exp → Exps
-exps [] = no_exps
-exps (e ∷ es) = exp e (exps es)
-
-abbrev num : ℕ → Exp
-num n = Int sp n
-
-abbrev get : ℕ → Exp
-get n = Read sp (Simple (id n))
-
-abbrev set : ℕ → Exp → Exp
-set n e = Assign sp (Simple (id n)) e
-
-abbrev call : ℕ → List Exp → Exp
-call n es = Call sp (id n) (exps es)
-
-abbrev seq : List Exp → Exp
-seq es = Seq sp (exps es)
-
-abbrev text : String → Exp
-text chars = Text sp (codes chars)
-
 abbrev say : Exp → Exp
 say e = call 30 (e ∷ [])
-
-abbrev exit : Exp → Exp
-exit e = call 31 (e ∷ [])
-
-abbrev binary : Op → Exp → Exp → Exp
-binary o a b = Binary sp o 0 a b
-
-abbrev plus : Exp → Exp → Exp
-plus a b = binary op.Plus a b
-
-abbrev let_var : ℕ → Exp → Decs → Decs
-let_var n e rest = variable (id n) None e rest
-
-abbrev block : Decs → List Exp → Exp
-block ds es = Let sp ds (exps es)
-
-abbrev params : List ℕ → List Param
-params [] = []
-params (n ∷ ns) = record { name = id n; kind = id 0 } ∷ params ns
 
 -- a function that is no larger behind the pass, in length and room
 abbrev is_no_larger : Function Ts → Bool
@@ -162,34 +74,20 @@ connectives = refl
 zero_divisor : does (binary op.Divide (num 1) (num 0)) 1 ≡ alike ([], Ended (Broken 7))
 zero_divisor = refl
 
--- let var x:=0 in while x<5 do (x:=x+1; if x=3 then break); exit(x) end
-broken_loop :
-    does (block (let_var x (num 0) no_decs)
-    (While sp (binary op.Less (get x) (num 5)) (seq (set x (plus (get x) (num 1)) ∷ When sp (binary op.Equal (get x) (num 3)) (Break sp) ∷ []))
-    ∷ exit (get x) ∷ [])) 9 ≡ alike (ends 3)
+broken_loop : does counts_to_three 9 ≡ alike (ends 3)
 broken_loop = refl
 
 -- for i:=2147483646 to 2147483647 do print(".")
 greatest_bound : does (For sp (id i) (num 2147483646) (num 2147483647) (say (text "."))) 9 ≡ alike (codes "..", Ended (Exit (pos 0)))
 greatest_bound = refl
 
--- let type r={a:int,b:int} var x:r:=r{a=1,b=2} in x.a:=5; exit(x.a+x.b) end
-record_of_two :
-    does (block (let_var x (Make sp (id 0) (init (id 20) (num 1) (init (id 21) (num 2) no_inits))) no_decs)
-    (Assign sp (Field (Simple (id x)) (id 20)) (num 5)
-    ∷ exit (plus (Read sp (Field (Simple (id x)) (id 20))) (Read sp (Field (Simple (id x)) (id 21)))) ∷ [])) 9 ≡ alike (ends 7)
+record_of_two : does fields_added 9 ≡ alike (ends 7)
 record_of_two = refl
 
--- let type t=array of int var x:=t[3] of 7 in x[2]:=1; exit(x[2]+x[0]) end, and x[3]:=0
-elements :
-    does (block (let_var x (Fill sp (id 0) (num 3) (num 7)) no_decs)
-    (Assign sp (Index (Simple (id x)) (num 2)) (num 1)
-    ∷ exit (plus (Read sp (Index (Simple (id x)) (num 2))) (Read sp (Index (Simple (id x)) (num 0)))) ∷ [])) 9 ≡ alike (ends 8)
+elements : does elements_added 9 ≡ alike (ends 8)
 elements = refl
 
-index_of_the_size :
-    does (block (let_var x (Fill sp (id 0) (num 3) (num 7)) no_decs) (Assign sp (Index (Simple (id x)) (num 3)) (num 0) ∷ [])) 9 ≡
-    alike ([], Ended (Broken 3))
+index_of_the_size : does element_after_the_last 9 ≡ alike ([], Ended (Broken 3))
 index_of_the_size = refl
 
 -- if "ab"<"b" then print(concat("a","b"))
@@ -198,21 +96,10 @@ strings_in_order :
     alike (codes "ab", Ended (Exit (pos 0)))
 strings_in_order = refl
 
--- let function f(x:int):int = if x<2 then 1 else x*f(x-1) in exit(f(4)) end
-recursion :
-    does (block (functions (function (id f) (params (x ∷ [])) (Some (id 0))
-    (If sp (binary op.Less (get x) (num 2)) (num 1) (binary op.Times (get x) (call f (binary op.Minus (get x) (num 1) ∷ [])))) no_functions) no_decs)
-    (exit (call f (num 4 ∷ [])) ∷ [])) 9 ≡ alike (ends 24)
+recursion : does factorial_of_four 9 ≡ alike (ends 24)
 recursion = refl
 
--- let function f(i:int):int = let var x:=i function g(k:int) = let function h() = x:=x+k in h(); if k>1 then g(k-1) end
--- in g(3); x end in exit(f(10)) end
-links_three_deep :
-    does_with (x ∷ k ∷ []) (g ∷ []) (block (functions (function (id f) (params (i ∷ [])) (Some (id 0))
-    (block (let_var x (get i) (functions (function (id g) (params (k ∷ [])) None
-    (block (functions (function (id h) [] None (set x (plus (get x) (get k))) no_functions) no_decs)
-    (call h [] ∷ When sp (binary op.Greater (get k) (num 1)) (call g (binary op.Minus (get k) (num 1) ∷ [])) ∷ [])) no_functions) no_decs))
-    (call g (num 3 ∷ []) ∷ get x ∷ [])) no_functions) no_decs) (exit (call f (num 10 ∷ [])) ∷ [])) 20 ≡ alike (ends 16)
+links_three_deep : does_with (x ∷ k ∷ []) (g ∷ []) sum_by_links 20 ≡ alike (ends 16)
 links_three_deep = refl
 
 -- The functions of the runtime alone.

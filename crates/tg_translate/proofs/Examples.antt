@@ -1,122 +1,32 @@
--- Programs that are translated and run, each computed by the definitions themselves. Above each stands its text. An
--- identifier is its byte, and each use has the byte of what it means.
-use Rattle.std.proofs.Common.{◌≡◌, ℕ, ◌-◌, ◌++◌, List, [], ◌∷◌, drop, map, Option, Some, None, Bool, true, false, refl}
+-- Programs that are translated and run, each computed by the definitions themselves. Above each stands its text, but for those
+-- of ExampleTrees. An identifier is its byte, and each use has the byte of what it means.
+use Rattle.std.proofs.Common.{◌≡◌, ℕ, ◌-◌, ◌++◌, List, [], ◌∷◌, drop, map, Some, Bool, true, false, refl}
 use Rattle.std.specs.Prelude.{codes, pos}
-use Rattle.std.specs.List.{list_any}
-use Rattle.std.specs.Prelude.{nat_eq}
 use Prim.Native.String.{String}
-use Rattle.tg_base.specs.declared.ids.Span.{Span}
 use Rattle.tg_state.specs.declared.ends.RunEnd.TheVariants.{Exit, Break as Broken, Overflow}
 use Rattle.tg_state.specs.State.{stack_top}
 use Rattle.tg_simulation.specs.Ran.{Ran, Stop, Ended}
-use Rattle.tg_symbols.specs.Tables.{named}
-use Rattle.tg_syntax.specs.declared.tokens.Ident.{Ident}
-use Rattle.tg_syntax.specs.declared.trees.Param.{Param}
-use Rattle.tg_syntax.specs.declared.trees.Op.{Op}
 use Rattle.tg_syntax.specs.declared.trees.Op.TheVariants as op
-use Rattle.tg_syntax.specs.Tree.{Exp, Nil, Break, Int, Text, Read, Call, Neg, Binary, Make, Fill, Assign, If, When, While, For, Let, Seq, LValue}
-use Rattle.tg_syntax.specs.Tree.{Simple, Field, Index, Exps, no_exps, exp, Inits, no_inits, init, Decs, no_decs, variable, functions, FunDecs}
+use Rattle.tg_syntax.specs.Tree.{Exp, Nil, Break, Read, Neg, Binary, Make, Fill, Assign, If, When, While, For, LValue}
+use Rattle.tg_syntax.specs.Tree.{Simple, Field, Index, no_inits, init, no_decs, functions}
 use Rattle.tg_syntax.specs.Tree.{no_functions, function}
-use Rattle.tg_semantics.specs.declared.standards.Standard.TheVariants as standard
-use Rattle.tg_types.specs.declared.notes.Means.{Means}
-use Rattle.tg_types.specs.declared.notes.Means.TheVariants as means
 use Rattle.tg_tree.specs.declared.operators.Rel.TheVariants as rel
 use Rattle.tg_tree.specs.Tree as tree
-use Rattle.tg_tree.specs.Tree.{Tx, Const, Temp, Service, After, Compare, Ts, Move, Do, Loop, Return}
+use Rattle.tg_tree.specs.Tree.{Const, Temp, Service, After, Compare, Ts, Move, Do, Loop, Return}
 use Rattle.tg_tree.specs.Forms.{sequence}
 use Rattle.tg_tree.specs.Units.{Trees}
 use Rattle.tg_tree.specs.Running.{tree_run}
 use Rattle.tg_runtime.specs.Routines.{runtime}
-use Rattle.tg_translate.specs.Scopes.{Findings}
 use Rattle.tg_translate.specs.Returning.{returning}
 use Rattle.tg_translate.specs.Constructs.{space_for_record}
 use Rattle.tg_translate.specs.Translate.{translated}
 use Rattle.tg_translate.specs.Updates.{begins_with}
-
-abbrev sp : Span
-sp = record { from = 0; to = 0 }
-
-abbrev id : ℕ → Ident
-id n = record { name = record { 0 = n }; span = record { from = n; to = n } }
-
--- Names: variables x, y, i, k; functions f, g, h; fields 20 and 21; 40 compares strings, and 0 is any other operator.
-abbrev x : ℕ
-x = 1
-
-abbrev y : ℕ
-y = 2
-
-abbrev i : ℕ
-i = 3
-
-abbrev k : ℕ
-k = 4
-
-abbrev f : ℕ
-f = 11
-
-abbrev g : ℕ
-g = 12
-
-abbrev h : ℕ
-h = 13
-
-abbrev meanings : List (ℕ × Means)
-meanings =
-    (1, means.Variable 1) ∷ (2, means.Variable 2) ∷ (3, means.Variable 3) ∷ (4, means.Variable 4) ∷ (11, means.Function 11) ∷ (12, means.Function 12)
-    ∷ (13, means.Function 13) ∷ (20, means.Field 0) ∷ (21, means.Field 1) ∷ (30, means.Standard standard.Print) ∷ (31, means.Standard standard.Exit)
-    ∷ (40, means.Content) ∷ []
-
-abbrev findings : (escaping links : List ℕ) → Findings
-findings escaping links = record {
-  meaning = λ at. named at meanings;
-  escapes = λ at. list_any (nat_eq at) escaping;
-  keeps_link = λ at. list_any (nat_eq at) links;
-}
-
-abbrev exps : List Exp → Exps
-exps [] = no_exps
-exps (e ∷ es) = exp e (exps es)
-
-abbrev num : ℕ → Exp
-num n = Int sp n
-
-abbrev get : ℕ → Exp
-get n = Read sp (Simple (id n))
-
-abbrev set : ℕ → Exp → Exp
-set n e = Assign sp (Simple (id n)) e
-
-abbrev call : ℕ → List Exp → Exp
-call n es = Call sp (id n) (exps es)
-
-abbrev seq : List Exp → Exp
-seq es = Seq sp (exps es)
-
-abbrev text : String → Exp
-text chars = Text sp (codes chars)
+use Rattle.tg_translate.proofs.ExampleTrees.{sp, id, x, i, k, f, g, findings, num, get, set, call, seq, text, exit, binary, plus, let_var, block}
+use Rattle.tg_translate.proofs.ExampleTrees.{params, counts_to_three, fields_added, elements_added, element_after_the_last, factorial_of_four}
+use Rattle.tg_translate.proofs.ExampleTrees.{sum_by_links}
 
 abbrev say : String → Exp
 say chars = call 30 (text chars ∷ [])
-
-abbrev exit : Exp → Exp
-exit e = call 31 (e ∷ [])
-
-abbrev binary : Op → Exp → Exp → Exp
-binary o a b = Binary sp o 0 a b
-
-abbrev plus : Exp → Exp → Exp
-plus a b = binary op.Plus a b
-
-abbrev let_var : ℕ → Exp → Decs → Decs
-let_var n e rest = variable (id n) None e rest
-
-abbrev block : Decs → List Exp → Exp
-block ds es = Let sp ds (exps es)
-
-abbrev params : List ℕ → List Param
-params [] = []
-params (n ∷ ns) = record { name = id n; kind = id 0 } ∷ params ns
 
 -- what a program writes, and how it stops
 abbrev seen : Ran → List ℕ × Stop
@@ -189,11 +99,7 @@ choices = refl
 connectives : does (exit (plus (binary op.And (num 1) (num 0)) (binary op.Or (num 0) (num 5)))) 2 ≡ ends 5
 connectives = refl
 
--- let var x:=0 in while x<5 do (x:=x+1; if x=3 then break); exit(x) end
-broken_loop :
-    does (block (let_var x (num 0) no_decs)
-    (While sp (binary op.Less (get x) (num 5)) (seq (set x (plus (get x) (num 1)) ∷ When sp (binary op.Equal (get x) (num 3)) (Break sp) ∷ []))
-    ∷ exit (get x) ∷ [])) 9 ≡ ends 3
+broken_loop : does counts_to_three 9 ≡ ends 3
 broken_loop = refl
 
 -- while 1 do while (break; 1) do print("a")
@@ -207,47 +113,27 @@ greatest_bound = refl
 no_turn : does (For sp (id i) (num 1) (num 0) (say ".")) 9 ≡ ends 0
 no_turn = refl
 
--- let type r={a:int,b:int} var x:r:=r{a=1,b=2} in x.a:=5; exit(x.a+x.b) end
-record_of_two :
-    does (block (let_var x (Make sp (id 0) (init (id 20) (num 1) (init (id 21) (num 2) no_inits))) no_decs)
-    (Assign sp (Field (Simple (id x)) (id 20)) (num 5) ∷ exit (plus (Read sp (Field (Simple (id x)) (id 20))) (Read sp (Field (Simple (id x)) (id 21)))) ∷ []))
-    9 ≡ ends 7
+record_of_two : does fields_added 9 ≡ ends 7
 record_of_two = refl
 
 -- let type r={a:int} var x:r:=nil in x.a:=1 end
 field_of_nil : does (block (let_var x (Nil sp) no_decs) (Assign sp (Field (Simple (id x)) (id 20)) (num 1) ∷ [])) 9 ≡ breaks 2
 field_of_nil = refl
 
--- let type t=array of int var x:=t[3] of 7 in x[2]:=1; exit(x[2]+x[0]) end, and x[3]:=0
-elements :
-    does (block (let_var x (Fill sp (id 0) (num 3) (num 7)) no_decs)
-    (Assign sp (Index (Simple (id x)) (num 2)) (num 1)
-    ∷ exit (plus (Read sp (Index (Simple (id x)) (num 2))) (Read sp (Index (Simple (id x)) (num 0)))) ∷ [])) 9 ≡ ends 8
+elements : does elements_added 9 ≡ ends 8
 elements = refl
 
-index_of_the_size :
-    does (block (let_var x (Fill sp (id 0) (num 3) (num 7)) no_decs) (Assign sp (Index (Simple (id x)) (num 3)) (num 0) ∷ [])) 9 ≡ breaks 3
+index_of_the_size : does element_after_the_last 9 ≡ breaks 3
 index_of_the_size = refl
 
 -- if "ab"<"b" then exit(3)
 strings_in_order : does (When sp (Binary sp op.Less 40 (text "ab") (text "b")) (exit (num 3))) 9 ≡ ends 3
 strings_in_order = refl
 
--- let function f(x:int):int = if x<2 then 1 else x*f(x-1) in exit(f(4)) end
-recursion :
-    does (block (functions (function (id f) (params (x ∷ [])) (Some (id 0))
-    (If sp (binary op.Less (get x) (num 2)) (num 1) (binary op.Times (get x) (call f (binary op.Minus (get x) (num 1) ∷ [])))) no_functions) no_decs)
-    (exit (call f (num 4 ∷ [])) ∷ [])) 9 ≡ ends 24
+recursion : does factorial_of_four 9 ≡ ends 24
 recursion = refl
 
--- let function f(i:int):int = let var x:=i function g(k:int) = let function h() = x:=x+k in h(); if k>1 then g(k-1) end
--- in g(3); x end in exit(f(10)) end
-links_three_deep :
-    does_with (x ∷ k ∷ []) (g ∷ []) (block (functions (function (id f) (params (i ∷ [])) (Some (id 0))
-    (block (let_var x (get i) (functions (function (id g) (params (k ∷ [])) None
-    (block (functions (function (id h) [] None (set x (plus (get x) (get k))) no_functions) no_decs)
-    (call h [] ∷ When sp (binary op.Greater (get k) (num 1)) (call g (binary op.Minus (get k) (num 1) ∷ [])) ∷ [])) no_functions) no_decs))
-    (call g (num 3 ∷ []) ∷ get x ∷ [])) no_functions) no_decs) (exit (call f (num 10 ∷ [])) ∷ [])) 20 ≡ ends 16
+links_three_deep : does_with (x ∷ k ∷ []) (g ∷ []) sum_by_links 20 ≡ ends 16
 links_three_deep = refl
 
 -- Places that are read first and then assigned.
