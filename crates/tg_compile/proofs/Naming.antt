@@ -16,13 +16,13 @@ use Rattle.tg_code_bounds.specs.Allocating.{chosen}
 use Rattle.tg_compile.specs.Passes.{CodeNamesItsOwn}
 
 -- a register that is read, or written, is one that code names before allocation
-read_is : (one : Option Opnd) → munch.has_register munch.is_read one ≡ true →
+read_is : (one : Option Opnd) → has_register munch.is_read one ≡ true →
     has_register is_fixed one ≡ true
 read_is (Some (Reg r)) e = e
 read_is (Some (Temp t)) e = refl
 read_is None e = refl
 
-written_is : (one : Option Opnd) → munch.has_register munch.is_written one ≡ true →
+written_is : (one : Option Opnd) → has_register munch.is_written one ≡ true →
     has_register is_fixed one ≡ true
 written_is (Some (Reg r)) e =
     or_right (r == 0) (r == 29 || munch.is_written r) (or_right (r == 29) (munch.is_written r) e)
@@ -32,9 +32,9 @@ written_is None e = refl
 one_is : (one : Instr) → munch.names_registers one ≡ true → names_registers is_fixed one ≡ true
 one_is one e =
     let n = named one in
-    let to = munch.has_register munch.is_written n.to in
-    let first = munch.has_register munch.is_read n.first in
-    let second = munch.has_register munch.is_read n.second in
+    let to = has_register munch.is_written n.to in
+    let first = has_register munch.is_read n.first in
+    let second = has_register munch.is_read n.second in
     let reads = (and_parts to (first && second) e).1 in
     and_from (has_register is_fixed n.to) (has_register is_fixed n.first && has_register is_fixed n.second)
     (written_is n.to (and_parts to (first && second) e).0)

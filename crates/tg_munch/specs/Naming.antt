@@ -1,12 +1,10 @@
 -- What the instructions of a code name: registers, temporaries, slots, labels and faults.
-use Rattle.std.specs.Prelude.{ℕ, ◌&&◌, ◌||◌, ◌==◌, nat_lt, nat_le, Bool, true, Option, Some}
-use Rattle.std.specs.Prelude.{None}
+use Rattle.std.specs.Prelude.{ℕ, ◌&&◌, ◌||◌, ◌==◌, nat_lt, nat_le, Bool, true}
 use Rattle.tg_tree.specs.Named.{Named, function, literal, fault}
-use Rattle.tg_instr.specs.declared.operands.Opnd.{Opnd}
-use Rattle.tg_instr.specs.declared.operands.Opnd.TheVariants.{Temp, Reg}
 use Rattle.tg_instr.specs.declared.instr.Instr.{Instr}
 use Rattle.tg_instr.specs.declared.instr.Instr.TheVariants.{Address, Call, Fault}
 use Rattle.tg_instr.specs.Renaming.{named}
+use Rattle.tg_instr.specs.Codes.{has_register}
 
 -- $v0, $a0 to $a3, $s0 to $s7 and $ra, which code writes
 abbrev pub is_written : ℕ → Bool
@@ -15,11 +13,6 @@ is_written r = r == 2 || (r == 31 || ((nat_le 4 r && nat_lt r 8) || (nat_le 16 r
 -- these, $zero and $sp, which code reads
 abbrev pub is_read : ℕ → Bool
 is_read r = r == 0 || (r == 29 || is_written r)
-
-abbrev pub has_register : (ℕ → Bool) → Option Opnd → Bool
-has_register allowed (Some (Reg r)) = allowed r
-has_register allowed (Some (Temp t)) = true
-has_register allowed None = true
 
 -- an instruction writes none but those, and reads none but these
 abbrev pub names_registers : Instr → Bool

@@ -14,8 +14,7 @@ use Rattle.tg_types.specs.declared.notes.Means.TheVariants as means
 use Rattle.tg_tree.specs.declared.operators.Bin.{Bin}
 use Rattle.tg_tree.specs.declared.operators.Bin.TheVariants as bin
 use Rattle.tg_tree.specs.Tree as tree
-use Rattle.tg_tree.specs.Tree.{Tx, Const, Temp, FrameAddress, After, Txs, no_txs, tx, Cond, Ts, Move, Stms, no_stms, stm}
-use Rattle.tg_tree.specs.Units.{Trees, lifted_units}
+use Rattle.tg_tree.specs.Tree.{Tx, Const, Temp, FrameAddress, After, Txs, no_txs, Cond, Ts, Move, Stms, no_stms, stm}
 use Rattle.tg_tree.specs.Shapes.{are_flat}
 use Rattle.tg_translate.specs.declared.homes.Home.{Home}
 use Rattle.tg_translate.specs.declared.homes.Callee.{Callee}
@@ -38,12 +37,12 @@ use Rattle.tg_translate.specs.Scopes.{no_value, nowhere, frame_at, home_place, v
 use Rattle.tg_translate.specs.Returning.{given_back}
 use Rattle.tg_translate.specs.Functions.{gives_nothing, closing}
 use Rattle.tg_translate.specs.Translate.{connective, with_left, chosen_arm, choice, assignment, declaration_of, Begun}
-use Rattle.tg_translate_laws.proofs.Spreading.{tx_length, tx_room, cond_length, cond_room, ts_length, ts_room, stms_length, stms_room, txs_length, txs_room}
+use Rattle.tg_translate_laws.proofs.Spreading.{tx_length, tx_room, cond_length, cond_room, ts_length, ts_room, stms_length, stms_room, txs_room}
 use Rattle.tg_translate_laws.proofs.Spreading.{less_ts, given_back_most}
 use Rattle.tg_translate_laws.proofs.Sizing.{most_arguments, made_length, made_room, place_length, place_room, held_length, held_room, followed_size, put_size}
 use Rattle.tg_translate_laws.proofs.Sizing.{dropped_size, test_size, statement_size, deliver_size, behind_size, tested_size, chosen_size, own_place_size}
 use Rattle.tg_translate_laws.proofs.Sizing.{read_size, store_size, operand_size, read_held_size, field_size, element_size, routine_size, comparison_size}
-use Rattle.tg_translate_laws.proofs.Sizing.{binary_size, product_size, divide_size, quotient_size, count_size}
+use Rattle.tg_translate_laws.proofs.Sizing.{binary_size, product_size, divide_size, quotient_size, count_size, lifted_at_most, arguments_at_most}
 use Rattle.tg_stack_bounds.proofs.Leading.{LevelTable, Keeps, Crosses}
 use Rattle.tg_stack_bounds.proofs.Giving.{Gives, bind, then_quiet, given, weaken, any_fresh, any_arms, any_declared, IsPaidBody}
 
@@ -72,14 +71,6 @@ uses most = weight 1 most
 
 abbrev pub calls : (crossed : ℕ) → Weight → Weight
 calls most n = weight (1 + n.nodes) (most + n.hops)
-
-lifted_at_most : (b : Bool) → lifted_units Trees b ≤ 2
-lifted_at_most true = omega arith
-lifted_at_most false = omega arith
-
-arguments_at_most : (xs : Txs) → txs_length xs ≤ most_arguments xs
-arguments_at_most no_txs = omega arith
-arguments_at_most (tx x xs) = let h = arguments_at_most xs in let k = lifted_at_most (are_flat xs) in omega (arith, h, k)
 
 -- What a text of so many nodes pays for.
 

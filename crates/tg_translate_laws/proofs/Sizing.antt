@@ -70,7 +70,7 @@ abbrev pub place_room : Storage → ℕ
 place_room (in_temp t) = 0
 place_room (at_address ss a) = stms_room ss + tx_room a
 
-lifted_at_most : (b : Bool) → lifted_units Trees b ≤ 2
+pub lifted_at_most : (b : Bool) → lifted_units Trees b ≤ 2
 lifted_at_most true = omega arith
 lifted_at_most false = omega arith
 
@@ -93,7 +93,7 @@ pub joined_size : (xs : Txs) (x : Tx) →
 joined_size no_txs x = (omega arith, omega arith, omega arith)
 joined_size (tx y xs) x = let h = joined_size xs x in (omega (arith, h.0), omega (arith, h.1), omega (arith, h.2))
 
-arguments_at_most : (xs : Txs) → txs_length xs ≤ most_arguments xs
+pub arguments_at_most : (xs : Txs) → txs_length xs ≤ most_arguments xs
 arguments_at_most no_txs = omega arith
 arguments_at_most (tx x xs) = let h = arguments_at_most xs in let k = lifted_at_most (are_flat xs) in omega (arith, h, k)
 
