@@ -1,20 +1,21 @@
 -- What the passes give is what the definition gives.
 use Rattle.std.proofs.Common.{◌≡◌, ◌≤◌, ◌∙◌, ℕ, List, length, Ok, Err, Some, None, refl, sym}
+use Rattle.tg_base.specs.declared.faulty.Faulty.{Faulty}
+use Rattle.tg_base.specs.declared.faulty.Faulty.TheVariants as fault
+use Rattle.tg_asm_text.specs.declared.keywords.AsmRule.{AsmRule}
 use Rattle.tg_asm_text.specs.declared.keywords.AsmRule.TheVariants.{A9}
 use Rattle.tg_asm_text.specs.Lines.{lines}
 use Rattle.tg_asm_text.specs.Assembly.{Layout, Made, blank, unmade, layout, make, entry, last_line, assembled}
 use Rattle.tg_asm.specs.Layouts.{GivesLayout, IsLaidOut, IsSmall}
 use Rattle.tg_asm.specs.Images.{GivesMade, GivesImage}
-use Rattle.tg_asm.specs.declared.faults.AsmFault.{AsmFault}
-use Rattle.tg_asm.specs.declared.faults.AsmFault.TheVariants as fault
 use Rattle.tg_asm.proofs.Alike.{make_alike, entry_alike}
 use Rattle.tg_asm.proofs.Sizes.{made_even}
 
-pub first_over : (text : List ℕ) (e : AsmFault) → GivesLayout (layout 1 blank (lines text)) (Err e) → GivesImage (assembled text) (Err e)
+pub first_over : (text : List ℕ) (e : Faulty AsmRule ℕ) → GivesLayout (layout 1 blank (lines text)) (Err e) → GivesImage (assembled text) (Err e)
 first_over text (fault.Bad rule line) h = rw h refl
 first_over text fault.Memory h = tt
 
-pub second_over : (text : List ℕ) (l : Layout) (e : AsmFault) → IsLaidOut (layout 1 blank (lines text)) l →
+pub second_over : (text : List ℕ) (l : Layout) (e : Faulty AsmRule ℕ) → IsLaidOut (layout 1 blank (lines text)) l →
     GivesMade (make 1 l unmade (lines text)) (Err e) → GivesImage (assembled text) (Err e)
 second_over text l (fault.Bad rule line) i h =
     let g = i.same in

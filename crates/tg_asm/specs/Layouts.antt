@@ -1,14 +1,14 @@
 -- Layouts of the code, as the definition has them.
 use Rattle.std.specs.Prelude.{ℕ, ◌≤◌, ◌≡◌, ⊤, List, [], ◌∷◌, map, Option, Some, None, Result, Ok}
 use Rattle.std.specs.Prelude.{Err}
+use Rattle.tg_base.specs.declared.faulty.Faulty.{Faulty}
+use Rattle.tg_base.specs.declared.faulty.Faulty.TheVariants as fault
 use Rattle.tg_state.specs.State.{most_words, most_bytes}
 use Rattle.tg_asm_text.specs.Assembly as assembly
 use Rattle.tg_asm_text.specs.declared.keywords.AsmRule.{AsmRule}
 use Rattle.tg_asm_text.specs.declared.keywords.AsmRule.TheVariants.{A4}
 use Rattle.tg_asm_text.specs.declared.keywords.Segment.TheVariants.{Code}
 use Rattle.tg_asm.specs.Entries.{Lined, first_again, label_of, lined_of}
-use Rattle.tg_asm.specs.declared.faults.AsmFault.{AsmFault}
-use Rattle.tg_asm.specs.declared.faults.AsmFault.TheVariants as fault
 use Rattle.tg_asm.specs.declared.faults.Refused.{Refused}
 use Rattle.tg_asm.specs.declared.faults.Refused.TheVariants as refused
 use Rattle.tg_asm.specs.declared.layouts.Draft.{Draft}
@@ -100,7 +100,8 @@ pub record IsLaidOut (meant : Result assembly.Layout assembly.Fault) (l : assemb
   pub alike : IsAlike laid l
 
 -- A call gives a layout alike that of the definition, or its fault; or memory was wanting.
-abbrev pub GivesLayout : Result assembly.Layout assembly.Fault → Result Layout AsmFault → Type 0
+abbrev pub GivesLayout : Result assembly.Layout assembly.Fault →
+    Result Layout (Faulty AsmRule ℕ) → Type 0
 GivesLayout meant (Ok l) = IsLaidOut meant (layout_of l)
 GivesLayout meant (Err (fault.Bad rule line)) = meant ≡ Err (record { rule = rule; line = line })
 GivesLayout meant (Err fault.Memory) = ⊤

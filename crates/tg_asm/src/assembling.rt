@@ -68,7 +68,7 @@ pub fn assemble(alloc: Global, text: &[u8]) -> Result<Image, AsmFault>
         }),
         None => Err(AsmFault::Bad {
             rule: AsmRule::A9,
-            line: last_line(text),
+            at: last_line(text),
         }),
     }
 }

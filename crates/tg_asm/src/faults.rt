@@ -1,36 +1,16 @@
 use std::alloc::{AllocError, AllocFailed};
 pub use tg_asm_text::AsmRule;
-use tg_base::Memory;
-use thiserror::Error;
+use tg_base::{Faulty, Memory};
 
-/// Why a text has no image here.
-#[derive(Clone, Copy, Debug, PartialEq, Eq, Error)]
-pub enum AsmFault {
-    /// The text's first fault, and its line, counted from 1.
-    #[error("fault of the assembly text")]
-    Bad { rule: AsmRule, line: u64 },
-    /// Want of memory.
-    #[error("out of memory")]
-    Memory,
-}
-
-impl From<Memory> for AsmFault {
-    ghost use Rattle.std.specs.Prelude.{◌≡◌};
-    ghost use Rattle.tg_asm.specs.declared.faults.AsmFault.TheVariants.{Memory};
-
-    ghost from_gives = { λ _ e. e ≡ Memory };
-
-    fn from(_want: Memory) -> AsmFault {
-        AsmFault::Memory
-    }
-}
+/// Why a text has no image here: its first fault, on its line, counted from 1, or out of memory.
+pub type AsmFault = Faulty<AsmRule, u64>;
 
 /// Why an item can't be read.
 #[derive(Clone, Copy)]
 pub(crate) enum Refused {
     /// A fault of its line.
     Rule(AsmRule),
-    /// Want of memory.
+    /// Out of memory.
     Memory,
 }
 

@@ -344,12 +344,12 @@ pub(crate) fn lay_out<'a>(alloc: Global, text: &'a [u8]) -> Result<Layout<'a>, A
         Err(line) => {
             return Err(AsmFault::Bad {
                 rule: AsmRule::A4,
-                line,
+                at: line,
             });
         }
     };
     match ended? {
-        Some((rule, line)) => Err(AsmFault::Bad { rule, line }),
+        Some((rule, at)) => Err(AsmFault::Bad { rule, at }),
         None => Ok(Layout {
             words,
             starts,

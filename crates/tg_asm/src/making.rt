@@ -226,7 +226,7 @@ pub(crate) fn make<'a>(alloc: Global, layout: &Layout<'a>, text: &'a [u8]) -> Re
         let (line, more) = split_line(rest);
         match made.add_line(alloc, layout, line) {
             Ok(()) => {}
-            Err(Refused::Rule(rule)) => return Err(AsmFault::Bad { rule, line: number }),
+            Err(Refused::Rule(rule)) => return Err(AsmFault::Bad { rule, at: number }),
             Err(Refused::Memory) => return Err(AsmFault::Memory),
         }
         match more {

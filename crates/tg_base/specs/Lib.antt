@@ -1,5 +1,6 @@
 pub mod Words
 pub mod Causes
+pub mod FirstFaults
 pub mod Files
 pub mod Lines
 pub mod Writes

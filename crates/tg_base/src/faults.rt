@@ -1,6 +1,6 @@
 use std::alloc::{AllocError, AllocFailed};
 
-/// Want of memory. It says nothing of the arguments, and no clause ties it to one.
+/// Out of memory. It says nothing of the arguments, and no clause ties it to one.
 #[derive(Clone, Copy, Debug, PartialEq, Eq)]
 pub struct Memory;
 

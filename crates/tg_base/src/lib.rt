@@ -6,6 +6,7 @@
 mod arithmetic;
 mod decimals;
 mod faults;
+mod faulty;
 mod holding;
 mod ids;
 mod lines;
@@ -24,6 +25,7 @@ pub use arithmetic::{
 };
 pub use decimals::decimal;
 pub use faults::{Failed, Memory};
+pub use faulty::Faulty;
 pub use holding::keep_with;
 pub use ids::{Label, Name, Span, Temp};
 pub use lines::place;

@@ -1,29 +1,28 @@
 -- A text is a tree or has a fault that isn't one of types; and it has one canonical text.
 use Rattle.std.proofs.Common.{ℕ, ◌≡◌, ◌⊎◌, inl, inr, List, refl, sym, ap, subst, ◌∙◌}
 use Rattle.std.specs.Prelude.{Err}
+use Rattle.tg_base.specs.FirstFaults.{OnBad}
+use Rattle.tg_base.specs.declared.faulty.Faulty.{Faulty as Refused}
+use Rattle.tg_base.specs.declared.faulty.Faulty.TheVariants.{Bad, Memory}
 use Rattle.tg_syntax.specs.declared.tokens.Spanned.{Spanned}
 use Rattle.tg_syntax.specs.declared.trees.Program.{Program}
 use Rattle.tg_syntax.specs.Tree.{Exp}
 use Rattle.tg_lexer.proofs.Excludes.{fault_excludes}
-use Rattle.tg_parser.specs.Answers.{OnBad, HasSyntaxFault}
-use Rattle.tg_parser.specs.declared.faults.SyntaxFault.{SyntaxFault}
-use Rattle.tg_parser.specs.declared.faults.SyntaxFault.TheVariants as syntax
+use Rattle.tg_parser.specs.declared.faults.SyntaxRule.{SyntaxRule}
+use Rattle.tg_parser.specs.Answers.{HasSyntaxFault}
 use Rattle.tg_correct.specs.Sources.{HasTokens, HasTree}
 use Rattle.tg_format.specs.Canonical.{canonical, tokens_of}
 use Rattle.tg_driver.specs.declared.answers.Answer.{Answer}
 use Rattle.tg_driver.specs.declared.answers.Answer.TheVariants.{Faulty, OutOfMemory, Written, Unwritten}
 use Rattle.tg_driver.specs.declared.faults.Rule.{Rule}
-use Rattle.tg_driver.specs.declared.faults.Rule.TheVariants.{Lexical, Syntactic, Typed}
 use Rattle.tg_driver.specs.declared.faults.Fault.{Fault}
-use Rattle.tg_driver.specs.declared.refusals.Refusal.{Refusal}
-use Rattle.tg_driver.specs.declared.refusals.Refusal.TheVariants as refusal
 use Rattle.tg_driver.specs.Calls.{Stream, Stays, HasFailed, Takes, nothing, all, part}
-use Rattle.tg_driver.specs.Faults.{HasFault, lexical, syntactic, ill_typed}
+use Rattle.tg_driver.specs.Faults.{HasFault, IsUntyped, lexical, syntactic, ill_typed}
 use Rattle.tg_driver.specs.Found.{IsRefused}
 use Rattle.tg_driver.specs.OfFiles.{OrMemory, HasStarted, StaysBeforeStart}
 use Rattle.tg_driver.specs.Readings.{IsSyntaxFaultOf, IsUntypedRefusalOf}
 use Rattle.tg_driver.specs.Writing.{TakesText}
-use Rattle.tg_driver.specs.FormatMode.{Formats, IsUntyped, IsUntypedFault, IsRefusedUntyped, IsFormatted, IsFormattable, IsFaultyOrFormatted, IsTree, TakeOneText}
+use Rattle.tg_driver.specs.FormatMode.{Formats, IsUntypedFault, IsRefusedUntyped, IsFormatted, IsFormattable, IsFaultyOrFormatted, IsTree, TakeOneText}
 use Rattle.tg_driver.proofs.TokensOnce.{tokens_once}
 use Rattle.tg_driver.proofs.FaultsOnce.{one_fault, fault_once_told, no_tree}
 
@@ -65,17 +64,13 @@ of_formatted out source Unwritten kept h = failed h.takes
     failed (part same some f front) = kept f
 of_formatted out source _ kept h = absurd h
 
--- a source that is refused, and not for want of memory
-rule_is_untyped : (text : List ℕ) (why : Refusal) (r : Rule) (at : ℕ) → IsUntypedRefusalOf text why → (why ≡ refusal.Memory → ⊥) →
+-- a source that is refused by a rule
+rule_is_untyped : (text : List ℕ) (why : Refused Rule ℕ) (r : Rule) (at : ℕ) → IsUntypedRefusalOf text why → (why ≡ Memory → ⊥) →
     HasFault text r at → IsUntyped r
-rule_is_untyped text (refusal.Lex rule to) r at h other f =
-    let same = one_fault text (Lexical rule) r to at h.is_of f in subst IsUntyped same.rule_is tt
-rule_is_untyped text (refusal.Syntax rule to) r at h other f =
-    let same = one_fault text (Syntactic rule) r to at h.is_of f in subst IsUntyped same.rule_is tt
-rule_is_untyped text (refusal.Typing rule to) r at h other f = absurd h.is_untyped
-rule_is_untyped text refusal.Memory r at h other f = absurd (other refl)
+rule_is_untyped text (Bad rule to) r at h other f = subst IsUntyped (one_fault text rule r to at h.is_of f).rule_is h.is_untyped
+rule_is_untyped text Memory r at h other f = absurd (other refl)
 
-pub refused_untyped : (text : List ℕ) (why : Refusal) (answer : Answer) → IsUntypedRefusalOf text why → (why ≡ refusal.Memory → ⊥) →
+pub refused_untyped : (text : List ℕ) (why : Refused Rule ℕ) (answer : Answer) → IsUntypedRefusalOf text why → (why ≡ Memory → ⊥) →
     IsRefused text answer → IsRefusedUntyped text answer
 refused_untyped text why (Faulty f) h other r = record { is_fault = r; is_untyped = rule_is_untyped text why f.rule r.at h other r.has }
 refused_untyped text why OutOfMemory h other r = tt
@@ -123,10 +118,10 @@ take_one_text out other source f g =
     record { written = f.written; takes = f.takes; takes_too = subst T (formats_once source g.written f.written g.is_of f.is_of) g.takes }
 
 -- tokens that are no program
-pub bad_tokens : (text : List ℕ) (names : List (List ℕ)) (tokens : List Spanned) (fault : SyntaxFault) → HasTokens text names tokens →
+pub bad_tokens : (text : List ℕ) (names : List (List ℕ)) (tokens : List Spanned) (fault : Refused SyntaxRule ℕ) → HasTokens text names tokens →
     OnBad {T = Program} (Err fault) (λ rule at. HasSyntaxFault tokens rule at) → IsSyntaxFaultOf text fault
-bad_tokens text names tokens (syntax.Bad rule at) h k = record { names = names; tokens = tokens; has_tokens = h; fault = k }
-bad_tokens text names tokens syntax.Memory h k = tt
+bad_tokens text names tokens (Bad rule at) h k = record { names = names; tokens = tokens; has_tokens = h; fault = k }
+bad_tokens text names tokens Memory h k = tt
 
 -- a tree of these tokens, and their canonical text
 pub formats_of : (text : List ℕ) (names : List (List ℕ)) (tokens : List Spanned) (program : Exp) (written : List ℕ) → HasTree text names tokens program →

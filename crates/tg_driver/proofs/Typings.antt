@@ -1,11 +1,12 @@
 -- Trees of a text are typed under the conditions that the checker asks for, and what it answers is the text's.
 use Rattle.std.proofs.Common.{ℕ, ◌≡◌, List, length, refl}
 use Rattle.std.specs.List.Sorted.{IsPermutation}
+use Rattle.tg_base.specs.declared.faulty.Faulty.{Faulty}
+use Rattle.tg_base.specs.declared.faulty.Faulty.TheVariants.{Bad, Memory}
 use Rattle.tg_syntax.specs.Tree.{Exp}
 use Rattle.tg_syntax.specs.NamesWithin.{NamesWithin}
 use Rattle.tg_syntax.specs.Beginnings.{BeginsApart}
-use Rattle.tg_types.specs.declared.faults.TypeFault.{TypeFault}
-use Rattle.tg_types.specs.declared.faults.TypeFault.TheVariants.{Bad, Memory}
+use Rattle.tg_types.specs.declared.faults.TypeRule.{TypeRule}
 use Rattle.tg_types.specs.declared.notes.Note.{Note}
 use Rattle.tg_types.specs.Accepted.{Finding, finding, accepted, at_fault}
 use Rattle.tg_types.specs.Answered.{Accepts, AreRising, IsAt}
@@ -43,7 +44,7 @@ abbrev source_of : (text : List ℕ) (names : List (List ℕ)) (program : Exp) (
     finding names program ≡ accepted notes → IsSourceOf text names t.tokens program
 source_of text names program t notes e = record { tree = t.tree; notes = notes; well_typed = e }
 
-pub typed_fault : (text : List ℕ) (names : List (List ℕ)) (program : Exp) (fault : TypeFault) → HasNamedTree text names program →
+pub typed_fault : (text : List ℕ) (names : List (List ℕ)) (program : Exp) (fault : Faulty TypeRule ℕ) → HasNamedTree text names program →
     IsAt (finding names program) fault → IsTypeFaultOf text fault
 typed_fault text names program (Bad rule at) t h = record { names = names; tokens = t.tokens; program = program; tree = t.tree; fault = h }
 typed_fault text names program Memory t h = tt

@@ -30,6 +30,12 @@ pub data HasFault (text : List ℕ) : Rule → ℕ → Type 0 where
       finding names program ≡ at_fault rule at →
       HasFault text (Typed rule) at
 
+-- a rule of bytes or of tokens
+abbrev pub IsUntyped : Rule → Type 0
+IsUntyped (Lexical rule) = Unit {0}
+IsUntyped (Syntactic rule) = Unit {0}
+IsUntyped (Typed rule) = ⊥
+
 -- the fault as it is told, with line and column of its byte
 pub record IsFaultOf (text : List ℕ) (fault : Fault) : Type 0 where
   pub at : ℕ

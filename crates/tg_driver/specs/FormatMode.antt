@@ -9,11 +9,9 @@ use Rattle.tg_correct.specs.Sources.{HasTree}
 use Rattle.tg_driver.specs.declared.answers.Answer.{Answer}
 use Rattle.tg_driver.specs.declared.answers.Answer.TheVariants.{Faulty, OutOfMemory, Written}
 use Rattle.tg_driver.specs.declared.answers.Answer.TheVariants.{Unwritten}
-use Rattle.tg_driver.specs.declared.faults.Rule.{Rule}
-use Rattle.tg_driver.specs.declared.faults.Rule.TheVariants.{Lexical, Syntactic, Typed}
 use Rattle.tg_driver.specs.declared.faults.Fault.{Fault}
 use Rattle.tg_driver.specs.Calls.{Shelved, Stream, Streams, Stays}
-use Rattle.tg_driver.specs.Faults.{IsFaultOf}
+use Rattle.tg_driver.specs.Faults.{IsFaultOf, IsUntyped}
 use Rattle.tg_driver.specs.OfFiles.{OfFile, UntouchedBeforeStart}
 use Rattle.tg_driver.specs.Writing.{WritesText, TakesText}
 
@@ -25,18 +23,12 @@ pub record Formats (text written : List ℕ) : Type 0 where
   pub tree : HasTree text names tokens program
   pub written_is : written ≡ canonical names (tokens_of tokens)
 
--- a rule of bytes or of tokens
-abbrev pub IsUntyped : Rule → Type 0
-IsUntyped (Lexical rule) = Unit {0}
-IsUntyped (Syntactic rule) = Unit {0}
-IsUntyped (Typed rule) = ⊥
-
 -- the first fault of a text that is no tree
 pub record IsUntypedFault (text : List ℕ) (fault : Fault) : Type 0 where
   pub is_fault : IsFaultOf text fault
   pub is_untyped : IsUntyped fault.rule
 
--- a source that is refused, but for no fault of types: that fault, or want of memory
+-- a source that is refused, but for no fault of types: that fault, or out of memory
 abbrev pub IsRefusedUntyped : List ℕ → Answer → Type 0
 IsRefusedUntyped text (Faulty fault) = IsUntypedFault text fault
 IsRefusedUntyped text OutOfMemory = Unit {0}

@@ -6,15 +6,13 @@ ghost use Rattle.tg_driver.specs.CheckMode.{IsChecked};
 ghost use Rattle.tg_driver.specs.Found.{IsRefused};
 ghost use Rattle.tg_driver.specs.OfFiles.{OfFile, OrMemory};
 ghost use Rattle.tg_driver.specs.Readings.{HasNamedTree, IsRefusalOf};
-ghost use Rattle.tg_driver.specs.Faults.{HasFault};
 
 use crate::answers::{Answer, unread};
 use crate::faults::{Fault, Rule};
 use crate::reading::{LONGEST, NamedProgram, ill_typed, parse_source};
-use crate::refusals::Refusal;
 use std::alloc::Global;
 use std::mem::forget;
-use tg_base::{Shelf, place};
+use tg_base::{Faulty, Shelf, place};
 use tg_command::Command;
 use tg_types::check;
 
@@ -57,25 +55,15 @@ fn check_program(alloc: Global, text: &[u8], source: &NamedProgram) -> Answer
 }
 
 /// The answer of a source that is refused.
-pub(crate) fn refused(text: &[u8], refusal: Refusal) -> Answer
+pub(crate) fn refused(text: &[u8], refusal: Faulty<Rule>) -> Answer
     requires { IsRefusalOf text.now refusal }
     ensures { IsRefused text.now result }
 {
     match refusal {
-        Refusal::Lex { rule, at } => faulty(text, Rule::Lexical(rule), at),
-        Refusal::Syntax { rule, at } => faulty(text, Rule::Syntactic(rule), at),
-        Refusal::Typing { rule, at } => faulty(text, Rule::Typed(rule), at),
-        Refusal::Memory => Answer::OutOfMemory,
+        Faulty::Bad { rule, at } => Answer::Faulty(Fault {
+            rule,
+            place: place(text, at),
+        }),
+        Faulty::Memory => Answer::OutOfMemory,
     }
-}
-
-/// The answer of a source whose first fault stands at a byte.
-fn faulty(text: &[u8], rule: Rule, at: u32) -> Answer
-    requires { HasFault text.now rule at }
-    ensures { IsRefused text.now result }
-{
-    Answer::Faulty(Fault {
-        rule,
-        place: place(text, at),
-    })
 }

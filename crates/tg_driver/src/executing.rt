@@ -12,8 +12,8 @@ ghost use Rattle.tg_driver.specs.Watching.{HasWatchedRun};
 use crate::answers::{Answer, unread};
 use crate::streams::Streams;
 use std::alloc::Global;
-use tg_asm::{AsmFault, assemble};
-use tg_base::{Shelf, Sink, Source};
+use tg_asm::assemble;
+use tg_base::{Faulty, Shelf, Sink, Source};
 use tg_command::Command;
 use tg_isa::Image;
 use tg_machine::{Machine, load};
@@ -73,8 +73,8 @@ fn execute_text<I: Source, O: Sink>(
     }
     match assemble(alloc, text) {
         Ok(image) => execute(alloc, command, &image, streams, watchers),
-        Err(AsmFault::Bad { rule, line }) => Answer::BadLine(rule, line),
-        Err(AsmFault::Memory) => Answer::OutOfMemory,
+        Err(Faulty::Bad { rule, at }) => Answer::BadLine(rule, at),
+        Err(Faulty::Memory) => Answer::OutOfMemory,
     }
 }
 

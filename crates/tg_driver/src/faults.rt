@@ -11,8 +11,8 @@ use tg_parser::SyntaxRule;
 use tg_types::TypeRule;
 
 /// A rule that a source breaks.
-#[derive(Clone, Copy)]
-pub(crate) enum Rule {
+#[derive(Clone, Copy, Debug, PartialEq, Eq)]
+pub enum Rule {
     Lexical(LexRule),
     Syntactic(SyntaxRule),
     Typed(TypeRule),

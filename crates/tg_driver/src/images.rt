@@ -5,8 +5,8 @@ ghost use Rattle.tg_asm.specs.Images as meant;
 ghost use Rattle.tg_compile.specs.Compiling.{HasImage};
 
 use std::alloc::Global;
-use tg_asm::{AsmFault, assemble};
-use tg_base::Memory;
+use tg_asm::assemble;
+use tg_base::{Faulty, Memory};
 use tg_isa::Image;
 
 /// The image of an assembly text that has one, as that of a compiled source.
@@ -18,7 +18,7 @@ pub(crate) fn image_of(alloc: Global, assembly: &[u8]) -> Result<Image, Memory>
 {
     match assemble(alloc, assembly) {
         Ok(image) => Ok(image),
-        Err(AsmFault::Bad { rule: _, line: _ }) => unreachable!(),
-        Err(AsmFault::Memory) => Err(Memory),
+        Err(Faulty::Bad { rule: _, at: _ }) => unreachable!(),
+        Err(Faulty::Memory) => Err(Memory),
     }
 }

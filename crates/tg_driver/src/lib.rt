@@ -14,7 +14,6 @@ mod generating;
 mod images;
 mod laws;
 mod reading;
-mod refusals;
 mod running;
 mod streams;
 mod telling;
@@ -24,11 +23,11 @@ mod writing;
 
 pub use answers::usage;
 pub use compiling::compile;
+pub use faults::Rule;
 pub use laws::{
     answers_are_complete, answers_are_exact, answers_are_safe, commands_are_as_meant, formats_once,
     one_answer, reports_are_exact, runs_are_as_meant, runs_are_exact, sources_are_never_stuck,
 };
-pub use refusals::Refusal;
 pub use tg_compile::Compiled;
 pub use tg_generate::generate;
 pub use tools::Tools;

@@ -15,9 +15,9 @@ use Rattle.tg_syntax.specs.LexicalFaults.{LeadsTo, FaultAt, HasLexicalFault, met
 use Rattle.tg_syntax.proofs.Longest.{begins, is_mark}
 use Rattle.tg_lexer.specs.Fronts.{IsGap, blank, comment, IsToken, IsRead}
 use Rattle.tg_lexer.specs.declared.fronts.Front.TheVariants.{One}
-use Rattle.tg_lexer.specs.declared.faults.LexFault.{LexFault}
-use Rattle.tg_lexer.specs.declared.faults.LexFault.TheVariants.{Bad, Memory}
-use Rattle.tg_lexer.specs.Answers.{OnBad}
+use Rattle.tg_base.specs.declared.faulty.Faulty.{Faulty}
+use Rattle.tg_base.specs.declared.faulty.Faulty.TheVariants.{Bad, Memory}
+use Rattle.tg_base.specs.FirstFaults.{OnBad}
 use Rattle.tg_lexer.specs.Numbering.{named, all_named, idents, ident_text, names_after}
 use Rattle.tg_lexer.proofs.Basics.{clash, not_cons}
 use Rattle.tg_lexer.proofs.SignSteps.{sign_mark}
@@ -220,7 +220,7 @@ pub scanned_fault : (text : List ℕ) (initial names : List (List ℕ)) (at : �
     Scanned text initial names at tokens → length text ≤ 262144 → FaultAt at (drop at text) rule place → HasLexicalFault text rule place
 scanned_fault text initial names at tokens rule place h le f = met le (h.leads at (drop at text) LeadsTo.here) f
 
-pub read_bad : (T : Type 0) (text : List ℕ) (initial names new : List (List ℕ)) (at : ℕ) (tokens : List Spanned) (fault : LexFault) →
+pub read_bad : (T : Type 0) (text : List ℕ) (initial names new : List (List ℕ)) (at : ℕ) (tokens : List Spanned) (fault : Faulty LexRule ℕ) →
     Scanned text initial names at tokens → length text ≤ 262144 → IsRead new at (drop at text) (Err fault) →
     OnBad {T = T} (Err fault) (λ rule place. HasLexicalFault text rule place)
 read_bad T text initial names new at tokens (Bad rule place) h le f = scanned_fault text initial names at tokens rule place h le f

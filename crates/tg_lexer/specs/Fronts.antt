@@ -2,6 +2,9 @@
 use Rattle.std.specs.Prelude.{ℕ, ◌+◌, ◌≡◌, ◌≢◌, ◌≤◌, List, [], ◌∷◌, ◌++◌, length, take, drop, Bool}
 use Rattle.std.specs.Prelude.{false, ◌==◌, IsTrue, Option, Some, None, Result, Ok, Err, MatchBool}
 use Rattle.std.specs.Prelude.{not, ◌&&◌}
+use Rattle.tg_base.specs.declared.faulty.Faulty.{Faulty}
+use Rattle.tg_base.specs.declared.faulty.Faulty.TheVariants as fault
+use Rattle.tg_syntax.specs.declared.faults.LexRule.{LexRule}
 use Rattle.tg_syntax.specs.declared.tokens.Token.{Token}
 use Rattle.tg_syntax.specs.declared.tokens.Sign.{Sign}
 use Rattle.tg_syntax.specs.Spellings.{Spells, sign_text, is_blank, is_letter, is_digit, AllAre}
@@ -16,8 +19,6 @@ use Rattle.tg_lexer.specs.declared.escapes.Escaped.{Escaped}
 use Rattle.tg_lexer.specs.declared.escapes.Escaped.TheVariants.{Byte, Nothing, Cut, Bad}
 use Rattle.tg_lexer.specs.declared.strings.Quoted.{Quoted}
 use Rattle.tg_lexer.specs.declared.strings.Quoted.TheVariants.{Whole, Fault}
-use Rattle.tg_lexer.specs.declared.faults.LexFault.{LexFault}
-use Rattle.tg_lexer.specs.declared.faults.LexFault.TheVariants as fault
 use Rattle.tg_lexer.specs.declared.fronts.Front.{Front}
 use Rattle.tg_lexer.specs.declared.fronts.Front.TheVariants.{Gap, One}
 
@@ -119,7 +120,7 @@ IsFront names text (Gap size) = IsGap text size
 IsFront names text (One one size) = IsToken names text one size
 
 -- a front of the text is read, or its fault
-abbrev pub IsRead : List (List ℕ) → ℕ → List ℕ → Result Front LexFault → Type 0
+abbrev pub IsRead : List (List ℕ) → ℕ → List ℕ → Result Front (Faulty LexRule ℕ) → Type 0
 IsRead names at text (Ok front) = IsFront names text front
 IsRead names at text (Err (fault.Bad rule place)) = FaultAt at text rule place
 IsRead names at text (Err fault.Memory) = Unit {0}

@@ -1,4 +1,3 @@
 pub mod Fronts
 pub mod Numbering
-pub mod Answers
 pub mod Spelled

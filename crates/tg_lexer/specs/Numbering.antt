@@ -1,11 +1,12 @@
 -- How the names of a text are numbered.
 use Rattle.std.specs.Prelude.{ℕ, ◌-◌, List, [], ◌∷◌, ◌++◌, take, drop, cond, fold, Result, Ok}
 use Rattle.tg_base.specs.Interned.{is_among}
+use Rattle.tg_base.specs.declared.faulty.Faulty.{Faulty}
 use Rattle.tg_base.specs.declared.ids.Span.{Span}
+use Rattle.tg_syntax.specs.declared.faults.LexRule.{LexRule}
 use Rattle.tg_syntax.specs.declared.tokens.Token.{Token}
 use Rattle.tg_syntax.specs.declared.tokens.Token.TheVariants.{Ident}
 use Rattle.tg_syntax.specs.declared.tokens.Spanned.{Spanned}
-use Rattle.tg_lexer.specs.declared.faults.LexFault.{LexFault}
 use Rattle.tg_lexer.specs.declared.fronts.Front.{Front}
 use Rattle.tg_lexer.specs.declared.fronts.Front.TheVariants.{One}
 
@@ -28,6 +29,6 @@ idents text [] = []
 idents text (t ∷ tokens) = ident_text text t.token t.span ++ idents text tokens
 
 -- the names after a front of the text is read
-abbrev pub names_after : List (List ℕ) → List ℕ → Result Front LexFault → List (List ℕ)
+abbrev pub names_after : List (List ℕ) → List ℕ → Result Front (Faulty LexRule ℕ) → List (List ℕ)
 names_after names text (Ok (One (Ident n) size)) = named names (take size text)
 names_after names text _ = names

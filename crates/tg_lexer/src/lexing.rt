@@ -1,8 +1,8 @@
 ghost use Rattle.std.specs.Prelude.{◌≡◌, ◌≢◌, ◌≤◌, ◌<◌, ◌+◌, ◌++◌, ◌^◌, ℕ, List, length, IfOk};
+ghost use Rattle.tg_base.specs.FirstFaults.{OnBad};
 ghost use Rattle.tg_syntax.specs.Lexing.{Lexes, spanned as spans};
 ghost use Rattle.tg_syntax.specs.LexicalFaults.{HasLexicalFault};
 ghost use Rattle.tg_syntax.specs.SyntaxFaults.{EndsOnce};
-ghost use Rattle.tg_lexer.specs.Answers.{OnBad};
 ghost use Rattle.tg_lexer.specs.Numbering.{all_named, idents};
 
 use crate::faults::LexFault;

@@ -258,7 +258,7 @@ static IMAGES: [&str; 33] = [
 fn shown(alloc: Global, text: &[u8]) -> Result<String, Fail> {
     match assemble(alloc, text) {
         Ok(image) => show_image(alloc, &image),
-        Err(AsmFault::Bad { rule, line }) => Ok(format!(in alloc; "{rule:?} {line}")?),
+        Err(AsmFault::Bad { rule, at }) => Ok(format!(in alloc; "{rule:?} {at}")?),
         Err(AsmFault::Memory) => Ok(String::from_str(alloc, "memory")?),
     }
 }
@@ -317,7 +317,7 @@ fn ends_shown(alloc: Global, text: &[u8]) -> Result<String, Fail> {
             let last = code.last().copied().unwrap_or(0);
             Ok(format!(in alloc; "{first:08x} {last:08x}")?)
         }
-        Err(AsmFault::Bad { rule, line }) => Ok(format!(in alloc; "{rule:?} {line}")?),
+        Err(AsmFault::Bad { rule, at }) => Ok(format!(in alloc; "{rule:?} {at}")?),
         Err(AsmFault::Memory) => Ok(String::from_str(alloc, "memory")?),
     }
 }
@@ -364,7 +364,7 @@ fn random_bytes(rt: HostRuntime) -> Result<(), Fail> {
     for seed in 0..500 {
         let text = random(alloc, seed)?;
         match assemble(alloc, &text) {
-            Err(AsmFault::Bad { line, .. }) => assert!(rt; 1 <= line && line <= 301),
+            Err(AsmFault::Bad { at, .. }) => assert!(rt; 1 <= at && at <= 301),
             _ => assert!(rt; false, "seed {seed}"),
         }
     }

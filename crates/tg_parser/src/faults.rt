@@ -1,6 +1,5 @@
 use std::alloc::{AllocError, AllocFailed};
-use tg_base::Memory;
-use thiserror::Error;
+use tg_base::{Faulty, Memory};
 
 /// A rule of syntax: S1 for an unexpected token, S2 for a nesting above 256.
 #[derive(Clone, Copy, Debug, PartialEq, Eq)]
@@ -9,26 +8,9 @@ pub enum SyntaxRule {
     S2,
 }
 
-/// Why tokens aren't a program: a rule and the first byte of the token where it is broken, or want
+/// Why tokens aren't a program: the first fault of syntax, at the first byte of its token, or out
 /// of memory.
-#[derive(Clone, Copy, Debug, PartialEq, Eq, Error)]
-pub enum SyntaxFault {
-    #[error("a fault of syntax at byte {at}")]
-    Bad { rule: SyntaxRule, at: u32 },
-    #[error("no more memory")]
-    Memory,
-}
-
-impl From<Memory> for SyntaxFault {
-    ghost use Rattle.std.specs.Prelude.{◌≡◌};
-    ghost use Rattle.tg_parser.specs.declared.faults.SyntaxFault.TheVariants.{Memory as NoMemory};
-
-    ghost from_gives = { λ _ e. e ≡ NoMemory };
-
-    fn from(_value: Memory) -> Self {
-        SyntaxFault::Memory
-    }
-}
+pub type SyntaxFault = Faulty<SyntaxRule>;
 
 /// Why reading stops.
 #[derive(Clone, Copy)]

@@ -3,10 +3,10 @@ use Rattle.std.specs.Prelude.{Result, Ok, Err, Option, None, IfErr, IsErr, IsTru
 use Rattle.std.specs.Result.{IsErrAnd}
 use Rattle.std.proofs.Common.{◌≡◌, ℕ, List, [], ◌++◌, false, sym, ap, ap₂, ◌∙◌, subst}
 use Rattle.std.specs.List.Sorted.{IsPermutation, IsNonDecreasingBy}
+use Rattle.tg_base.specs.declared.faulty.Faulty.{Faulty}
 use Rattle.tg_syntax.specs.Tree.{Exp}
 use Rattle.tg_syntax.specs.Beginnings.{BeginsApart}
 use Rattle.tg_types.specs.declared.faults.TypeRule.{TypeRule}
-use Rattle.tg_types.specs.declared.faults.TypeFault.{TypeFault}
 use Rattle.tg_types.specs.declared.limits.Limit.{Limit}
 use Rattle.tg_types.specs.declared.notes.Note.{Note}
 use Rattle.tg_types.specs.declared.states.CheckingState.{CheckingState}
@@ -35,7 +35,7 @@ at_first names body s P b t n given =
     subst (λ g. P (typed body (outermost names) g)) n (given (outermost names) (ap₂ (λ x y. opened names x y) (sym b) (sym t)))
 
 -- a fault of typing
-fails : (names : List (List ℕ)) (body : Exp) (e : TypeFault) → Fails e (typed body (outermost names) begin) → IsAt (finding names body) e
+fails : (names : List (List ℕ)) (body : Exp) (e : Faulty TypeRule ℕ) → Fails e (typed body (outermost names) begin) → IsAt (finding names body) e
 fails names body _ (bad d) = ap (λ c. finding_of body c) d
 fails names body _ no_memory = tt
 
@@ -47,7 +47,7 @@ never : IsTrue false → ⊥
 never h = cc
 
 -- what a `?` returns
-pub passed : {X : Type 0} (names : List (List ℕ)) (body : Exp) (r : Result X TypeFault) (e : TypeFault) → IsErr r × IsErrAnd r (λ x. x ≡ e) →
+pub passed : {X : Type 0} (names : List (List ℕ)) (body : Exp) (r : Result X (Faulty TypeRule ℕ)) (e : Faulty TypeRule ℕ) → IsErr r × IsErrAnd r (λ x. x ≡ e) →
     Fails e (typed body (outermost names) begin) → IfErr r (λ x. IsAt (finding names body) x)
 passed names body (Ok x) e h f = absurd (never h.0)
 passed names body (Err x) e h f = subst (λ y. IsAt (finding names body) y) (sym h.1) (fails names body e f)

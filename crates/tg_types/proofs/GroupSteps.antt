@@ -12,15 +12,16 @@ use Rattle.std.proofs.Common.{◌≡◌, ℕ, zero, suc, ◌+◌, ◌-◌, ◌<�
 use Rattle.std.proofs.Common.{sym, ap, ◌∙◌, subst, arith, append_assoc, eq-eqb}
 use Rattle.std.proofs.lemmas.Bool.{eqb-true}
 use Rattle.std.proofs.lemmas.List.{length-map, get_or-map, get_or_default}
+use Rattle.tg_base.specs.declared.faulty.Faulty.{Faulty}
+use Rattle.tg_base.specs.declared.faulty.Faulty.TheVariants.{Bad}
 use Rattle.tg_syntax.specs.declared.tokens.Ident.{Ident}
 use Rattle.tg_syntax.specs.declared.trees.Param.{Param}
 use Rattle.tg_syntax.specs.declared.trees.TypeDec.{TypeDec as CodeTypeDec}
 use Rattle.tg_syntax.specs.Tree.{TypeDec}
 use Rattle.tg_syntax.specs.Plain.{plain_type, plain_form}
 use Rattle.tg_syntax.specs.NamesWithin.{TypesWithin, FormWithin, ParamsWithin, NameIsWithin}
+use Rattle.tg_types.specs.declared.faults.TypeRule.{TypeRule}
 use Rattle.tg_types.specs.declared.faults.TypeRule.TheVariants.{T16, T18, T19}
-use Rattle.tg_types.specs.declared.faults.TypeFault.{TypeFault}
-use Rattle.tg_types.specs.declared.faults.TypeFault.TheVariants.{Bad}
 use Rattle.tg_types.specs.Checks.{Check, Noted, fine, keep, give, refuse, add_shape, ◌>>=◌}
 use Rattle.tg_types.specs.Scopes.{Scope, name_of, at_of, standard_bindings, standard_types}
 use Rattle.tg_types.specs.Types.{Ty, Shape}
@@ -278,7 +279,7 @@ fields_one {ps = ps} {k = k} a l g f h = record {
 
 pub fields_repeat : {S : Type 0} {T : Type 0} {names : List (List ℕ)} {s : CheckingState} {places : HashMap ℕ ℕ S}
     {seen : HashSet ℕ T} {ps : List Param} {k : ℕ}
-    {e : TypeFault} (a : FieldsOn names s places seen ps k) → k < length ps →
+    {e : Faulty TypeRule ℕ} (a : FieldsOn names s places seen ps k) → k < length ps →
     ((n : Noted) → Fails e (keep T18 (field_at ps k).name.span.from (not (stands_in (field_at ps k).name.name.0 a.earlier)) n)) →
     (whole : List TypeDec) (scope : Scope) (in_loop : Bool) → HasPlaces places whole → scope ≡ scope_of names s in_loop → (n : Noted) →
     Fails e (known_fields whole scope [] ps n)
@@ -287,7 +288,7 @@ fields_repeat {ps = ps} {k = k} a l g whole scope in_loop p e n =
 
 pub fields_unknown : {S : Type 0} {T : Type 0} {names : List (List ℕ)} {s : CheckingState} {places : HashMap ℕ ℕ S}
     {seen : HashSet ℕ T} {ps : List Param} {k : ℕ}
-    {e : TypeFault} (a : FieldsOn names s places seen ps k) → k < length ps →
+    {e : Faulty TypeRule ℕ} (a : FieldsOn names s places seen ps k) → k < length ps →
     ((n : Noted) → keep T18 (field_at ps k).name.span.from (not (stands_in (field_at ps k).name.name.0 a.earlier)) n ≡ fine tt n) →
     ((whole : List TypeDec) (scope : Scope) (in_loop : Bool) → HasPlaces places whole → scope ≡ scope_of names s in_loop → (n : Noted) →
     Fails e (known whole scope (field_at ps k).kind n)) → (whole : List TypeDec) (scope : Scope) (in_loop : Bool) → HasPlaces places whole →
@@ -319,7 +320,7 @@ forms_one group {k = k} d a l i f =
     }
 
 pub forms_fail : {S : Type 0} {names : List (List ℕ)} {s : CheckingState} {places : HashMap ℕ ℕ S} (group : List CodeTypeDec) {k : ℕ}
-    (d : CodeTypeDec) {e : TypeFault} → FormsOn names s places (map plain_type group) k → k < length group → d ≡ get_or group k d →
+    (d : CodeTypeDec) {e : Faulty TypeRule ℕ} → FormsOn names s places (map plain_type group) k → k < length group → d ≡ get_or group k d →
     ((whole : List TypeDec) (scope : Scope) (in_loop : Bool) → HasPlaces places whole → scope ≡ scope_of names s in_loop → (n : Noted) →
     Fails e (known_form whole scope (plain_form d.form) n)) → (whole : List TypeDec) (scope : Scope) (in_loop : Bool) → HasPlaces places whole →
     scope ≡ scope_of names s in_loop → (n : Noted) → Fails e (known_forms whole (map plain_type group) scope n)
@@ -361,7 +362,7 @@ pub ends_one : (group : List CodeTypeDec) {whole : List TypeDec} {k : ℕ} (d : 
 ends_one group {whole = whole} {k = k} d a l i f =
     record { onward = λ n. a.onward n ∙ (ap (λ x. chains_end whole x n) (plain_here group k d l i) ∙ step _ _ (f n) refl) }
 
-pub ends_fail : (group : List CodeTypeDec) {whole : List TypeDec} {k : ℕ} (d : CodeTypeDec) {e : TypeFault} → EndsOn whole (map plain_type group) k →
+pub ends_fail : (group : List CodeTypeDec) {whole : List TypeDec} {k : ℕ} (d : CodeTypeDec) {e : Faulty TypeRule ℕ} → EndsOn whole (map plain_type group) k →
     k < length group → d ≡ get_or group k d → ((n : Noted) → Fails e (keep T19 d.name.span.from (has_end (chain_of whole d.name)) n)) → (n : Noted) →
     Fails e (chains_end whole (map plain_type group) n)
 ends_fail group {whole = whole} {k = k} d a l i f n =
@@ -431,7 +432,8 @@ added_one {names = names} {now = now} group {k = k} d a l i kept f = record {
       (f in_loop scope (same_scope names a.keeps h)) refl);
 }
 
-pub added_fail : {names : List (List ℕ)} {first : CheckingState} {now : CheckingState} (group : List CodeTypeDec) {k : ℕ} (d : CodeTypeDec) {e : TypeFault} →
+pub added_fail : {names : List (List ℕ)} {first : CheckingState} {now : CheckingState} (group : List CodeTypeDec) {k : ℕ} (d : CodeTypeDec)
+    {e : Faulty TypeRule ℕ} →
     AddedOn names first now (map plain_type group) k → k < length group → d ≡ get_or group k d →
     ((in_loop : Bool) (scope : Scope) → scope ≡ scope_of names now in_loop → Fails e (add_form scope d.name.span.from (plain_form d.form) (noted_of now))) →
     (in_loop : Bool) (scope : Scope) → scope ≡ scope_of names first in_loop → Fails e (add_forms scope (map plain_type group) (noted_of first))
@@ -505,12 +507,13 @@ unfolding add_shape
 shape_is at shape old e = ap (λ (x : List (ℕ × Shape)). fine tt (record old { shapes = x })) (sym e)
 
 -- behind the last check, the scope is given
-pub scope_after : (r : Result (Unit {0}) TypeFault) (names : List (List ℕ)) (in_loop : Bool) (mid new : CheckingState) (inner : Scope) (m : Check (Unit {0}))
+pub scope_after : (r : Result (Unit {0}) (Faulty TypeRule ℕ)) (names : List (List ℕ)) (in_loop : Bool) (mid new : CheckingState) (inner : Scope)
+    (m : Check (Unit {0}))
     (n : Noted) → inner ≡ scope_of names mid in_loop → OnOk r (Keeps mid new) → AnswersCheck r (λ _. tt) (noted_of new) (m n) →
     AnswersCheck r (λ _. scope_of names new in_loop) (noted_of new) ((m >>= λ _. give inner) n)
 scope_after (Ok x) names in_loop mid new inner m n h k g = step _ _ g (given_is (sym (same_scope names k h)))
 scope_after (Err e) names in_loop mid new inner m n h k g = fails_first _ _ g
 
-pub opens_after : (r : Result (Unit {0}) TypeFault) (old mid new : CheckingState) → Opens old mid → OnOk r (Keeps mid new) → OnOk r (Opens old new)
+pub opens_after : (r : Result (Unit {0}) (Faulty TypeRule ℕ)) (old mid new : CheckingState) → Opens old mid → OnOk r (Keeps mid new) → OnOk r (Opens old new)
 opens_after (Ok x) old mid new o k = opens_both o (opens_keep k)
 opens_after (Err e) old mid new o k = tt

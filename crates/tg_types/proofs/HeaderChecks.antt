@@ -6,6 +6,7 @@ use Rattle.std.specs.HashSet.{HashSet}
 use Rattle.std.proofs.Common.{◌≡◌, ℕ, zero, suc, ◌+◌, ◌<◌, List, [], ◌∷◌, ◌++◌, length, drop, get_or, Bool, not, refl, sym, ap, ◌∙◌, subst}
 use Rattle.std.proofs.Common.{append_assoc, append-nil, length-append, arith}
 use Rattle.std.proofs.lemmas.List.{get_or_default}
+use Rattle.tg_base.specs.declared.faulty.Faulty.{Faulty}
 use Rattle.tg_syntax.specs.declared.tokens.Ident.{Ident}
 use Rattle.tg_syntax.specs.declared.trees.Param.{Param}
 use Rattle.tg_syntax.specs.declared.trees.FunDec.{FunDec as CodeFunDec}
@@ -17,7 +18,6 @@ use Rattle.tg_syntax.specs.NamesWithin.{NameIsWithin, ParamsWithin, KindWithin, 
 use Rattle.tg_syntax.proofs.ListLaws.{plain_functions-items}
 use Rattle.tg_types.specs.declared.faults.TypeRule.{TypeRule}
 use Rattle.tg_types.specs.declared.faults.TypeRule.TheVariants.{T18}
-use Rattle.tg_types.specs.declared.faults.TypeFault.{TypeFault}
 use Rattle.tg_types.specs.declared.states.CheckingState.{CheckingState}
 use Rattle.tg_types.specs.Types.{Ty}
 use Rattle.tg_types.specs.Checks.{Check, CheckResult, Noted, fine, fault, on_fine, keep, give, ◌>>=◌}
@@ -61,7 +61,7 @@ fresh_one {rule = rule} {fs = fs} {k = k} f a l i g h = record {
   onward = λ n. a.onward n ∙ (ap (λ x. no_repeats rule a.earlier (function_names (functions_of x)) n) (from_here fs k f l i) ∙ step _ _ (g n) refl);
 }
 
-pub fresh_fails : {S : Type 0} {rule : TypeRule} {seen : HashSet ℕ S} {fs : List CodeFunDec} {k : ℕ} (f : CodeFunDec) {e : TypeFault}
+pub fresh_fails : {S : Type 0} {rule : TypeRule} {seen : HashSet ℕ S} {fs : List CodeFunDec} {k : ℕ} (f : CodeFunDec) {e : Faulty TypeRule ℕ}
     (a : FreshOn rule seen fs k) → k < length fs → f ≡ get_or fs k f →
     ((n : Noted) → Fails e (keep rule f.name.span.from (not (stands_in f.name.name.0 a.earlier)) n)) → (n : Noted) →
     Fails e (no_repeats rule [] (function_names (functions_of fs)) n)
@@ -79,7 +79,7 @@ pub record TypesOn {S : Type 0} (names : List (List ℕ)) (s : CheckingState) (s
   pub has : HasNames seen earlier
   pub gives : (scope : Scope) (in_loop : Bool) → scope ≡ scope_of names s in_loop → (n : Noted) (more : List Ty) →
       param_types scope earlier (drop k ps) n ≡ fine more n → param_types scope [] ps n ≡ fine (ts ++ more) n
-  pub fails : (scope : Scope) (in_loop : Bool) → scope ≡ scope_of names s in_loop → (n : Noted) (e : TypeFault) →
+  pub fails : (scope : Scope) (in_loop : Bool) → scope ≡ scope_of names s in_loop → (n : Noted) (e : Faulty TypeRule ℕ) →
       Fails e (param_types scope earlier (drop k ps) n) → Fails e (param_types scope [] ps n)
 
 pub types_none : {S : Type 0} {names : List (List ℕ)} {s : CheckingState} {seen : HashSet ℕ S} {ps : List Param} →
@@ -105,7 +105,7 @@ types_one {ps = ps} {ts = ts} {k = k} p t a l i g h has u = record {
 
 -- a name that is repeated, and a type that isn't known
 pub types_repeat : {S : Type 0} {names : List (List ℕ)} {s : CheckingState} {seen : HashSet ℕ S} {ps : List Param}
-    {ts : List Ty} {k : ℕ} (p : Param) {e : TypeFault}
+    {ts : List Ty} {k : ℕ} (p : Param) {e : Faulty TypeRule ℕ}
     (a : TypesOn names s seen ps ts k) → k < length ps → p ≡ get_or ps k p →
     ((n : Noted) → Fails e (keep T18 p.name.span.from (not (stands_in p.name.name.0 a.earlier)) n)) → (scope : Scope) (in_loop : Bool) →
     scope ≡ scope_of names s in_loop → (n : Noted) → Fails e (param_types scope [] ps n)
@@ -113,7 +113,7 @@ types_repeat {ps = ps} {k = k} p a l i g scope in_loop d n =
     a.fails scope in_loop d n _ (last_fails (ap (λ x. param_types scope a.earlier x n) (from_here ps k p l i)) (fails_first _ _ (g n)))
 
 pub types_unknown : {S : Type 0} {names : List (List ℕ)} {s : CheckingState} {seen : HashSet ℕ S} {ps : List Param}
-    {ts : List Ty} {k : ℕ} (p : Param) {e : TypeFault}
+    {ts : List Ty} {k : ℕ} (p : Param) {e : Faulty TypeRule ℕ}
     (a : TypesOn names s seen ps ts k) → k < length ps → p ≡ get_or ps k p →
     ((n : Noted) → keep T18 p.name.span.from (not (stands_in p.name.name.0 a.earlier)) n ≡ fine tt n) →
     ((scope : Scope) (in_loop : Bool) → scope ≡ scope_of names s in_loop → (n : Noted) → Fails e (type_named p.kind scope n)) →
@@ -158,7 +158,7 @@ pub record HeadersOn (names : List (List ℕ)) (s : CheckingState) (fs : List Co
   pub count : k ≡ length ss
   pub gives : (scope : Scope) (in_loop : Bool) → scope ≡ scope_of names s in_loop → (n : Noted) (more : List Signature) →
       headers (functions_of (drop k fs)) scope n ≡ fine more n → headers (functions_of fs) scope n ≡ fine (ss ++ more) n
-  pub fails : (scope : Scope) (in_loop : Bool) → scope ≡ scope_of names s in_loop → (n : Noted) (e : TypeFault) →
+  pub fails : (scope : Scope) (in_loop : Bool) → scope ≡ scope_of names s in_loop → (n : Noted) (e : Faulty TypeRule ℕ) →
       Fails e (headers (functions_of (drop k fs)) scope n) → Fails e (headers (functions_of fs) scope n)
 
 pub headers_none : {names : List (List ℕ)} {s : CheckingState} {fs : List CodeFunDec} → HeadersOn names s fs [] 0
@@ -179,7 +179,7 @@ headers_one {fs = fs} {ss = ss} {k = k} f h a l i g u = record {
       (plain f.body) (functions_of (drop (k + 1) fs)) scope n) (fails_then _ _ (g scope in_loop d n) (fails_first _ _ b)));
 }
 
-pub headers_fail : {names : List (List ℕ)} {s : CheckingState} {fs : List CodeFunDec} {ss : List Signature} {k : ℕ} (f : CodeFunDec) {e : TypeFault}
+pub headers_fail : {names : List (List ℕ)} {s : CheckingState} {fs : List CodeFunDec} {ss : List Signature} {k : ℕ} (f : CodeFunDec) {e : Faulty TypeRule ℕ}
     (a : HeadersOn names s fs ss k) → k < length fs → f ≡ get_or fs k f →
     ((scope : Scope) (in_loop : Bool) → scope ≡ scope_of names s in_loop → (n : Noted) → Fails e (header_of f.params f.result scope n)) →
     (scope : Scope) (in_loop : Bool) → scope ≡ scope_of names s in_loop → (n : Noted) → Fails e (headers (functions_of fs) scope n)

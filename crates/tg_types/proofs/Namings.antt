@@ -2,13 +2,13 @@
 use Rattle.std.specs.Prelude.{Option, Some, None, ◌==◌, if◌then◌else◌, slice_get}
 use Rattle.std.specs.Option.{option_map}
 use Rattle.std.proofs.Common.{◌≡◌, ℕ, zero, suc, ◌+◌, ◌<◌, List, [], ◌∷◌, ◌++◌, Bool, true, false, refl, sym, ap, ◌∙◌, subst, arith, eq-eqb}
+use Rattle.tg_base.specs.declared.faulty.Faulty.{Faulty}
+use Rattle.tg_base.specs.declared.faulty.Faulty.TheVariants.{Bad}
 use Rattle.tg_syntax.specs.declared.tokens.Ident.{Ident}
 use Rattle.tg_semantics.specs.declared.standards.Standard.{Standard}
 use Rattle.tg_semantics.specs.Environments.{standards}
 use Rattle.tg_types.specs.declared.faults.TypeRule.{TypeRule}
 use Rattle.tg_types.specs.declared.faults.TypeRule.TheVariants.{T1, T2, T3, T4, T5}
-use Rattle.tg_types.specs.declared.faults.TypeFault.{TypeFault}
-use Rattle.tg_types.specs.declared.faults.TypeFault.TheVariants.{Bad}
 use Rattle.tg_types.specs.declared.notes.Means.TheVariants as means
 use Rattle.tg_types.specs.Types.{Ty}
 use Rattle.tg_symbols.specs.Tables.{named}
@@ -106,7 +106,7 @@ pub type_unknown : (x : Ident) (scope : Scope) {types : List (ℕ × Ty)} (n : N
 unfolding refuse
 type_unknown x _ n h e = ap (λ ts. present T3 (at_of x) (named (name_of x) ts) n) h ∙ ap (λ o. present T3 (at_of x) o n) (sym e)
 
-pub bad_is : {A : Type 0} {rule : TypeRule} {at : ℕ} {e : TypeFault} {c : CheckResult A} → e ≡ Bad rule at → c ≡ fault rule at → Fails e c
+pub bad_is : {A : Type 0} {rule : TypeRule} {at : ℕ} {e : Faulty TypeRule ℕ} {c : CheckResult A} → e ≡ Bad rule at → c ≡ fault rule at → Fails e c
 bad_is {c = c} h d = subst (λ e. Fails e c) (sym h) (bad d)
 
 -- bindings by their names
@@ -138,7 +138,7 @@ pub variable_found : (x : Ident) {o : Option Binding} {b : Binding} {at : ℕ} {
     note (at_of x) (means.Variable at) n ≡ fine tt n' → variable_of x o n ≡ fine t n'
 variable_found x {b = b} n h e d = ap (λ o. variable_of x o n) h ∙ variable_case x b _ e d
 
-variable_case_fails : (x : Ident) (b : Binding) {at : ℕ} {t : Ty} (n : Noted) {e : TypeFault} → Some (at, t) ≡ variable_in b →
+variable_case_fails : (x : Ident) (b : Binding) {at : ℕ} {t : Ty} (n : Noted) {e : Faulty TypeRule ℕ} → Some (at, t) ≡ variable_in b →
     Fails e (note (at_of x) (means.Variable at) n) → Fails e (variable_of x (Some b) n)
 unfolding inside
 variable_case_fails x (variable_at a u loop) {at} {t} n {e} i d =
@@ -147,7 +147,7 @@ variable_case_fails x (variable_at a u loop) {at} {t} n {e} i d =
 variable_case_fails x (function_at a s) _ i d = grind arith
 variable_case_fails x (standard_one f) _ i d = grind arith
 
-pub variable_fails : (x : Ident) {o : Option Binding} {b : Binding} {at : ℕ} {t : Ty} (n : Noted) {e : TypeFault} → o ≡ Some b →
+pub variable_fails : (x : Ident) {o : Option Binding} {b : Binding} {at : ℕ} {t : Ty} (n : Noted) {e : Faulty TypeRule ℕ} → o ≡ Some b →
     Some (at, t) ≡ variable_in b → Fails e (note (at_of x) (means.Variable at) n) → Fails e (variable_of x o n)
 variable_fails x {b = b} n {e = e} h i d = subst (λ o. Fails e (variable_of x o n)) (sym h) (variable_case_fails x b _ i d)
 
@@ -182,7 +182,7 @@ pub function_found : (f : Ident) {o : Option Binding} {b : Binding} {at : ℕ} {
     Some (at, s) ≡ function_in b → note (at_of f) (means.Function at) n ≡ fine tt n' → function_of f o n ≡ fine s n'
 function_found f {b = b} n h e d = ap (λ o. function_of f o n) h ∙ function_case f b _ e d
 
-function_case_fails : (f : Ident) (b : Binding) {at : ℕ} {s : Signature} (n : Noted) {e : TypeFault} → Some (at, s) ≡ function_in b →
+function_case_fails : (f : Ident) (b : Binding) {at : ℕ} {s : Signature} (n : Noted) {e : Faulty TypeRule ℕ} → Some (at, s) ≡ function_in b →
     Fails e (note (at_of f) (means.Function at) n) → Fails e (function_of f (Some b) n)
 unfolding inside
 function_case_fails f (function_at a u) {at} {s} n {e} i d =
@@ -191,7 +191,7 @@ function_case_fails f (function_at a u) {at} {s} n {e} i d =
 function_case_fails f (variable_at a t loop) _ i d = grind arith
 function_case_fails f (standard_one g) _ i d = grind arith
 
-pub function_fails : (f : Ident) {o : Option Binding} {b : Binding} {at : ℕ} {s : Signature} (n : Noted) {e : TypeFault} → o ≡ Some b →
+pub function_fails : (f : Ident) {o : Option Binding} {b : Binding} {at : ℕ} {s : Signature} (n : Noted) {e : Faulty TypeRule ℕ} → o ≡ Some b →
     Some (at, s) ≡ function_in b → Fails e (note (at_of f) (means.Function at) n) → Fails e (function_of f o n)
 function_fails f {b = b} n {e = e} h i d = subst (λ o. Fails e (function_of f o n)) (sym h) (function_case_fails f b _ i d)
 
@@ -209,7 +209,7 @@ pub standard_found : (f : Ident) {o : Option Binding} {g : Standard} (n : Noted)
     note (at_of f) (means.Standard g) n ≡ fine tt n' → function_of f o n ≡ fine (signature g) n'
 standard_found f n h d = ap (λ o. function_of f o n) h ∙ step _ _ d given
 
-pub standard_fails : (f : Ident) {o : Option Binding} {g : Standard} (n : Noted) {e : TypeFault} → o ≡ Some (standard_one g) →
+pub standard_fails : (f : Ident) {o : Option Binding} {g : Standard} (n : Noted) {e : Faulty TypeRule ℕ} → o ≡ Some (standard_one g) →
     Fails e (note (at_of f) (means.Standard g) n) → Fails e (function_of f o n)
 standard_fails f n {e = e} h d = subst (λ o. Fails e (function_of f o n)) (sym h) (fails_first _ _ d)
 

@@ -2,9 +2,9 @@
 use Rattle.std.specs.Prelude.{Result, Ok, Err, IsErr, IsTrue}
 use Rattle.std.specs.Result.{IsErrAnd}
 use Rattle.std.proofs.Common.{◌≡◌, ℕ, List, [], ◌∷◌, ◌++◌, Bool, true, false, refl, sym, ap, ◌∙◌, subst, append_assoc, length}
+use Rattle.tg_base.specs.declared.faulty.Faulty.{Faulty}
 use Rattle.tg_syntax.specs.declared.tokens.Ident.{Ident}
 use Rattle.tg_types.specs.declared.faults.TypeRule.{TypeRule}
-use Rattle.tg_types.specs.declared.faults.TypeFault.{TypeFault}
 use Rattle.tg_types.specs.declared.states.CheckingState.{CheckingState}
 use Rattle.tg_types.specs.declared.notes.Note.{Note}
 use Rattle.tg_types.specs.declared.notes.Means.{Means}
@@ -39,44 +39,46 @@ unfolding give
 given = refl
 
 -- a fault here, or behind what went well
-pub fails_first : {A : Type 0} {B : Type 0} (m : Check A) (next : A → Check B) {n : Noted} {e : TypeFault} → Fails e (m n) → Fails e ((m >>= next) n)
+pub fails_first : {A : Type 0} {B : Type 0} (m : Check A) (next : A → Check B) {n : Noted} {e : Faulty TypeRule ℕ} → Fails e (m n) → Fails e ((m >>= next) n)
 unfolding ◌>>=◌
 fails_first _ next (bad d) = bad (ap (λ x. on_fine x next) d)
 fails_first _ _ no_memory = no_memory
 
-pub fails_then : {A : Type 0} {B : Type 0} (m : Check A) (next : A → Check B) {n : Noted} {n' : Noted} {a : A} {e : TypeFault} → m n ≡ fine a n' →
+pub fails_then : {A : Type 0} {B : Type 0} (m : Check A) (next : A → Check B) {n : Noted} {n' : Noted} {a : A} {e : Faulty TypeRule ℕ} → m n ≡ fine a n' →
     Fails e (next a n') → Fails e ((m >>= next) n)
 unfolding ◌>>=◌
 fails_then _ next {e = e} d f = subst (λ x. Fails e (on_fine x next)) (sym d) f
 
-pub two_fail_first : {A : Type 0} {B : Type 0} {C : Type 0} (m : Check A) (f : A → Check B) (g : B → Check C) (n : Noted) {e : TypeFault} →
+pub two_fail_first : {A : Type 0} {B : Type 0} {C : Type 0} (m : Check A) (f : A → Check B) (g : B → Check C) (n : Noted) {e : Faulty TypeRule ℕ} →
     Fails e ((m >>= f) n) → Fails e ((m >>= λ a. f a >>= g) n)
 unfolding ◌>>=◌
 two_fail_first m f g n (bad d) = bad (grouped (m n) f g ∙ ap (λ x. on_fine x g) d)
 two_fail_first _ _ _ _ no_memory = no_memory
 
 pub two_fail_then : {A : Type 0} {B : Type 0} {C : Type 0} (m : Check A) (f : A → Check B) (g : B → Check C)
-    (n : Noted) {n' : Noted} {b : B} {e : TypeFault} → (m >>= f) n ≡ fine b n' → Fails e (g b n') → Fails e ((m >>= λ a. f a >>= g) n)
+    (n : Noted) {n' : Noted} {b : B} {e : Faulty TypeRule ℕ} → (m >>= f) n ≡ fine b n' → Fails e (g b n') → Fails e ((m >>= λ a. f a >>= g) n)
 unfolding ◌>>=◌
 two_fail_then m f g n {e = e} d h = subst (λ x. Fails e x) (sym (grouped (m n) f g)) (subst (λ x. Fails e (on_fine x g)) (sym d) h)
 
 -- what a `?` returns
-pub ended : {X A : Type 0} (r : Result X TypeFault) (value : X → A) (after : Noted) {c : CheckResult A} {e : TypeFault} → IsErr r × IsErrAnd r (λ x. x ≡ e) →
+pub ended : {X A : Type 0} (r : Result X (Faulty TypeRule ℕ)) (value : X → A) (after : Noted) {c : CheckResult A} {e : Faulty TypeRule ℕ} →
+    IsErr r × IsErrAnd r (λ x. x ≡ e) →
     Fails e c → AnswersCheck r value after c
 ended (Ok x) value after h f = absurd (no_truth h.0)
 ended (Err x) value after {c = c} h f = subst (λ y. Fails y c) (sym h.1) f
 
-pub leads_ended : {X A : Type 0} (r : Result X TypeFault) (scope : Scope) (after : Noted)
-    (onward : Scope → Noted → CheckResult A) {c : CheckResult A} {e : TypeFault} → IsErr r × IsErrAnd r (λ x. x ≡ e) → Fails e c → Leads r scope after onward c
+pub leads_ended : {X A : Type 0} (r : Result X (Faulty TypeRule ℕ)) (scope : Scope) (after : Noted)
+    (onward : Scope → Noted → CheckResult A) {c : CheckResult A} {e : Faulty TypeRule ℕ} → IsErr r × IsErrAnd r (λ x. x ≡ e) → Fails e c →
+    Leads r scope after onward c
 leads_ended (Ok x) scope after onward h f = absurd (no_truth h.0)
 leads_ended (Err x) scope after onward {c = c} h f = subst (λ y. Fails y c) (sym h.1) f
 
 -- an answer that is handed on
-pub carry : {X A : Type 0} (r : Result X TypeFault) (value : X → A) (after : Noted) {c c' : CheckResult A} → c ≡ c' → AnswersCheck r value after c' →
+pub carry : {X A : Type 0} (r : Result X (Faulty TypeRule ℕ)) (value : X → A) (after : Noted) {c c' : CheckResult A} → c ≡ c' → AnswersCheck r value after c' →
     AnswersCheck r value after c
 carry r value after d g = subst (λ c. AnswersCheck r value after c) (sym d) g
 
-pub last_fails : {A : Type 0} {c c' : CheckResult A} {e : TypeFault} → c ≡ c' → Fails e c' → Fails e c
+pub last_fails : {A : Type 0} {c c' : CheckResult A} {e : Faulty TypeRule ℕ} → c ≡ c' → Fails e c' → Fails e c
 last_fails {e = e} d f = subst (λ c. Fails e c) (sym d) f
 
 -- the scope of a state whose open names are the same
@@ -155,13 +157,13 @@ pub kept_steps : {A : Type 0} {B : Type 0} (m : Check A) (k : A → Check (Unit 
 unfolding ◌>>=◌
 kept_steps m k g n e d = kept_grouped (m n) k g ∙ (ap (λ x. on_fine x g) e ∙ d)
 
-pub kept_fail : {A : Type 0} {B : Type 0} (m : Check A) (k : A → Check (Unit {0})) (g : A → Check B) (n : Noted) {e : TypeFault} →
+pub kept_fail : {A : Type 0} {B : Type 0} (m : Check A) (k : A → Check (Unit {0})) (g : A → Check B) (n : Noted) {e : Faulty TypeRule ℕ} →
     Fails e ((m >>= λ a. k a >>= λ _. give a) n) → Fails e ((m >>= λ a. k a >>= λ _. g a) n)
 unfolding ◌>>=◌
 kept_fail m k g n (bad d) = bad (kept_grouped (m n) k g ∙ ap (λ x. on_fine x g) d)
 kept_fail _ _ _ _ no_memory = no_memory
 
-pub kept_then : {A : Type 0} {B : Type 0} (m : Check A) (k : A → Check (Unit {0})) (g : A → Check B) (n : Noted) {n' : Noted} {a : A} {e : TypeFault} →
+pub kept_then : {A : Type 0} {B : Type 0} (m : Check A) (k : A → Check (Unit {0})) (g : A → Check B) (n : Noted) {n' : Noted} {a : A} {e : Faulty TypeRule ℕ} →
     (m >>= λ a. k a >>= λ _. give a) n ≡ fine a n' → Fails e (g a n') → Fails e ((m >>= λ a. k a >>= λ _. g a) n)
 unfolding ◌>>=◌
 kept_then m k g n {e = e} d h = subst (λ x. Fails e x) (sym (kept_grouped (m n) k g)) (subst (λ x. Fails e (on_fine x g)) (sym d) h)

@@ -6,6 +6,7 @@ use Rattle.std.specs.Option.{option_map}
 use Rattle.std.proofs.Math.Seq.{drop-length}
 use Rattle.std.proofs.lemmas.List.{drop_more}
 use Rattle.tg_base.specs.declared.ids.Span.{Span}
+use Rattle.tg_base.specs.declared.faulty.Faulty.{Faulty}
 use Rattle.tg_syntax.specs.declared.tokens.Ident.{Ident}
 use Rattle.tg_syntax.specs.declared.trees.Param.{Param}
 use Rattle.tg_syntax.specs.declared.trees.Exp.{Exp as CodeExp}
@@ -21,7 +22,7 @@ use Rattle.tg_syntax.specs.Tree.{Exp, Decs, no_decs}
 use Rattle.tg_syntax.specs.Plain.{plain, plain_kind, plain_exps, plain_inits, plain_functions, plain_dec}
 use Rattle.tg_syntax.specs.Lists.{exps_of, inits_of, decs_of, functions_of}
 use Rattle.tg_syntax.proofs.ListLaws.{plain_kind-Let, plain_exps-items, plain_inits-items, plain_functions-items}
-use Rattle.tg_types.specs.declared.faults.TypeFault.{TypeFault}
+use Rattle.tg_types.specs.declared.faults.TypeRule.{TypeRule}
 use Rattle.tg_types.specs.declared.states.CheckingState.{CheckingState}
 use Rattle.tg_types.specs.Types.{Ty, int_type, none_type}
 use Rattle.tg_types.specs.Checks.{Check, Noted, CheckResult, fine, give, on_fine, ◌>>=◌}
@@ -129,7 +130,8 @@ arguments_one {names = names} {now = now} {es = es} {ts = ts} {k = k} e t a l m 
 }
 
 pub arguments_fail : {names : List (List ℕ)} {in_loop : Bool} {first now : CheckingState} {es : List CodeExp} {ts : List Ty} {k : ℕ} (e : CodeExp)
-    (t : Ty) {f : TypeFault} → ArgumentsOn names in_loop first now es ts k → k < length es → length es ≡ length ts → e ≡ get_or es k e → t ≡ get_or ts k t →
+    (t : Ty) {f : Faulty TypeRule ℕ} → ArgumentsOn names in_loop first now es ts k → k < length es → length es ≡ length ts → e ≡ get_or es k e →
+    t ≡ get_or ts k t →
     ((scope : Scope) → scope ≡ scope_of names now in_loop → Fails f (fitting (plain e) t scope (noted_of now))) → (scope : Scope) →
     scope ≡ scope_of names first in_loop → Fails f (expect_all (exps_of es) ts scope (noted_of first))
 arguments_fail {names = names} {now = now} {es = es} {ts = ts} {k = k} e t a l m i j g scope h =
@@ -166,7 +168,8 @@ fields_one {names = names} {now = now} {es = es} {ts = ts} {k = k} e t a l m i j
 }
 
 pub fields_fail : {names : List (List ℕ)} {in_loop : Bool} {first now : CheckingState} {es : List CodeInit} {ts : List (ℕ × Ty)} {k : ℕ} (e : CodeInit)
-    (t : ℕ × Ty) {f : TypeFault} → FieldsOn names in_loop first now es ts k → k < length es → length es ≡ length ts → e ≡ get_or es k e → t ≡ get_or ts k t →
+    (t : ℕ × Ty) {f : Faulty TypeRule ℕ} → FieldsOn names in_loop first now es ts k → k < length es → length es ≡ length ts → e ≡ get_or es k e →
+    t ≡ get_or ts k t →
     ((scope : Scope) → scope ≡ scope_of names now in_loop → Fails f (fitting (plain e.value) t.1 scope (noted_of now))) → (scope : Scope) →
     scope ≡ scope_of names first in_loop → Fails f (expect_fields (inits_of es) ts scope (noted_of first))
 fields_fail {names = names} {now = now} {es = es} {ts = ts} {k = k} e t a l m i j g scope h =
@@ -201,7 +204,8 @@ order_one {names = names} {now = now} {es = es} {t = t} {k = k} e a l i g p = re
       (g scope (same_scope names a.kept h)) refl);
 }
 
-pub order_fails : {names : List (List ℕ)} {in_loop : Bool} {first now : CheckingState} {es : List CodeExp} {t : Ty} {k : ℕ} (e : CodeExp) {f : TypeFault} →
+pub order_fails : {names : List (List ℕ)} {in_loop : Bool} {first now : CheckingState} {es : List CodeExp} {t : Ty} {k : ℕ} (e : CodeExp)
+    {f : Faulty TypeRule ℕ} →
     InOrder names in_loop first now es t k → k < length es → e ≡ get_or es k e →
     ((scope : Scope) → scope ≡ scope_of names now in_loop → Fails f (typed (plain e) scope (noted_of now))) → (scope : Scope) →
     scope ≡ scope_of names first in_loop → Fails f (typed_last none_type (exps_of es) scope (noted_of first))
@@ -247,7 +251,7 @@ decs_one {names = names} {in_loop = in_loop} {now = now} {ds = ds} {k = k} d a l
       (decs_of (drop (k + 1) ds)) (scope_of names now in_loop) refl);
 }
 
-pub decs_fail : {names : List (List ℕ)} {in_loop : Bool} {first now : CheckingState} {ds : List CodeDec} {k : ℕ} (d : CodeDec) {f : TypeFault} →
+pub decs_fail : {names : List (List ℕ)} {in_loop : Bool} {first now : CheckingState} {ds : List CodeDec} {k : ℕ} (d : CodeDec) {f : Faulty TypeRule ℕ} →
     DeclarationsOn names in_loop first now ds k → k < length ds → d ≡ get_or ds k d →
     ((rest : Decs) (scope : Scope) → scope ≡ scope_of names now in_loop → Fails f (declare (plain_dec d rest) scope (noted_of now))) → (scope : Scope) →
     scope ≡ scope_of names first in_loop → Fails f (declare (decs_of ds) scope (noted_of first))
@@ -295,7 +299,7 @@ bodies_one {names = names} {now = now} {fs = fs} {ss = ss} {k = k} f s a l m i j
 }
 
 pub bodies_fail : {names : List (List ℕ)} {first now : CheckingState} {fs : List CodeFunDec} {ss : List Signature} {k : ℕ} (f : CodeFunDec)
-    (s : Signature) {e : TypeFault} → BodiesOn names first now fs ss k → k < length fs → length fs ≡ length ss → f ≡ get_or fs k f → s ≡ get_or ss k s →
+    (s : Signature) {e : Faulty TypeRule ℕ} → BodiesOn names first now fs ss k → k < length fs → length fs ≡ length ss → f ≡ get_or fs k f → s ≡ get_or ss k s →
     ((scope : Scope) → scope ≡ scope_of names now false → Fails e (one_body f.params f.result (plain f.body) s scope (noted_of now))) → (scope : Scope) →
     scope ≡ scope_of names first false → Fails e (bodies (functions_of fs) ss scope (noted_of first))
 bodies_fail {names = names} {now = now} {fs = fs} {ss = ss} {k = k} f s a l m i j g scope h =
@@ -310,18 +314,18 @@ bodies_all {now = now} {fs = fs} {ss = ss} {k = k} a e scope h =
     a.onward scope h ∙ ap (λ x. bodies (functions_of x) (drop k ss) scope (noted_of now)) (none_left fs k e)
 
 -- a check goes on behind an answer
-pub leads_carry : {X A : Type 0} (r : Result X TypeFault) (scope : Scope) (after : Noted) (onward : Scope → Noted →
+pub leads_carry : {X A : Type 0} (r : Result X (Faulty TypeRule ℕ)) (scope : Scope) (after : Noted) (onward : Scope → Noted →
     CheckResult A) {c c' : CheckResult A} → c ≡ c' →
     Leads r scope after onward c' → Leads r scope after onward c
 leads_carry r scope after onward d g = subst (λ c. Leads r scope after onward c) (sym d) g
 
-pub leads_on : {X A : Type 0} (r : Result X TypeFault) (scope : Scope) (after : Noted) (m : Check Scope) (onward : Scope → Check A) (n : Noted) →
+pub leads_on : {X A : Type 0} (r : Result X (Faulty TypeRule ℕ)) (scope : Scope) (after : Noted) (m : Check Scope) (onward : Scope → Check A) (n : Noted) →
     AnswersCheck r (λ _. scope) after (m n) → Leads r scope after onward ((m >>= onward) n)
 unfolding ◌>>=◌
 leads_on (Ok x) scope after m onward n g = ap (λ y. on_fine y onward) g
 leads_on (Err e) scope after m onward n g = fails_first m onward g
 
-pub leads_kept : {X A : Type 0} (r : Result X TypeFault) (names : List (List ℕ)) (in_loop : Bool) (old new : CheckingState) (m : Check (Unit {0}))
+pub leads_kept : {X A : Type 0} (r : Result X (Faulty TypeRule ℕ)) (names : List (List ℕ)) (in_loop : Bool) (old new : CheckingState) (m : Check (Unit {0}))
     (onward : Scope → Check A) (n : Noted) (inner : Scope) → inner ≡ scope_of names old in_loop → OnOk r (Keeps old new) →
     AnswersCheck r (λ _. tt) (noted_of new) (m n) → Leads r (scope_of names new in_loop) (noted_of new) onward ((m >>= λ _. onward inner) n)
 unfolding ◌>>=◌
@@ -338,14 +342,15 @@ let_within n k s ds es e h =
     (all.1, all.2)
 
 -- a choice begins with its test
-pub choice_fails : (s : Span) (test this : Exp) (other : Option Exp) (scope : Scope) (n : Noted) {e : TypeFault} → Fails e (fitting test int_type scope n) →
+pub choice_fails : (s : Span) (test this : Exp) (other : Option Exp) (scope : Scope) (n : Noted) {e : Faulty TypeRule ℕ} →
+    Fails e (fitting test int_type scope n) →
     Fails e (typed (choice s test this other) scope n)
 choice_fails s test this None scope n h = two_fail_first _ _ _ _ h
 choice_fails s test this (Some o) scope n h = two_fail_first _ _ _ _ h
 
 -- the second way of a choice
 -- a choice with two ways goes on with the first, and then with the second
-pub choice_first_fails : (s : Span) (test this : Exp) (other : Option Exp) (way : Exp) (scope : Scope) (n : Noted) {m : Noted} {e : TypeFault} →
+pub choice_first_fails : (s : Span) (test this : Exp) (other : Option Exp) (way : Exp) (scope : Scope) (n : Noted) {m : Noted} {e : Faulty TypeRule ℕ} →
     other ≡ Some way → fitting test int_type scope n ≡ fine tt m → Fails e (typed this scope m) → Fails e (typed (choice s test this other) scope n)
 choice_first_fails s test this other way scope n i g h =
     last_fails (ap (λ o. typed (choice s test this o) scope n) i) (two_fail_then _ _ _ _ g (fails_first _ _ h))

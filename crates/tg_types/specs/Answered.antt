@@ -2,8 +2,9 @@
 use Rattle.std.specs.Prelude.{◌≡◌, ◌<◌, ◌==◌, ℕ, List, [], ◌∷◌, Option, Some, None, if◌then◌else◌}
 use Rattle.std.specs.List.{AllPairs}
 use Rattle.std.specs.List.Sorted.{IsPermutation}
-use Rattle.tg_types.specs.declared.faults.TypeFault.{TypeFault}
-use Rattle.tg_types.specs.declared.faults.TypeFault.TheVariants.{Bad, Memory}
+use Rattle.tg_base.specs.declared.faulty.Faulty.{Faulty}
+use Rattle.tg_base.specs.declared.faulty.Faulty.TheVariants.{Bad, Memory}
+use Rattle.tg_types.specs.declared.faults.TypeRule.{TypeRule}
 use Rattle.tg_types.specs.declared.notes.Note.{Note}
 use Rattle.tg_types.specs.declared.notes.Means.{Means}
 use Rattle.tg_types.specs.Accepted.{Finding, accepted, at_fault}
@@ -17,8 +18,8 @@ abbrev pub Accepts : Finding → List Note → Type 0
 Accepts (accepted notes) sorted = IsPermutation notes sorted × AreRising sorted
 Accepts (at_fault rule at) sorted = ⊥
 
--- a fault that is answered is the finding's; want of memory says nothing
-abbrev pub IsAt : Finding → TypeFault → Type 0
+-- a fault that is answered is the finding's; out of memory says nothing
+abbrev pub IsAt : Finding → Faulty TypeRule ℕ → Type 0
 IsAt f (Bad rule at) = f ≡ at_fault rule at
 IsAt f Memory = Unit {0}
 

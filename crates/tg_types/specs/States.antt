@@ -1,8 +1,8 @@
 -- What the checker's state stands for, and what a call of it answers.
 use Rattle.std.specs.Prelude.{◌≡◌, ℕ, List, ◌++◌, Result, Ok, Err, Bool}
+use Rattle.tg_base.specs.declared.faulty.Faulty.{Faulty}
+use Rattle.tg_base.specs.declared.faulty.Faulty.TheVariants.{Bad, Memory}
 use Rattle.tg_types.specs.declared.faults.TypeRule.{TypeRule}
-use Rattle.tg_types.specs.declared.faults.TypeFault.{TypeFault}
-use Rattle.tg_types.specs.declared.faults.TypeFault.TheVariants.{Bad, Memory}
 use Rattle.tg_types.specs.declared.states.CheckingState.{CheckingState}
 use Rattle.tg_types.specs.Types.{Ty}
 use Rattle.tg_types.specs.Checks.{Noted, Check, CheckResult, fine, fault}
@@ -21,41 +21,40 @@ scope_of names s in_loop = record {
 abbrev pub noted_of : CheckingState → Noted
 noted_of s = record { shapes = s.shapes; notes = s.notes.items }
 
--- a fault that is answered is a check's; want of memory says nothing
-pub data Fails {A : Type 0} : TypeFault → CheckResult A → Type 0 where
+-- a fault that is answered is a check's; out of memory says nothing
+pub data Fails {A : Type 0} : Faulty TypeRule ℕ → CheckResult A → Type 0 where
   bad : {rule : TypeRule} {at : ℕ} {c : CheckResult A} → c ≡ fault rule at → Fails (Bad rule at) c
   no_memory : {c : CheckResult A} → Fails Memory c
 
 -- an answer is what a check gives, with what is noted after it
-abbrev pub AnswersCheck : {X A : Type 0} → Result X TypeFault → (X → A) → (after : Noted) →
-    CheckResult A →
-    Type 0
+abbrev pub AnswersCheck : {X A : Type 0} → Result X (Faulty TypeRule ℕ) → (X → A) →
+    (after : Noted) → CheckResult A → Type 0
 AnswersCheck (Ok x) value after c = c ≡ fine (value x) after
 AnswersCheck (Err e) value after c = Fails e c
 
 -- an answer is that a check goes on behind a scope, or its fault
-abbrev pub Leads : {X A : Type 0} → Result X TypeFault → Scope → (after : Noted) →
+abbrev pub Leads : {X A : Type 0} → Result X (Faulty TypeRule ℕ) → Scope → (after : Noted) →
     (Scope → Noted → CheckResult A) → CheckResult A → Type 0
 Leads (Ok x) scope after onward c = c ≡ onward scope after
 Leads (Err e) scope after onward c = Fails e c
 
 -- a call that moves the state on answers what a check gives, in the scope of the state before
 abbrev pub MovesOn : {X A : Type 0} → (names : List (List ℕ)) → (old new : CheckingState) →
-    (in_loop : Bool) → Result X TypeFault → (X → A) → (Scope → Check A) → Type 0
+    (in_loop : Bool) → Result X (Faulty TypeRule ℕ) → (X → A) → (Scope → Check A) → Type 0
 MovesOn names old new in_loop result value check =
     (scope : Scope) → scope ≡ scope_of names old in_loop →
     AnswersCheck result value (noted_of new) (check scope (noted_of old))
 
 -- the same of a call that only looks at the state, whatever is noted
 abbrev pub Judges : {X A : Type 0} → (names : List (List ℕ)) → CheckingState →
-    Result X TypeFault → (X → A) → (Scope → Check A) → Type 0
+    Result X (Faulty TypeRule ℕ) → (X → A) → (Scope → Check A) → Type 0
 Judges names state result value check =
     (scope : Scope) (in_loop : Bool) → scope ≡ scope_of names state in_loop →
     (n : Noted) → AnswersCheck result value n (check scope n)
 
 -- a call declares what stands before the rest of a list of declarations, which goes on behind it
 abbrev pub Declares : {X : Type 0} → (names : List (List ℕ)) → (old new : CheckingState) →
-    (in_loop : Bool) → Result X TypeFault → (Decs → Decs) → Type 0
+    (in_loop : Bool) → Result X (Faulty TypeRule ℕ) → (Decs → Decs) → Type 0
 Declares names old new in_loop result declared =
     (rest : Decs) (scope : Scope) → scope ≡ scope_of names old in_loop →
     Leads result (scope_of names new in_loop) (noted_of new) (declare rest)

@@ -1,6 +1,4 @@
-use std::alloc::{AllocError, AllocFailed};
-use tg_base::Memory;
-use thiserror::Error;
+use tg_base::Faulty;
 
 /// A rule of typing.
 #[derive(Clone, Copy, Debug, PartialEq, Eq)]
@@ -51,45 +49,6 @@ pub enum TypeRule {
     T22,
 }
 
-/// Why a program isn't accepted: a rule and the first byte of the part where it is broken, or want
-/// of memory.
-#[derive(Clone, Copy, Debug, PartialEq, Eq, Error)]
-pub enum TypeFault {
-    #[error("a fault of types at byte {at}")]
-    Bad { rule: TypeRule, at: u32 },
-    #[error("no more memory")]
-    Memory,
-}
-
-impl From<AllocError> for TypeFault {
-    ghost use Rattle.std.specs.Prelude.{◌≡◌};
-    ghost use Rattle.tg_types.specs.declared.faults.TypeFault.TheVariants.{Memory as NoMemory};
-
-    ghost from_gives = { λ _ e. e ≡ NoMemory };
-
-    fn from(_value: AllocError) -> Self {
-        TypeFault::Memory
-    }
-}
-
-impl<T: Drop> From<AllocFailed<T>> for TypeFault {
-    ghost use Rattle.std.specs.Prelude.{◌≡◌};
-    ghost use Rattle.tg_types.specs.declared.faults.TypeFault.TheVariants.{Memory as NoMemory};
-
-    ghost from_gives = { λ _ e. e ≡ NoMemory };
-
-    fn from(_value: AllocFailed<T>) -> Self {
-        TypeFault::Memory
-    }
-}
-
-impl From<Memory> for TypeFault {
-    ghost use Rattle.std.specs.Prelude.{◌≡◌};
-    ghost use Rattle.tg_types.specs.declared.faults.TypeFault.TheVariants.{Memory as NoMemory};
-
-    ghost from_gives = { λ _ e. e ≡ NoMemory };
-
-    fn from(_value: Memory) -> Self {
-        TypeFault::Memory
-    }
-}
+/// Why a program isn't accepted: its first fault of types, at the first byte of the part where the
+/// rule is broken, or out of memory.
+pub type TypeFault = Faulty<TypeRule>;

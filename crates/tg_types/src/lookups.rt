@@ -1,5 +1,5 @@
 ghost use Rattle.std.specs.Prelude.{◌≡◌, ◌<◌, ◌++◌, length, Bool};
-ghost use Rattle.tg_types.specs.declared.faults.TypeFault.TheVariants.{Bad};
+ghost use Rattle.tg_base.specs.declared.faulty.Faulty.TheVariants.{Bad};
 ghost use Rattle.tg_symbols.specs.Tables.{named};
 ghost use Rattle.tg_types.specs.Scopes.{Scope, bound, standard_types};
 ghost use Rattle.tg_types.specs.Groups as groups;
