@@ -1,5 +1,5 @@
 -- What the second pass makes, and images, as the definition has them.
-use Rattle.std.specs.Prelude.{◌≡◌, ⊤, Result, Ok, Err}
+use Rattle.std.specs.Prelude.{ℕ, ◌≡◌, ⊤, Result, Ok, Err}
 use Rattle.tg_base.specs.declared.faulty.Faulty.{Faulty}
 use Rattle.tg_base.specs.declared.faulty.Faulty.TheVariants as fault
 use Rattle.tg_asm_text.specs.declared.keywords.AsmRule.{AsmRule}
