@@ -1,7 +1,8 @@
-//! The assembler: an assembly text becomes the image of a program, in two passes over its lines.
-//! Promises to `tiger exec` the text's image exactly where the definition gives it, else its first
-//! fault with its line. The definition stands in `specs/` of `tg_isa`: lines to items, items to
-//! places, labels to places, places to words.
+//! The assembler: an assembly text becomes the image of a program, or its first fault.
+//!
+//! Two passes over the text's lines. Promises to `tiger exec` the text's image exactly where the
+//! definition gives it, else its first fault with its line. The definition stands in `specs/` of
+//! `tg_asm_text`: lines to items, items to places, labels to places, places to words.
 #![tactic(auto)]
 
 mod assembling;

@@ -1,6 +1,7 @@
-//! What an assembly text is (SPIM manual, assembler syntax): its lines, operands and items, where
-//! these are placed, and the image that they make (definitions and their laws); and the line of an
-//! instruction, which is read back as that instruction.
+//! What an assembly text is (definitions), and the text of an instruction (SPIM's syntax).
+//!
+//! Its lines, operands and items, where these are placed, and the image that they make, with the
+//! laws of these; and the line of an instruction, which is read back as that instruction.
 #![tactic(auto)]
 
 mod keywords;

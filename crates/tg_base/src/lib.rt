@@ -1,6 +1,7 @@
-//! What every layer shares: places, names, words of 32 bits, and the outside. Promises exact
-//! numbers and texts, and objects in memory that fail only where they were told to. The definitions
-//! of words stand in `specs/`.
+//! What every crate shares: places, names, words of 32 bits, and the outside as traits.
+//!
+//! Promises exact numbers and texts, and objects in memory that fail only where they were told to.
+//! The definitions of words stand in `specs/`.
 #![tactic(auto)]
 
 mod arithmetic;

@@ -1,6 +1,8 @@
-//! The program: the top call over the real files, standard input, standard output and standard
-//! error. Promises to end with the top call's answer. Its adapters are proved to meet their traits,
-//! and tell nothing of what the system's files hold.
+//! The program `tiger`: its `main`, over the real files and standard streams.
+//!
+//! The top call works over the real files, standard input, standard output and standard error.
+//! Promises to end with the top call's answer. Its adapters are proved to meet their traits, and
+//! tell nothing of what the system's files hold.
 #![tactic(auto)]
 
 ghost use Rattle.std.specs.Prelude.{◌≡◌, ◌≢◌, ◌⊎◌, MatchResult};

@@ -1,5 +1,6 @@
-//! One round of iterated register coalescing (George and Appel 1996): graph, moves and a policy in,
-//! steps, classes and colours out.
+//! Makes a round of iterated register coalescing (George and Appel 1996), by a spill policy.
+//!
+//! Graph, moves and a policy in; steps, classes and colours out.
 #![tactic(auto)]
 
 mod classes;

@@ -1,5 +1,7 @@
-//! Tests of rounds, and nothing but tests. They stand apart from the crate that they call, since a
-//! crate with tests is proved twice.
+//! Tests of rounds of iterated register coalescing.
+//!
+//! The crate has nothing but tests. They stand apart from the crate that they call, since a crate
+//! with tests is proved twice.
 #![tactic(auto)]
 
 #[cfg(test)]

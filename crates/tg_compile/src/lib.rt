@@ -1,5 +1,7 @@
-//! The passes between a checked program and its assembly text, one after another (Appel, chapters 6
-//! to 12). Promises the driver a text that stands to the program as the passes' definitions say.
+//! All passes between a checked program and its assembly text (Appel, chapters 6 to 12).
+//!
+//! They work one after another. Promises the driver a text that stands to the program as the
+//! passes' definitions say.
 #![tactic(auto)]
 
 mod bodies;

@@ -1,6 +1,7 @@
-//! The compiler is correct (the headline): the laws of the passes, one behind the other, over the
-//! forms that a program has between source and machine; and of texts, that what is built of a
-//! source does what the source means, whatever the policy, the input and the sizes.
+//! Correctness of the compiler (the headline): what is built of a source does what it means.
+//!
+//! Whatever the policy, the input and the sizes. The laws of the passes stand one after another,
+//! over the forms that a program has between source and machine, and then of texts.
 #![tactic(auto)]
 
 mod laws;

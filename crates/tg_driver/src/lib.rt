@@ -1,6 +1,7 @@
-//! The passes joined together, and the top call `tiger`, which reads the words of a command and
-//! answers a status. Promises every answer with its cause, that what it builds does what the source
-//! means, and that a run ends by that meaning.
+//! The top call `tiger`: the words of a command become a status, by all passes together.
+//!
+//! Promises every answer with its cause, that what it builds does what the source means, and that a
+//! run ends by that meaning.
 #![tactic(auto)]
 
 mod answers;

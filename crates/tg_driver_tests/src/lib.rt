@@ -1,6 +1,7 @@
-//! Tests of the program's top call and of its command line, on objects in memory. Each table stands
-//! beside the test that goes through it; the expected lines and statuses come from the product's
-//! tables.
+//! Tests of the top call and of the command line, on objects in memory.
+//!
+//! Each table stands beside the test that goes through it; the expected lines and statuses come
+//! from the product's tables.
 #![tactic(auto)]
 
 #[cfg(test)]

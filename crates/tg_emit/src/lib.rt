@@ -1,6 +1,7 @@
-//! Assembly of the functions of a program (Appel, chapters 9 and 12): what stands for each
-//! instruction over registers, for the entry and the return of a function, and for literals.
-//! Promises exactly the lines that the definition states, and their text.
+//! Emission (Appel, chapters 9 and 12): functions over registers become lines of assembly.
+//!
+//! What stands for each instruction over registers, for the entry and the return of a function, and
+//! for literals. Promises exactly the lines that the definition states, and their text.
 #![tactic(auto)]
 
 mod assembly;

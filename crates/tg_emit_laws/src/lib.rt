@@ -1,5 +1,6 @@
-//! The image of what is emitted (Appel, chapter 12): its labels are those of the assembler's
-//! syntax, and the text of a program is assembled without a fault.
+//! Laws of emitted text: its labels are in the assembler's syntax, and it has an image.
+//!
+//! The text of a program is assembled without a fault (Appel, chapter 12).
 #![tactic(auto)]
 
 mod laws;

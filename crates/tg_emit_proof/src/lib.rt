@@ -1,7 +1,8 @@
-//! Emission is correct (Appel, chapter 12): the machine's run of the image of what is emitted does
-//! what the functions over registers do. Its proof has two halves with a run of lines between them,
-//! in which no address of code is known: frames, slots and large offsets are in the first,
-//! addresses of code in the second.
+//! Correctness of emission: the machine does what the functions over registers do.
+//!
+//! The machine runs the image of what is emitted (Appel, chapter 12). The proof has two halves with
+//! a run of lines between them, in which no address of code is known: frames, slots and large
+//! offsets are in the first, addresses of code in the second.
 #![tactic(auto)]
 
 mod laws;

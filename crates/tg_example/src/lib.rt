@@ -1,5 +1,6 @@
-//! One program in every form that it takes on its way, computed by the definitions of the passes
-//! and of the meanings of their forms: it does the same in each.
+//! One program in every form that it takes on its way, computed: it does the same in each.
+//!
+//! It is computed by the definitions of the passes and of the meanings of their forms.
 #![tactic(auto)]
 
 ghost use Rattle.tg_example.specs.Laws.{

@@ -1,5 +1,7 @@
-//! Laws of the passes of chapter 8 together (Appel): trees as flat code do what they did. They are
-//! laws of the definitions of the passes, which name one another nowhere else.
+//! Correctness of the passes of chapter 8 together: flat code does what its trees did.
+//!
+//! These are laws of the definitions of the passes (Appel, chapter 8), which name one another
+//! nowhere else.
 #![tactic(auto)]
 
 mod laws;

@@ -1,5 +1,7 @@
-//! The canonical text of a Tiger source: one layout for all sources that have the same tokens.
-//! Promises exactly the text of `specs/Canonical.antt`. Comments are no tokens, so they are lost.
+//! The formatter: a source's tokens become its canonical text, one layout for all.
+//!
+//! All sources that have the same tokens have one text. Promises exactly the text of
+//! `specs/Canonical.antt`. Comments are no tokens, so they are lost.
 #![tactic(auto)]
 
 mod escapes;

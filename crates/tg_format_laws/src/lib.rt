@@ -1,6 +1,6 @@
-//! Laws of canonical texts: the text that `format` writes has the same tokens, and so the same
-//! tree, and formatting it again changes nothing. They are laws of the token relation, the grammar
-//! and `canonical`.
+//! Laws of canonical texts: same tokens, same tree, and formatting again changes nothing.
+//!
+//! They are laws of the token relation, the grammar and `canonical`.
 #![tactic(auto)]
 
 mod laws;

@@ -1,5 +1,7 @@
-//! Frames and the homes of variables in them (Appel, chapter 6). Promises the translation homes
-//! that are pairwise distinct, and in the frame exactly where that is asked.
+//! Frames (Appel, chapter 6): a home for each variable, in the frame or in a temporary.
+//!
+//! Promises the translation homes that are pairwise distinct, and in the frame exactly where that
+//! is asked.
 #![tactic(auto)]
 
 mod accesses;

@@ -1,6 +1,7 @@
-//! The generator: a program of as many functions as asked for, with a function in each that changes
-//! a variable of the outermost, for trials and for times. Promises exactly the text of its
-//! definition.
+//! The generator: writes a Tiger program of as many functions as asked for, for trials.
+//!
+//! Each of its functions has one inside that changes a variable of the outermost. The programs
+//! serve for times too. Promises exactly the text of its definition.
 #![tactic(auto)]
 
 ghost use Rattle.std.specs.Prelude.{◌≡◌, ◌≤◌, ◌<◌, ◌++◌, IfOk, OnOk, codes, string_bytes};

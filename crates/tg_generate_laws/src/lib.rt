@@ -1,4 +1,4 @@
-//! The law that each generated program is one that the compiler accepts.
+//! Laws of generated programs: each is a source that the compiler accepts.
 #![tactic(auto)]
 
 mod laws;

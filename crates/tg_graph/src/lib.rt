@@ -1,6 +1,7 @@
-//! Interference graphs and worklists of register allocation (Appel, chapter 11; George and Appel
-//! 1996). Promises the allocator exact pairs, degrees and neighbours, and that each node is in
-//! exactly one list.
+//! Interference graphs and worklists of register allocation (Appel, chapter 11).
+//!
+//! Promises the allocator exact pairs, degrees and neighbours, and that each node is in exactly one
+//! list (George and Appel 1996).
 #![tactic(auto)]
 
 mod bits;

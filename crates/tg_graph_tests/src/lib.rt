@@ -1,5 +1,7 @@
-//! Tests of interference graphs and of worklists, and nothing but tests. They stand apart from the
-//! crate that they call, since a crate with tests is proved twice.
+//! Tests of interference graphs and of worklists.
+//!
+//! The crate has nothing but tests. They stand apart from the crate that they call, since a crate
+//! with tests is proved twice.
 #![tactic(auto)]
 
 #[cfg(test)]

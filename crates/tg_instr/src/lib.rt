@@ -1,7 +1,9 @@
-//! Instructions over temporaries and registers (Appel, chapter 9), and the code that register
-//! allocation makes of them. Promises what each instruction uses and defines, and code that keeps
-//! in its type what every later pass asks of it. The meaning of instructions stands in `specs/`,
-//! with the laws that uses and definitions are those of its effect, and of runs.
+//! Instructions over temporaries and registers (Appel, chapter 9): data and meaning.
+//!
+//! With them the code that register allocation makes of them. Promises what each instruction uses
+//! and defines, and code that keeps in its type what every later pass asks of it. The meaning of
+//! instructions stands in `specs/`, with the laws that uses and definitions are those of its
+//! effect, and of runs.
 #![tactic(auto)]
 
 mod building;

@@ -1,6 +1,8 @@
-//! One round of iterated register coalescing (George and Appel 1996): its moves, steps and answer,
-//! the policy that says which temporary is spilled, and in `specs/` what a round is. Promises laws
-//! of every round, to the code that makes rounds and to those who read one.
+//! A round of iterated register coalescing (George and Appel 1996): data, definition, laws.
+//!
+//! Its moves, steps and answer, the policy that says which temporary is spilled, and in `specs/`
+//! what a round is. Promises laws of every round, to the code that makes rounds and to those who
+//! read one.
 #![tactic(auto)]
 
 mod candidates;

@@ -1,4 +1,5 @@
-//! The instruction table of MIPS I: registers, instructions, their words, and images of programs.
+//! The instruction table of MIPS I: registers, instructions, their words, images of programs.
+//!
 //! Promises that `encode` and `decode` are inverse, and that `decode` answers None exactly outside
 //! the table. One step and a run of the machine are defined in `specs/`.
 #![tactic(auto)]

@@ -1,7 +1,8 @@
-//! The lexer of Tiger (Appel, chapter 2 and appendix A): a text's tokens, or its first lexical
-//! fault. Promises that the tokens are those of the token relation, that the fault is the first one
-//! in reading from the front, and that names keep their places. The relations stand in `specs/` of
-//! `tg_syntax`.
+//! The lexer (Appel, chapter 2): a text's tokens and names, or its first lexical fault.
+//!
+//! Promises that the tokens are those of the token relation, that the fault is the first one in
+//! reading from the front, and that names keep their places (appendix A). The relations stand in
+//! `specs/` of `tg_syntax`.
 #![tactic(auto)]
 
 mod bytes;

@@ -1,6 +1,8 @@
-//! Laws of texts: how much of a text its strings take, and so how large the literals are that its
-//! program is translated to; and that the ints and strings of its tree are words and bytes. They
-//! are laws of the token relation, the grammar and `translated`.
+//! Bounds of the literals of a program, by the length of its text.
+//!
+//! How much of a text its strings take, and so how large the literals are that its program is
+//! translated to; and that the ints and strings of its tree are words and bytes. They are laws of
+//! the token relation, the grammar and `translated`.
 #![tactic(auto)]
 
 mod laws;

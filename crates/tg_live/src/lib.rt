@@ -1,6 +1,7 @@
-//! The flow of a code, and what is live out of each instruction (Appel, chapter 10). Promises the
-//! edges exactly, and liveness exactly as paths along the flow have it. The definitions stand in
-//! `specs/Flow.antt` and `specs/Live.antt`.
+//! Flow graph and liveness (Appel, chapter 10): what is live out of each instruction.
+//!
+//! Promises the edges exactly, and liveness exactly as paths along the flow have it. The
+//! definitions stand in `specs/Flow.antt` and `specs/Live.antt`.
 #![tactic(auto)]
 
 mod changes;

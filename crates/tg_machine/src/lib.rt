@@ -1,6 +1,8 @@
-//! The simulator: a machine in memory, which runs images by the instruction table, step by step.
-//! Promises that each step and each run is that of the definition, that memory outside the regions
-//! is never touched, and that a machine that has ended answers its end again.
+//! The simulator: a machine in memory, which loads an image and runs it, step by step.
+//!
+//! It runs by the instruction table. Promises that each step and each run is that of the
+//! definition, that memory outside the regions is never touched, and that a machine that has ended
+//! answers its end again.
 #![tactic(auto)]
 
 mod cores;

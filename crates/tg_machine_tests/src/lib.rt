@@ -1,5 +1,7 @@
-//! Tests of the instruction table, of the assembler and of the machine, and nothing but tests. They
-//! stand apart from the crates that they call, since a crate with tests is proved twice.
+//! Tests of the instruction table, of the assembler and of the machine.
+//!
+//! The crate has nothing but tests. They stand apart from the crates that they call, since a crate
+//! with tests is proved twice.
 #![tactic(auto)]
 
 #[cfg(test)]

@@ -1,5 +1,6 @@
-//! Choice of instructions by maximal munch (Appel, chapter 9): what a function's flat code becomes
-//! over temporaries and registers. Promises exactly the code that `specs/` computes.
+//! Instruction selection by maximal munch (Appel, chapter 9): flat code becomes instructions.
+//!
+//! They stand over temporaries and registers. Promises exactly the code that `specs/` computes.
 #![tactic(auto)]
 
 mod arguments;

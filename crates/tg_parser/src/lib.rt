@@ -1,8 +1,9 @@
-//! Descent by precedence (Appel, chapter 3): a list of tokens becomes its tree, or its one fault of
-//! syntax. Promises that the tree is the one that the grammar relation of `tg_syntax` gives, that
-//! an unexpected token is the first with which no program can go on, and that nesting above 256 is
-//! refused. `parsing` has the call, `nesting` finds the first token that is too deep, and each part
-//! of `reading` does exactly what the descent in `tg_syntax_laws` does.
+//! The parser (Appel, chapter 3): tokens become their tree, or their first fault of syntax.
+//!
+//! It descends by precedence. Promises that the tree is the one that the grammar relation of
+//! `tg_syntax` gives, that an unexpected token is the first with which no program can go on, and
+//! that nesting above 256 is refused. `parsing` has the call, `nesting` finds the first token that
+//! is too deep, and each part of `reading` does exactly what the descent in `tg_syntax_laws` does.
 #![tactic(auto)]
 
 mod building;

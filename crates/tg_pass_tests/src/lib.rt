@@ -1,4 +1,6 @@
-//! Tests of calls that several crates make up, one file a subject, and nothing but tests. They
+//! Tests of passes over texts: tokens, trees, faults, notes, folded bodies.
+//!
+//! They are of calls that several crates make up, one file a subject, and nothing but tests. They
 //! stand apart from the crates that they call, since a crate with tests is proved twice.
 #![tactic(auto)]
 

@@ -1,6 +1,7 @@
-//! Register allocation by rounds of coalescing and spilling (George and Appel 1996), and with every
-//! temporary in the frame (Appel, chapter 11). Promises rounds that are of the code, the code over
-//! registers that follows from them, and the home of each temporary.
+//! Register allocation by rounds of coalescing and spilling (George and Appel 1996).
+//!
+//! Also with every temporary in the frame (Appel, chapter 11). Promises rounds that are of the
+//! code, the code over registers that follows from them, and the home of each temporary.
 #![tactic(auto)]
 
 mod allocating;

@@ -1,5 +1,6 @@
-//! The text of `tiger alloc`: the steps of the register allocator, round by round, and where each
-//! temporary came to stand. Promises exactly the lines of `specs/Listing.antt`.
+//! The text of `tiger alloc`: each round's steps, and where each temporary came to stand.
+//!
+//! Promises exactly the lines of `specs/Listing.antt`.
 #![tactic(auto)]
 
 mod homes;

@@ -1,5 +1,7 @@
-//! Tests of allocations and of their text, and nothing but tests. They stand apart from the crates
-//! that they call, since a crate with tests is proved twice.
+//! Tests of allocations and of their text.
+//!
+//! The crate has nothing but tests. They stand apart from the crates that they call, since a crate
+//! with tests is proved twice.
 #![tactic(auto)]
 
 #[cfg(test)]

@@ -1,6 +1,8 @@
-//! The runtime of compiled programs: what makes records, arrays and strings, the comparison of
-//! strings, and the standard functions (Appel, appendix A.4), as trees that go through the same
-//! passes as a program's own functions. Promises exactly the functions of `specs/Routines.antt`.
+//! The runtime of compiled programs, as trees (Appel, appendix A.4).
+//!
+//! What makes records, arrays and strings, the comparison of strings, and the standard functions,
+//! as trees that go through the same passes as a program's own functions. Promises exactly the
+//! functions of `specs/Routines.antt`.
 #![tactic(auto)]
 
 mod creation;

@@ -1,5 +1,6 @@
-//! The runtime does what the standard functions do: laws of its functions by the meaning of trees
-//! and the meaning of programs.
+//! Correctness of the runtime: its functions do what the standard functions do.
+//!
+//! These are laws of its functions, by the meaning of trees and the meaning of programs.
 #![tactic(auto)]
 
 mod laws;

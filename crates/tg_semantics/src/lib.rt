@@ -1,6 +1,7 @@
-//! What programs mean: evaluation of the plain tree, by results and by what comes next, with its
-//! heap, its cost and the weight of its stack. It holds definitions, in `specs/`, and laws of them;
-//! no program calls it.
+//! What Tiger programs mean (definitions): evaluation, with its heap, cost and stack weight.
+//!
+//! Evaluation of the plain tree stands in two forms, by results and by what comes next. The crate
+//! holds definitions, in `specs/`, and laws of them; no program calls it.
 #![tactic(auto)]
 
 mod laws;

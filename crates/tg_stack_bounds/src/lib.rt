@@ -1,6 +1,8 @@
-//! The weight of an activation, by which the meaning of a program counts its stack, is enough for
-//! the frame that is compiled. Promises that the trees of an accepted program are light, and that
-//! functions with light trees have frames within it, whatever the policy of spilling.
+//! Bounds of the stack: the frames of compiled functions are within an activation's weight.
+//!
+//! That is the weight by which the meaning of a program counts its stack. Promises that the trees
+//! of an accepted program are light, and that functions with light trees have frames within it,
+//! whatever the policy of spilling.
 #![tactic(auto)]
 
 mod laws;

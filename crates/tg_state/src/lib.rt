@@ -1,6 +1,7 @@
-//! The state of the machine and the services of the system (definitions), how a run ends, and where
-//! the regions of memory are. What programs mean at the machine is said by these, for trees, for
-//! instructions and for MIPS alike.
+//! The machine's state and the system's services (definitions), ends of runs, memory regions.
+//!
+//! What programs mean at the machine is said by these, for trees, for instructions and for MIPS
+//! alike.
 #![tactic(auto)]
 
 mod ends;

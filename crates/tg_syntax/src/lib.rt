@@ -1,6 +1,7 @@
-//! Tokens and syntax trees of Tiger, which are plain data, and their measures. Promises exact
-//! counts of nodes, and which tree each call here makes. The token relation, the grammar relation
-//! and the plain tree by which contracts speak stand in `specs/`.
+//! Tokens and abstract syntax of Tiger as data, with the definition of its grammar.
+//!
+//! Promises exact counts of nodes, and which tree each call here makes. The token relation, the
+//! grammar relation, the measures and the plain tree by which contracts speak stand in `specs/`.
 #![tactic(auto)]
 
 mod faults;

@@ -1,5 +1,6 @@
-//! The theory of the grammar: descent by precedence as programs over the first token, and that each
-//! list of tokens has at most one tree.
+//! Laws of the grammar: each list of tokens has one tree at most, and descent reads it.
+//!
+//! Descent by precedence is told as programs over the first token.
 #![tactic(auto)]
 
 mod laws;

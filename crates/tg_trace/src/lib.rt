@@ -1,6 +1,7 @@
-//! Basic blocks and traces (Appel, chapter 8): canonical statements are cut into blocks, whose
-//! order then lets most jumps fall away. Promises the choice of instructions exactly the flat code
-//! of `specs/Cutting.antt` and `specs/Laying.antt`.
+//! Basic blocks and traces (Appel, chapter 8): canonical statements become flat code.
+//!
+//! They are cut into blocks, whose order then lets most jumps fall away. Promises the choice of
+//! instructions exactly the flat code of `specs/Cutting.antt` and `specs/Laying.antt`.
 #![tactic(auto)]
 
 mod conditions;

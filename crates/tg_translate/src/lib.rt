@@ -1,6 +1,8 @@
-//! The translation of checked programs to trees (Appel, chapters 6 and 7): static links, homes of
-//! variables, checks of nil, of indices and of divisors, and arithmetic that ends the program by
-//! overflow. Promises the passes behind it exactly the trees of `specs/Translate.antt`.
+//! The translation of checked programs to trees (Appel, chapters 6 and 7).
+//!
+//! It makes static links, homes of variables, checks of nil, of indices and of divisors, and
+//! arithmetic that ends the program by overflow. Promises the passes after it exactly the trees of
+//! `specs/Translate.antt`.
 #![tactic(auto)]
 
 mod calls;

@@ -1,6 +1,8 @@
-//! Laws of the trees that programs are translated to: which labels, temporaries and literals stand
-//! in them, how many slots frames have, and that bodies are closed. They are laws of the definition
-//! `translated`, so that the passes behind the translation need not test what they ask for.
+//! Laws of the trees of a program: labels, temporaries, literals, slots, closed bodies, sizes.
+//!
+//! Which labels, temporaries and literals stand in them, how many slots frames have, and that
+//! bodies are closed. They are laws of the definition `translated`, so that the passes after the
+//! translation need not test what they ask for.
 #![tactic(auto)]
 
 mod laws;

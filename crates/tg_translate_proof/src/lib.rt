@@ -1,5 +1,6 @@
-//! Laws of the translation: the trees of a checked program, with the runtime's, do what the program
-//! means.
+//! Correctness of the translation: the trees of a program do what the program means.
+//!
+//! The trees are those of a checked program, with the runtime's.
 #![tactic(auto)]
 
 mod laws;

@@ -1,6 +1,7 @@
-//! The tree language of the middle of the compiler (Appel, chapter 7), and its flat form after
-//! tracing (chapter 8). It is the data of the passes, with its meaning over the memory of the
-//! machine in `specs/`. Its functions make trees, or do nothing and carry laws of that meaning.
+//! The tree language (Appel, chapter 7) and its flat form (chapter 8): data and meaning.
+//!
+//! It is the data of the passes in the middle of the compiler, with its meaning over the memory of
+//! the machine in `specs/`. Its functions make trees, or do nothing and carry laws of that meaning.
 #![tactic(auto)]
 
 mod fragments;

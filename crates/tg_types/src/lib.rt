@@ -1,7 +1,8 @@
-//! Types of Tiger (Appel, chapter 5 and appendix A). `check` types a program: it answers notes on
-//! what the program's uses, fields and comparisons mean, or the first fault with its rule and byte,
-//! exactly as the definition of typing in `specs/` does. Promises too that an accepted program is
-//! never stuck, and that a fault stands within its text.
+//! The type checker (Appel, chapter 5): notes on a tree's uses, or its first fault.
+//!
+//! `check` answers notes on what the program's uses, fields and comparisons mean, or the first
+//! fault with its rule and byte, exactly as the definition of typing in `specs/` does (appendix A).
+//! Promises too that an accepted program is never stuck, and that a fault stands within its text.
 #![tactic(auto)]
 
 mod bindings;

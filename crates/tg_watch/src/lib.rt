@@ -1,6 +1,8 @@
-//! Watchers: objects that see what each step of a machine fetches, and tell a report of it. Promises
-//! that a machine runs as if nobody watched, that each watcher stands for the fetches of that very
-//! run, and that the profile, the coverage and the trace tell exactly their reports of it.
+//! Watchers of a run: what each step of a machine fetches, told as profile, coverage or trace.
+//!
+//! Promises that a machine runs as if nobody watched, that each watcher stands for the fetches of
+//! that very run, and that the profile, the coverage and the trace tell exactly their reports of
+//! it.
 #![tactic(auto)]
 
 mod covering;

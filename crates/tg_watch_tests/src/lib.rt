@@ -1,4 +1,6 @@
-//! Tests of watched runs on images that no assembly text has, and nothing but tests.
+//! Tests of watched runs, on images that no assembly text has.
+//!
+//! The crate has nothing but tests.
 #![tactic(auto)]
 
 #[cfg(test)]
