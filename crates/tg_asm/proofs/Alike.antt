@@ -6,19 +6,21 @@ use Rattle.tg_base.specs.Words.{add}
 use Rattle.tg_isa.specs.declared.mips.Mips.{Mips}
 use Rattle.tg_asm_text.specs.declared.keywords.AsmRule.{AsmRule}
 use Rattle.tg_asm_text.specs.Items as items
-use Rattle.tg_asm_text.specs.Assembly.{Layout, LabelTarget, InCode, InStatics, Reading, Made, address, address_of, spot_of, jump_to, branch_to, upper, lower, word, place_bytes, datum_bytes, make_words, make_data, pad, make_item, make_reading, make_line, make, reading, entry, entry_at}
+use Rattle.tg_asm_text.specs.Assembly.{Layout, LabelTarget, InCode, InStatics, Reading, Made, target_address, label_address, spot_of, jump_to, branch_to, upper}
+use Rattle.tg_asm_text.specs.Assembly.{lower, word, place_bytes, datum_bytes, make_words, make_data, pad, make_item, make_reading, make_line, make, reading}
+use Rattle.tg_asm_text.specs.Assembly.{entry_point, entry_at}
 use Rattle.tg_asm.specs.Layouts.{IsAlike}
 
-same_address : (m l : Layout) → IsAlike m l → (s : LabelTarget) → address m s ≡ address l s
+same_address : (m l : Layout) → IsAlike m l → (s : LabelTarget) → target_address m s ≡ target_address l s
 same_address m l a (InCode i) = refl
 same_address m l a (InStatics k) = ap (λ n. add statics_base (slice_index_or m.starts k n)) a.size ∙ ap (λ ns. add statics_base (slice_index_or ns k l.size)) a.starts
 
-same_place : (m l : Layout) → IsAlike m l → (s : Option LabelTarget) → address_of m s ≡ address_of l s
+same_place : (m l : Layout) → IsAlike m l → (s : Option LabelTarget) → label_address m s ≡ label_address l s
 same_place m l a (Some s) = ap Ok (same_address m l a s)
 same_place m l a None = refl
 
-place_alike : (m l : Layout) → IsAlike m l → (name : List ℕ) → address_of m (spot_of m name) ≡ address_of l (spot_of l name)
-place_alike m l a name = same_place m l a (spot_of m name) ∙ ap (address_of l) (a.spots name)
+place_alike : (m l : Layout) → IsAlike m l → (name : List ℕ) → label_address m (spot_of m name) ≡ label_address l (spot_of l name)
+place_alike m l a name = same_place m l a (spot_of m name) ∙ ap (label_address l) (a.spots name)
 
 same_jump : (m l : Layout) → IsAlike m l → (one : Mips) (s : Option LabelTarget) → jump_to m one s ≡ jump_to l one s
 same_jump m l a one (Some (InCode to)) = let w = a.words in rw w refl
@@ -79,5 +81,5 @@ same_entry m l a (Some (InCode i)) = let w = a.words in rw w refl
 same_entry m l a (Some (InStatics k)) = refl
 same_entry m l a None = refl
 
-pub entry_alike : (m l : Layout) → IsAlike m l → entry m ≡ entry l
+pub entry_alike : (m l : Layout) → IsAlike m l → entry_point m ≡ entry_point l
 entry_alike m l a = same_entry m l a (spot_of m (codes "main")) ∙ ap (entry_at l) (a.spots (codes "main"))

@@ -5,7 +5,7 @@ use Rattle.tg_base.specs.declared.faulty.Faulty.TheVariants as fault
 use Rattle.tg_asm_text.specs.declared.keywords.AsmRule.{AsmRule}
 use Rattle.tg_asm_text.specs.declared.keywords.AsmRule.TheVariants.{A9}
 use Rattle.tg_asm_text.specs.Lines.{lines}
-use Rattle.tg_asm_text.specs.Assembly.{Layout, Made, blank, unmade, layout, make, entry, last_line, assembled}
+use Rattle.tg_asm_text.specs.Assembly.{Layout, Made, blank, unmade, layout, make, entry_point, last_line_number, assembled}
 use Rattle.tg_asm.specs.Layouts.{GivesLayout, IsLaidOut, IsSmall}
 use Rattle.tg_asm.specs.Images.{GivesMade, GivesImage}
 use Rattle.tg_asm.proofs.Alike.{make_alike, entry_alike}
@@ -24,7 +24,7 @@ second_over text l (fault.Bad rule line) i h =
 second_over text l fault.Memory i h = tt
 
 pub no_main : (text : List ℕ) (l : Layout) (m : Made) (n : ℕ) → IsLaidOut (layout 1 blank (lines text)) l →
-    make 1 l unmade (lines text) ≡ Ok m → None ≡ entry l → n ≡ last_line text → assembled text ≡ Err (record { rule = A9; line = n })
+    make 1 l unmade (lines text) ≡ Ok m → None ≡ entry_point l → n ≡ last_line_number text → assembled text ≡ Err (record { rule = A9; line = n })
 no_main text l m n i h e k =
     let g = i.same in
     let made = make_alike i.laid l i.alike 1 unmade (lines text) ∙ h in
@@ -32,7 +32,7 @@ no_main text l m n i h e k =
     rw g (rw made (rw none (rw (← k) refl)))
 
 pub whole : (text : List ℕ) (l : Layout) (m : Made) (p : ℕ) → IsLaidOut (layout 1 blank (lines text)) l →
-    make 1 l unmade (lines text) ≡ Ok m → Some p ≡ entry l → assembled text ≡ Ok (record { code = m.code; statics = m.statics; entry = p })
+    make 1 l unmade (lines text) ≡ Ok m → Some p ≡ entry_point l → assembled text ≡ Ok (record { code = m.code; statics = m.statics; entry = p })
 whole text l m p i h e =
     let g = i.same in
     let made = make_alike i.laid l i.alike 1 unmade (lines text) ∙ h in

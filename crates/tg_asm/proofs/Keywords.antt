@@ -7,9 +7,9 @@ use Rattle.tg_asm_text.specs.declared.keywords.Keyword.TheVariants.{Sll, Srl, Sr
 use Rattle.tg_asm_text.specs.declared.keywords.Keyword.TheVariants.{And, Or, Xor, Nor, Slt, Sltu, J, Jal, Beq, Bne, Blez, Bgtz, Bltz, Bgez, Addi, Addiu}
 use Rattle.tg_asm_text.specs.declared.keywords.Keyword.TheVariants.{Slti, Sltiu, Andi, Ori, Xori, Lui, Lb, Lbu, Lw, Sb, Sw, Nop, Move, Li, La, Text, Data}
 use Rattle.tg_asm_text.specs.declared.keywords.Keyword.TheVariants.{Globl, Word, Byte, Ascii, Asciiz, Space, Align}
-use Rattle.tg_asm_text.specs.Items.{spelling, keywords, among, keyword}
+use Rattle.tg_asm_text.specs.Items.{keyword_text, keywords, among, keyword}
 
-spelled_first : (k : Keyword) → keyword (spelling k) ≡ Some k
+spelled_first : (k : Keyword) → keyword (keyword_text k) ≡ Some k
 spelled_first Sll = refl
 spelled_first Srl = refl
 spelled_first Sra = refl
@@ -66,23 +66,23 @@ spelled_first Asciiz = refl
 spelled_first Space = refl
 spelled_first Align = refl
 
-pub keyword_spelled : (text : List ℕ) (k : Keyword) → text ≡ spelling k → Some k ≡ keyword text
+pub keyword_spelled : (text : List ℕ) (k : Keyword) → text ≡ keyword_text k → Some k ≡ keyword text
 keyword_spelled text k e = sym (ap keyword e ∙ spelled_first k)
 
-among_found : (ks : List Keyword) (text : List ℕ) (k : Keyword) → among ks text ≡ Some k → text ≡ spelling k
+among_found : (ks : List Keyword) (text : List ℕ) (k : Keyword) → among ks text ≡ Some k → text ≡ keyword_text k
 among_found [] text k e = cc
-among_found (j ∷ ks) text k e = by (bytes_eq (spelling j) text) refl (among_found ks text k)
+among_found (j ∷ ks) text k e = by (bytes_eq (keyword_text j) text) refl (among_found ks text k)
   where
-    by : (b : Bool) → bytes_eq (spelling j) text ≡ b → (among ks text ≡ Some k → text ≡ spelling k) → text ≡ spelling k
+    by : (b : Bool) → bytes_eq (keyword_text j) text ≡ b → (among ks text ≡ Some k → text ≡ keyword_text k) → text ≡ keyword_text k
     by true h ih =
         let s : Some j ≡ Some k = rw h at e in
         let i : j ≡ k = cc in
-        sym ((bytes_eq-Decides (spelling j) text).0 h) ∙ ap spelling i
+        sym ((bytes_eq-Decides (keyword_text j) text).0 h) ∙ ap keyword_text i
     by false h ih = ih (rw h at e)
 
-none_found : (text : List ℕ) (r : Option Keyword) → keyword text ≡ r → ((k : Keyword) → text ≢ spelling k) → None ≡ r
+none_found : (text : List ℕ) (r : Option Keyword) → keyword text ≡ r → ((k : Keyword) → text ≢ keyword_text k) → None ≡ r
 none_found text None e h = refl
 none_found text (Some k) e h = absurd (h k (among_found keywords text k e))
 
-pub keyword_none : (text : List ℕ) → ((k : Keyword) → text ≢ spelling k) → None ≡ keyword text
+pub keyword_none : (text : List ℕ) → ((k : Keyword) → text ≢ keyword_text k) → None ≡ keyword text
 keyword_none text h = none_found text (keyword text) refl h

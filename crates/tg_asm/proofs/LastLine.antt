@@ -1,7 +1,7 @@
 -- The last line is counted by newlines with a byte behind them.
 use Rattle.std.proofs.Common.{◌≡◌, ◌+◌, ◌==◌, ℕ, Bool, true, false, cond, List, [], ◌∷◌, ◌++◌, count_by, refl, sym, ap, ◌∙◌, arith}
 use Rattle.std.proofs.lemmas.List.Sums.{sum_by-cons}
-use Rattle.tg_asm_text.specs.Assembly.{last_line, count_line}
+use Rattle.tg_asm_text.specs.Assembly.{last_line_number, count_line}
 
 abbrev is_newline : ℕ → Bool
 is_newline c = c == 10
@@ -18,16 +18,16 @@ counted c (d ∷ text) x n = by (c == 10)
     by true = omega arith
     by false = omega arith
 
-lines_counted : (front : List ℕ) (x : ℕ) → last_line (front ++ x ∷ []) ≡ count_by is_newline front + 1
+lines_counted : (front : List ℕ) (x : ℕ) → last_line_number (front ++ x ∷ []) ≡ count_by is_newline front + 1
 lines_counted [] x = refl
 lines_counted (c ∷ front) x =
     let e = lines_counted front x in
-    let k = counted c front x (last_line (front ++ x ∷ [])) in
+    let k = counted c front x (last_line_number (front ++ x ∷ [])) in
     let s = sum_by-cons (λ b. cond (is_newline b) 1 0) c front in
     k ∙ omega (arith, e, s)
 
-pub last_counted : (text front : List ℕ) (x n : ℕ) → text ≡ front ++ x ∷ [] → n ≡ count_by is_newline front → n + 1 ≡ last_line text
-last_counted text front x n e k = ap (λ j. j + 1) k ∙ sym (ap last_line e ∙ lines_counted front x)
+pub last_counted : (text front : List ℕ) (x n : ℕ) → text ≡ front ++ x ∷ [] → n ≡ count_by is_newline front → n + 1 ≡ last_line_number text
+last_counted text front x n e k = ap (λ j. j + 1) k ∙ sym (ap last_line_number e ∙ lines_counted front x)
 
-pub no_line : (text : List ℕ) → text ≡ [] → 1 ≡ last_line text
+pub no_line : (text : List ℕ) → text ≡ [] → 1 ≡ last_line_number text
 no_line text e = rw e refl

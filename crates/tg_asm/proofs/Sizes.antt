@@ -8,7 +8,7 @@ use Rattle.tg_asm_text.specs.Lines.{lines}
 use Rattle.tg_asm_text.specs.Items.{Item, Nothing, Section, Words, Data', Coded, Datum, Value, AddressOfLabel, Single, Bytes, Zeros, width, widths}
 use Rattle.tg_state.specs.State.{most_words, most_bytes}
 use Rattle.tg_asm_text.specs.Assembly.{Layout, LabelTarget, Reading, Made, blank, unmade, spot_of, add_label, add_new, add_one, add_labels, add_words}
-use Rattle.tg_asm_text.specs.Assembly.{add_data, add_item, add_reading, add_line, layout, round_up, word, make_words, address_of, datum_bytes, place_bytes}
+use Rattle.tg_asm_text.specs.Assembly.{add_data, add_item, add_reading, add_line, layout, round_up, word, make_words, label_address, datum_bytes, place_bytes}
 use Rattle.tg_asm_text.specs.Assembly.{make_data, pad, make_item, make_reading, make_line, make, reading}
 
 -- the segment is the same, and there are as many words and bytes
@@ -81,7 +81,7 @@ place_wide (Err q) b e = cc
 
 datum_wide : (l : Layout) (d : Datum) (b : List ℕ) → datum_bytes l d ≡ Ok b → length b ≡ width d
 datum_wide l (Value n) b e = same_bytes _ b e
-datum_wide l (AddressOfLabel label) b e = place_wide (address_of l (spot_of l label)) b e
+datum_wide l (AddressOfLabel label) b e = place_wide (label_address l (spot_of l label)) b e
 datum_wide l (Single n) b e = same_bytes _ b e
 datum_wide l (Bytes bytes) b e = same_bytes _ b e
 datum_wide l (Zeros n) b e = same_bytes _ b e ∙ length-replicate n 0

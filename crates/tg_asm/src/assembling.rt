@@ -16,7 +16,7 @@ use tg_isa::Image;
 
 /// The place of `main`, where that is in the code and not at its end.
 fn entry(layout: &Layout<'_>) -> Option<u32>
-    ensures { result ≡ assembly.entry (layout_of layout.now) }
+    ensures { result ≡ assembly.entry_point (layout_of layout.now) }
 {
     match layout.labels.find(b"main") {
         Some(LabelTarget::InCode(at)) if at < layout.words => Some(address(
@@ -37,7 +37,7 @@ fn newlines(bytes: &[u8]) -> usize
 
 /// The number of a text's last line. A newline at the text's end begins none.
 fn last_line(text: &[u8]) -> u64
-    ensures { result ≡ assembly.last_line text.now }
+    ensures { result ≡ assembly.last_line_number text.now }
 {
     match text.split_last() {
         Some((_, front)) => newlines(front) as u64 + 1,

@@ -423,7 +423,7 @@ fn power(exponent: u32) -> Align
 /// An item without operands.
 fn alone<'a>(operands: &[Operand<'a>], item: Item<'a>) -> Result<Item<'a>, Refused>
     ensures { GivesMeant item_of
-        (items.alone (map operand_of operands.now) (item_of item.entry)) result }
+        (items.without_operands (map operand_of operands.now) (item_of item.entry)) result }
 {
     if operands.is_empty() {
         Ok(item)
@@ -434,7 +434,7 @@ fn alone<'a>(operands: &[Operand<'a>], item: Item<'a>) -> Result<Item<'a>, Refus
 
 /// `.globl`.
 fn named<'a>(operands: &[Operand<'a>]) -> Result<Item<'a>, Refused>
-    ensures { GivesMeant item_of (items.named (map operand_of operands.now)) result }
+    ensures { GivesMeant item_of (items.globl_item (map operand_of operands.now)) result }
 {
     match operands {
         [Operand::Plain(text)] if is_label(text) => Ok(Item::Nothing),

@@ -15,7 +15,7 @@ use tg_state::{CODE_BASE, STATICS_BASE};
 
 /// The place of a spot.
 pub(crate) fn address(layout: &Layout<'_>, spot: LabelTarget) -> u32
-    ensures { result ≡ assembly.address (layout_of layout.now) (spot_of spot) }
+    ensures { result ≡ assembly.target_address (layout_of layout.now) (spot_of spot) }
 {
     match spot {
         LabelTarget::InCode(at) => add(CODE_BASE, mul(4, at)),
@@ -32,7 +32,7 @@ pub(crate) fn address(layout: &Layout<'_>, spot: LabelTarget) -> u32
 
 /// The place of a label, or that there is none.
 pub(crate) fn place_of<'a>(layout: &Layout<'a>, label: &'a [u8]) -> Result<u32, AsmRule>
-    ensures { result ≡ assembly.address_of (layout_of layout.now)
+    ensures { result ≡ assembly.label_address (layout_of layout.now)
         (assembly.spot_of (layout_of layout.now) label.now) }
 {
     match layout.labels.find(label) {

@@ -6,7 +6,7 @@ use tg_isa::{Reg, name};
 
 /// The register that a text names by a word.
 fn named(text: &[u8]) -> Option<u8>
-    ensures value { result ≡ operands.named text.now }
+    ensures value { result ≡ operands.named_register text.now }
     ensures fits { IfSome result (λ r. r < 32) }
 {
     for r in 0..32 {
@@ -33,7 +33,7 @@ fn numbered(text: &[u8]) -> Option<u8>
 
 /// The register that a text is.
 pub(crate) fn register(text: &[u8]) -> Option<Reg>
-    ensures { result ≡ operands.register text.now }
+    ensures { result ≡ operands.register_operand text.now }
 {
     match named(text) {
         Some(r) => Some(Reg::new(r)),

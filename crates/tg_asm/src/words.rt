@@ -1,6 +1,6 @@
 ghost use Rattle.std.specs.Prelude.{◌≡◌, ◌≢◌, MatchOption};
 ghost use Rattle.tg_asm_text.specs.Items as items;
-ghost use Rattle.tg_asm_text.specs.Items.{spelling};
+ghost use Rattle.tg_asm_text.specs.Items.{keyword_text};
 ghost use Rattle.tg_asm_text.specs.Operands.{is_within};
 ghost use Rattle.tg_asm_text.specs.declared.keywords.Keyword.{Keyword};
 ghost use Rattle.tg_asm.specs.Numbers.{signed_of};
@@ -11,8 +11,8 @@ use tg_state::MOST_BYTES;
 
 /// The item that a word is spelled as.
 fn spelled(text: &[u8]) -> Option<Keyword>
-    ensures { MatchOption result ((k : Keyword) → text.now ≢ spelling k)
-        (λ k. text.now ≡ spelling k) }
+    ensures { MatchOption result ((k : Keyword) → text.now ≢ keyword_text k)
+        (λ k. text.now ≡ keyword_text k) }
 {
     match text {
         b"sll" => Some(Keyword::Sll),
@@ -163,7 +163,7 @@ pub(crate) fn takes(keyword: Keyword, number: Signed) -> bool
 
 /// Whether an item may stand in a segment.
 pub(crate) fn stands_in(keyword: Keyword, segment: Segment) -> bool
-    ensures { result ≡ items.stands_in keyword segment }
+    ensures { result ≡ items.may_stand_in keyword segment }
 {
     match keyword {
         Keyword::Text | Keyword::Data | Keyword::Globl => true,

@@ -8,7 +8,7 @@ use Rattle.tg_state.specs.State.{most_words, most_bytes}
 use Rattle.tg_asm_text.specs.declared.keywords.Segment.{Segment}
 use Rattle.tg_asm_text.specs.declared.keywords.Segment.TheVariants.{Code, Statics}
 use Rattle.tg_asm_text.specs.Items.{Item, Nothing, Section, Words, Data', widths}
-use Rattle.tg_asm_text.specs.Assembly.{Reading, LabelTarget, InCode, InStatics, Layout, spot_among, spot_of, address, address_of, round_up}
+use Rattle.tg_asm_text.specs.Assembly.{Reading, LabelTarget, InCode, InStatics, Layout, spot_among, spot_of, target_address, label_address, round_up}
 use Rattle.tg_asm_text.specs.Placement.{segment_behind, item_words, code_in, byte_behind, last_byte, begins_at, next_byte, Position, AtWord, AtByte}
 use Rattle.tg_asm_text.specs.Placement.{address_at, next_position, Positions, positions_from, position_of, found_address}
 use Rattle.tg_asm_text.proofs.FirstPass.{item_starts, starts_from, spot_next, Entries, named_so, spots_from, starts_alike, bytes_grow}
@@ -144,14 +144,14 @@ pub is_within : (rs : List Reading) (name : List ℕ) (p : Position) → length 
 is_within rs name p h k e = subst (FoundWithin most_words most_bytes) e (found_within rs Code 0 0 most_words most_bytes name (omega (arith, h)) k)
 
 address_same : (l : Layout) (s : LabelTarget) → Within most_words most_bytes (resolved l.starts l.size s) →
-    address l s ≡ address_at (resolved l.starts l.size s)
+    target_address l s ≡ address_at (resolved l.starts l.size s)
 address_same l (InCode n) h = omega (arith, h)
 address_same l (InStatics k) h = omega (arith, h)
 
 pub address_known : (l : Layout) (ps : Positions) (name : List ℕ) → Knows l ps → IsSome (position_of ps name) →
-    address_of l (spot_of l name) ≡ Ok (found_address (position_of ps name))
+    label_address l (spot_of l name) ≡ Ok (found_address (position_of ps name))
 address_known l ps name k h = by (spot_of l name) (k.spots name)
   where
-    by : (o : Option LabelTarget) → position_of ps name ≡ found_so l.starts l.size o → address_of l o ≡ Ok (found_address (position_of ps name))
+    by : (o : Option LabelTarget) → position_of ps name ≡ found_so l.starts l.size o → label_address l o ≡ Ok (found_address (position_of ps name))
     by (Some s) e = ap Ok (address_same l s (k.within name (resolved l.starts l.size s) e)) ∙ ap (λ o. Ok (found_address o)) (sym e)
     by None e = let n = rw e at h in cc

@@ -7,10 +7,10 @@ use Rattle.std.proofs.lemmas.Fmt.{decimal_by_steps}
 use Rattle.std.proofs.lemmas.Bool.{eqb-true, le-leb, ltb-true, ltb-false}
 use Rattle.std.proofs.lemmas.Bool.Decides.{eqb_tells}
 use Rattle.std.proofs.Math.Nat.{mod-eq_of_lt}
-use Rattle.tg_isa.specs.Names.{name_of}
+use Rattle.tg_isa.specs.Names.{register_name}
 use Rattle.tg_asm_text.specs.Lines.{front, back, is_end, begins_label, is_past_label}
-use Rattle.tg_asm_text.specs.Operands.{Signed, capped, digit, digits, some_digits, hexadecimal, magnitude, with_sign, number, is_within, field, register}
-use Rattle.tg_asm_text.specs.Operands.{is_label, or_nothing, address_of, closed_address, in_parens, based}
+use Rattle.tg_asm_text.specs.Operands.{Signed, capped, digit, digits, some_digits, hexadecimal, magnitude, with_sign, number, is_within, field}
+use Rattle.tg_asm_text.specs.Operands.{register_operand, is_label, or_nothing, address_operand, closed_address, in_parens, based}
 use Rattle.tg_asm_text.specs.Writing.{signed_text, based_text}
 use Rattle.tg_asm_text.proofs.WordCuts.{and_true, or_false, not_true, none_of, is_some, is_newline, first_not, rest_not, none_cons, none_append}
 use Rattle.tg_asm_text.proofs.WordCuts.{front_until, back_until, IsWord}
@@ -44,14 +44,14 @@ value_is (Some m) n h = ap Some (eqb-true m n h)
 value_is None n h = cc
 
 -- registers
-pub register_named : (r : ℕ) → r < 32 → register (name_of r) ≡ Some r
-register_named r h = value_is (register (name_of r)) r (below_holds 32 (λ k. is_value (register (name_of k)) k) r refl h)
+pub register_named : (r : ℕ) → r < 32 → register_operand (register_name r) ≡ Some r
+register_named r h = value_is (register_operand (register_name r)) r (below_holds 32 (λ k. is_value (register_operand (register_name k)) k) r refl h)
 
-pub name_word : (r : ℕ) → r < 32 → IsWord (name_of r)
+pub name_word : (r : ℕ) → r < 32 → IsWord (register_name r)
 name_word r h = record {
-  ends = below_holds 32 (λ k. none_of is_end (name_of k)) r refl h;
-  newlines = below_holds 32 (λ k. none_of is_newline (name_of k)) r refl h;
-  some = below_holds 32 (λ k. is_some (name_of k)) r refl h;
+  ends = below_holds 32 (λ k. none_of is_end (register_name k)) r refl h;
+  newlines = below_holds 32 (λ k. none_of is_newline (register_name k)) r refl h;
+  some = below_holds 32 (λ k. is_some (register_name k)) r refl h;
 }
 
 abbrev is_close : ℕ → Bool
@@ -60,8 +60,8 @@ is_close c = c == 41
 abbrev is_open : ℕ → Bool
 is_open c = c == 40
 
-name_closes : (r : ℕ) → r < 32 → none_of is_close (name_of r) ≡ true
-name_closes r h = below_holds 32 (λ k. none_of is_close (name_of k)) r refl h
+name_closes : (r : ℕ) → r < 32 → none_of is_close (register_name r) ≡ true
+name_closes r h = below_holds 32 (λ k. none_of is_close (register_name k)) r refl h
 
 -- digits: bytes that end nothing and are neither `(`, `-` nor `x`
 abbrev is_other : ℕ → Bool
@@ -231,26 +231,26 @@ based_word n r h k =
     let s = (signed_number n h).word in
     let w = name_word r k in
     record {
-      ends = none_append is_end (signed_text n ++ 40 ∷ name_of r) (41 ∷ []) (none_append is_end (signed_text n) (40 ∷ name_of r) s.ends w.ends) refl;
-      newlines = none_append is_newline (signed_text n ++ 40 ∷ name_of r) (41 ∷ [])
-          (none_append is_newline (signed_text n) (40 ∷ name_of r) s.newlines w.newlines) refl;
-      some = some_more (signed_text n ++ 40 ∷ name_of r) 41;
+      ends = none_append is_end (signed_text n ++ 40 ∷ register_name r) (41 ∷ []) (none_append is_end (signed_text n) (40 ∷ register_name r) s.ends w.ends) refl;
+      newlines = none_append is_newline (signed_text n ++ 40 ∷ register_name r) (41 ∷ [])
+          (none_append is_newline (signed_text n) (40 ∷ register_name r) s.newlines w.newlines) refl;
+      some = some_more (signed_text n ++ 40 ∷ register_name r) 41;
     }
 
 or_number : (t : List ℕ) → is_some t ≡ true → or_nothing t ≡ number t
 or_number [] h = cc
 or_number (c ∷ t) h = refl
 
-closed_read : (s : Signed) (r : ℕ) (name : List ℕ) → none_of is_close name ≡ true → register name ≡ Some r →
+closed_read : (s : Signed) (r : ℕ) (name : List ℕ) → none_of is_close name ≡ true → register_operand name ≡ Some r →
     closed_address (Some s) (name ++ 41 ∷ []) ≡ Some (record { number = s; base = r })
 closed_read s r name c e =
     let b : back is_close (name ++ 41 ∷ []) ≡ 41 ∷ [] = back_until is_close name (41 ∷ []) c refl in
     let f : front is_close (name ++ 41 ∷ []) ≡ name = front_until is_close name (41 ∷ []) c refl in
-    ap (λ l. cond (length l == 1) (address_of (Some s) (register (front is_close (name ++ 41 ∷ [])))) None) b
-    ∙ ap (λ l. address_of (Some s) (register l)) f
-    ∙ ap (address_of (Some s)) e
+    ap (λ l. cond (length l == 1) (address_operand (Some s) (register_operand (front is_close (name ++ 41 ∷ [])))) None) b
+    ∙ ap (λ l. address_operand (Some s) (register_operand l)) f
+    ∙ ap (address_operand (Some s)) e
 
-based_at : (t name : List ℕ) (s : Signed) (r : ℕ) → NumberText t s → none_of is_close name ≡ true → register name ≡ Some r →
+based_at : (t name : List ℕ) (s : Signed) (r : ℕ) → NumberText t s → none_of is_close name ≡ true → register_operand name ≡ Some r →
     based (t ++ 40 ∷ (name ++ 41 ∷ [])) ≡ Some (record { number = s; base = r })
 based_at t name s r n c e =
     let rest = 40 ∷ (name ++ 41 ∷ []) in
@@ -262,8 +262,8 @@ based_at t name s r n c e =
     ∙ closed_read s r name c e
 
 pub based_read : (n r : ℕ) → n < 2 ^ 16 → r < 32 → based (based_text n r) ≡ Some (record { number = signed_of n; base = r })
-based_read n r h k = ap based (append_assoc (signed_text n) (40 ∷ name_of r) (41 ∷ []))
-    ∙ based_at (signed_text n) (name_of r) (signed_of n) r (signed_number n h) (name_closes r k) (register_named r k)
+based_read n r h k = ap based (append_assoc (signed_text n) (40 ∷ register_name r) (41 ∷ []))
+    ∙ based_at (signed_text n) (register_name r) (signed_of n) r (signed_number n h) (name_closes r k) (register_named r k)
 
 -- labels
 pub none_past : (class : ℕ → Bool) (t : List ℕ) → (length (back class t) == 0) ≡ true → none_of class t ≡ true

@@ -4,8 +4,8 @@ use Rattle.std.proofs.Common.{◌≡◌, ◌<◌, ◌≤◌, ℕ, true, List, []
 use Rattle.tg_state.specs.State.{most_words}
 use Rattle.tg_asm_text.specs.declared.keywords.Segment.TheVariants.{Code}
 use Rattle.tg_asm_text.specs.Lines.{lines}
-use Rattle.tg_asm_text.specs.Assembly.{Reading, LabelTarget, InCode, InStatics, Layout, blank, spot_of, address, entry_at, entry, unmade, make, layout}
-use Rattle.tg_asm_text.specs.Assembly.{enter, finish, fill_in, assembled}
+use Rattle.tg_asm_text.specs.Assembly.{Reading, LabelTarget, InCode, InStatics, Layout, blank, spot_of, target_address, entry_at, entry_point, unmade, make}
+use Rattle.tg_asm_text.specs.Assembly.{layout, enter, finish, fill_in, assembled}
 use Rattle.tg_asm_text.specs.Placement.{AtWord, address_at, Reads, code_in, last_byte, Positions, positions, position_of, found_address, placed_words}
 use Rattle.tg_asm_text.specs.Placement.{placed_bytes, image_of, JumpReaches, WordsReach, IsSound}
 use Rattle.tg_asm_text.specs.Laws.{ReadingsHaveImage}
@@ -21,7 +21,7 @@ known rs s = record {
 }
 
 entered : (l : Layout) (ps : Positions) → Knows l ps → JumpReaches l.words (position_of ps (codes "main")) →
-    entry l ≡ Some (found_address (position_of ps (codes "main")))
+    entry_point l ≡ Some (found_address (position_of ps (codes "main")))
 entered l ps k h = by (spot_of l (codes "main")) (k.spots (codes "main"))
   where
     by : (o : Option LabelTarget) → position_of ps (codes "main") ≡ found_so l.starts l.size o → entry_at l o ≡
@@ -30,7 +30,7 @@ entered l ps k h = by (spot_of l (codes "main")) (k.spots (codes "main"))
         let r : i < l.words = subst (JumpReaches l.words) e h in
         let t : nat_lt i l.words ≡ true = lt-ltb i l.words r in
         let w : i ≤ most_words = k.within (codes "main") (AtWord i) e in
-        let a : address l (InCode i) ≡ address_at (AtWord i) = omega (arith, w) in
+        let a : target_address l (InCode i) ≡ address_at (AtWord i) = omega (arith, w) in
         rw t (ap Some a ∙ ap (λ o. Some (found_address o)) (sym e))
     by (Some (InStatics i)) e = absurd (subst (JumpReaches l.words) e h)
     by None e = absurd (subst (JumpReaches l.words) e h)

@@ -13,8 +13,8 @@ use Rattle.tg_asm_text.specs.declared.keywords.Segment.TheVariants.{Code, Static
 use Rattle.tg_asm_text.specs.declared.keywords.AsmRule.{AsmRule}
 use Rattle.tg_asm_text.specs.declared.keywords.AsmRule.TheVariants.{A7, A1}
 use Rattle.tg_asm_text.specs.declared.keywords.Slot.TheVariants as slot
-use Rattle.tg_isa.specs.Names.{name_of}
-use Rattle.tg_asm_text.specs.Lines.{lines, is_blank, is_between, Next, cut, before_lines, onto_first, front, back, is_past_label, before_colon, label_at}
+use Rattle.tg_isa.specs.Names.{register_name}
+use Rattle.tg_asm_text.specs.Lines.{lines, is_blank, is_in_range, Next, cut, before_lines, onto_first, front, back, is_past_label, before_colon, label_at}
 use Rattle.tg_asm_text.specs.Lines.{begins_label, unlabelled, before_labelled, labelled, Plain, Quoted, as_quoted, quoted, before_quoted, operands}
 use Rattle.tg_asm_text.specs.Lines.{cut_with, cut_item, Labelled, is_over, is_end, operands_in, skip, Operand}
 use Rattle.tg_asm_text.specs.Operands.{nothing, fill_all, is_label, plain, string, before_string, unfilled}
@@ -112,19 +112,20 @@ la_ready : Ready word.La 108 (97 ∷ [])
 la_ready = ready refl (λ os. refl)
 
 la_fills : (r : ℕ) (label : List ℕ) → r < 32 → is_label label ≡ true → fill_all (slot.Rt ∷ slot.Label ∷ [])
-    (Plain (name_of r) ∷ Plain label ∷ []) unfilled ≡ Some (fields 31 0 r nothing label)
+    (Plain (register_name r) ∷ Plain label ∷ []) unfilled ≡ Some (fields 31 0 r nothing label)
 la_fills r label h k =
-    step slot.Rt (slot.Label ∷ []) (Plain (name_of r)) (Plain label ∷ []) (fields 31 0 0 nothing []) (fields 31 0 r nothing [])
-    (rt_in (name_of r) r (fields 31 0 0 nothing []) (register_named r h))
+    step slot.Rt (slot.Label ∷ []) (Plain (register_name r)) (Plain label ∷ []) (fields 31 0 0 nothing []) (fields 31 0 r nothing [])
+    (rt_in (register_name r) r (fields 31 0 0 nothing []) (register_named r h))
     ∙ step slot.Label [] (Plain label) [] (fields 31 0 r nothing []) (fields 31 0 r nothing label) (label_in label (fields 31 0 r nothing []) k)
 
-la_words : (r : ℕ) (label : List ℕ) → r < 32 → is_label label ≡ true → AreWords (name_of r ∷ label ∷ [])
+la_words : (r : ℕ) (label : List ℕ) → r < 32 → is_label label ≡ true → AreWords (register_name r ∷ label ∷ [])
 la_words r label h k = (name_word r h, (label_word label k, tt))
 
-la_read : (r : ℕ) (label : List ℕ) → r < 32 → is_label label ≡ true → IsRead Code (codes "la" ++ joined (name_of r ∷ label ∷ [])) (reading_of (La r label))
+la_read : (r : ℕ) (label : List ℕ) → r < 32 → is_label label ≡ true →
+    IsRead Code (codes "la" ++ joined (register_name r ∷ label ∷ [])) (reading_of (La r label))
 la_read r label h k = record {
-  line = words_line word.La 108 (97 ∷ []) (name_of r ∷ label ∷ []) la_ready (la_words r label h k);
-  read = words_read word.La 108 (97 ∷ []) (name_of r ∷ label ∷ []) (fields 31 0 r nothing label) la_ready (la_words r label h k) (la_fills r label h k) refl;
+  line = words_line word.La 108 (97 ∷ []) (register_name r ∷ label ∷ []) la_ready (la_words r label h k);
+  read = words_read word.La 108 (97 ∷ []) (register_name r ∷ label ∷ []) (fields 31 0 r nothing label) la_ready (la_words r label h k) (la_fills r label h k) refl;
 }
 
 -- directives of numbers
@@ -258,7 +259,7 @@ or_no_more false false h = h
 
 ordinary_plain : (c : ℕ) → IsOrdinary c → is_in_string c ≡ true → plain c ≡ Some c
 ordinary_plain c o h =
-    let k = or_no_more (is_between 32 126 c) (is_between 128 255 c) (rw (o.newline, o.tab, o.zero') at h) in
+    let k = or_no_more (is_in_range 32 126 c) (is_in_range 128 255 c) (rw (o.newline, o.tab, o.zero') at h) in
     rw k refl
 
 ordinary_escaped : (c : ℕ) → IsOrdinary c → escaped c ≡ c ∷ []
@@ -369,7 +370,7 @@ read_word-labels segment labels os (c ∷ word) r h = by (items.keyword (c ∷ w
     stands k false e = cc
 
     by : (o : Option Keyword) → read_known segment labels os o ≡ Ok r → labels ≡ r.labels
-    by (Some k) e = stands k (items.stands_in k segment) e
+    by (Some k) e = stands k (items.may_stand_in k segment) e
     by None e = cc
 
 cut_with-labels : (segment : Segment) (labels : List (List ℕ)) (word : List ℕ) (found : Option (List Operand)) (r : Reading) →
@@ -413,7 +414,7 @@ line_read Statics (Enter Code) h = record { line = refl; read = refl }
 line_read Statics (Enter Statics) h = record { line = refl; read = refl }
 line_read segment (Label name) h = record { line = label_lines name h; read = label_read segment name h }
 line_read Code (One one target) h = let r = reads one target h.0 h.1 in indented Code (line_of one target) _ (record { line = r.line; read = r.read })
-line_read Code (La r label) h = indented Code (codes "la" ++ joined (name_of r ∷ label ∷ [])) _ (la_read r label h.0 h.1)
+line_read Code (La r label) h = indented Code (codes "la" ++ joined (register_name r ∷ label ∷ [])) _ (la_read r label h.0 h.1)
 line_read Statics (Align power) h = indented Statics (codes ".align" ++ joined (decimal power ∷ [])) _ (align_read power h)
 line_read Statics (Space n) h = indented Statics (codes ".space" ++ joined (decimal n ∷ [])) _ (space_read n h)
 line_read Statics (Words ns) h = indented Statics (codes ".word" ++ joined (map decimal ns)) _ (words_line_read ns h.0 h.1)

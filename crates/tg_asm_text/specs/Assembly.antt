@@ -16,10 +16,9 @@ use Rattle.tg_asm_text.specs.declared.keywords.AsmRule.TheVariants.{A1, A2, A4, 
 use Rattle.tg_isa.specs.Table.{word_of}
 use Rattle.tg_asm_text.specs.Lines.{lines, Cut, cut, Operand}
 use Rattle.tg_asm_text.specs.Operands.{field}
-use Rattle.tg_asm_text.specs.Items.{keyword, stands_in, Item, Nothing, Section, Words, Data', item}
-use Rattle.tg_asm_text.specs.Items.{Coded, Fixed, Branch, Jump, Upper, Lower, Datum, Value}
-use Rattle.tg_asm_text.specs.Items.{AddressOfLabel}
-use Rattle.tg_asm_text.specs.Items.{Single, Bytes, Zeros, widths}
+use Rattle.tg_asm_text.specs.Items.{keyword, may_stand_in, Item, Nothing, Section, Words, Data'}
+use Rattle.tg_asm_text.specs.Items.{item, Coded, Fixed, Branch, Jump, Upper, Lower, Datum, Value}
+use Rattle.tg_asm_text.specs.Items.{AddressOfLabel, Single, Bytes, Zeros, widths}
 
 -- Lines to items: the labels and the item of a line that stands in a segment, or the first fault of
 -- A1, A2, A3, A7.
@@ -34,7 +33,7 @@ with_labels labels (Err e) = Err e
 abbrev pub read_known : Segment → List (List ℕ) → List Operand → Option Keyword →
     Result Reading AsmRule
 read_known segment labels os (Some k) =
-    if stands_in k segment then with_labels labels (item k os) else Err A1
+    if may_stand_in k segment then with_labels labels (item k os) else Err A1
 read_known segment labels os None = Err A2
 
 abbrev pub read_word : Segment → List (List ℕ) → List Operand → List ℕ → Result Reading AsmRule
@@ -144,13 +143,13 @@ layout n l (line ∷ more) =
     ]
 
 -- Places to words, by the layout of the whole text.
-abbrev pub address : Layout → LabelTarget → ℕ
-address l (InCode i) = add code_base (mul 4 i)
-address l (InStatics k) = add statics_base (slice_index_or l.starts k l.size)
+abbrev pub target_address : Layout → LabelTarget → ℕ
+target_address l (InCode i) = add code_base (mul 4 i)
+target_address l (InStatics k) = add statics_base (slice_index_or l.starts k l.size)
 
-abbrev pub address_of : Layout → Option LabelTarget → Result ℕ AsmRule
-address_of l (Some s) = Ok (address l s)
-address_of l None = Err A5
+abbrev pub label_address : Layout → Option LabelTarget → Result ℕ AsmRule
+label_address l (Some s) = Ok (target_address l s)
+label_address l None = Err A5
 
 -- a row with a field for its label
 abbrev pub with_offset : Mips → ℕ → Mips
@@ -203,8 +202,8 @@ abbrev pub word : Layout → (at : ℕ) → Coded → Result ℕ AsmRule
 word l at (Fixed one) = Ok (word_of one)
 word l at (Branch one label) = branch_to one at (spot_of l label)
 word l at (Jump one label) = jump_to l one (spot_of l label)
-word l at (Upper r label) = upper r (address_of l (spot_of l label))
-word l at (Lower r label) = lower r (address_of l (spot_of l label))
+word l at (Upper r label) = upper r (label_address l (spot_of l label))
+word l at (Lower r label) = lower r (label_address l (spot_of l label))
 
 -- the four bytes of a word
 abbrev pub word_bytes : ℕ → List ℕ
@@ -216,7 +215,7 @@ place_bytes (Err e) = Err e
 
 abbrev pub datum_bytes : Layout → Datum → Result (List ℕ) AsmRule
 datum_bytes l (Value n) = Ok (word_bytes (field 32 n))
-datum_bytes l (AddressOfLabel label) = place_bytes (address_of l (spot_of l label))
+datum_bytes l (AddressOfLabel label) = place_bytes (label_address l (spot_of l label))
 datum_bytes l (Single n) = Ok (field 8 n ∷ [])
 datum_bytes l (Bytes bytes) = Ok bytes
 datum_bytes l (Zeros n) = Ok (replicate n 0)
@@ -286,25 +285,25 @@ abbrev pub count_line : ℕ → List ℕ → ℕ → ℕ
 count_line c [] n = n
 count_line c (d ∷ text) n = if c == 10 then n + 1 else n
 
-abbrev pub last_line : List ℕ → ℕ
-last_line [] = 1
-last_line (c ∷ text) = count_line c text (last_line text)
+abbrev pub last_line_number : List ℕ → ℕ
+last_line_number [] = 1
+last_line_number (c ∷ text) = count_line c text (last_line_number text)
 
 -- the entry is the place of `main`, which is in the code and not at its end
 abbrev pub entry_at : Layout → Option LabelTarget → Option ℕ
-entry_at l (Some (InCode i)) = if nat_lt i l.words then Some (address l (InCode i)) else None
+entry_at l (Some (InCode i)) = if nat_lt i l.words then Some (target_address l (InCode i)) else None
 entry_at l (Some (InStatics k)) = None
 entry_at l None = None
 
-abbrev pub entry : Layout → Option ℕ
-entry l = entry_at l (spot_of l (codes "main"))
+abbrev pub entry_point : Layout → Option ℕ
+entry_point l = entry_at l (spot_of l (codes "main"))
 
 abbrev pub enter : List ℕ → Made → Option ℕ → Result Assembled Fault
 enter text m (Some place) = Ok (record { code = m.code; statics = m.statics; entry = place })
-enter text m None = Err (record { rule = A9; line = last_line text })
+enter text m None = Err (record { rule = A9; line = last_line_number text })
 
 abbrev pub finish : List ℕ → Layout → Result Made Fault → Result Assembled Fault
-finish text l (Ok m) = enter text m (entry l)
+finish text l (Ok m) = enter text m (entry_point l)
 finish text l (Err f) = Err f
 
 abbrev pub fill_in : List ℕ → Result Layout Fault → Result Assembled Fault

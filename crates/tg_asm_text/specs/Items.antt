@@ -28,62 +28,62 @@ use Rattle.tg_asm_text.specs.Operands.{Signed, number, is_within, field, is_labe
 use Rattle.tg_asm_text.specs.Operands.{unfilled, fill_all}
 
 -- the words that name items
-abbrev pub spelling : Keyword → List ℕ
-spelling Sll = codes "sll"
-spelling Srl = codes "srl"
-spelling Sra = codes "sra"
-spelling Jr = codes "jr"
-spelling Jalr = codes "jalr"
-spelling Syscall = codes "syscall"
-spelling Break = codes "break"
-spelling Mfhi = codes "mfhi"
-spelling Mflo = codes "mflo"
-spelling Mult = codes "mult"
-spelling Div = codes "div"
-spelling Add = codes "add"
-spelling Sub = codes "sub"
-spelling Addu = codes "addu"
-spelling Subu = codes "subu"
-spelling And = codes "and"
-spelling Or = codes "or"
-spelling Xor = codes "xor"
-spelling Nor = codes "nor"
-spelling Slt = codes "slt"
-spelling Sltu = codes "sltu"
-spelling J = codes "j"
-spelling Jal = codes "jal"
-spelling Beq = codes "beq"
-spelling Bne = codes "bne"
-spelling Blez = codes "blez"
-spelling Bgtz = codes "bgtz"
-spelling Bltz = codes "bltz"
-spelling Bgez = codes "bgez"
-spelling Addi = codes "addi"
-spelling Addiu = codes "addiu"
-spelling Slti = codes "slti"
-spelling Sltiu = codes "sltiu"
-spelling Andi = codes "andi"
-spelling Ori = codes "ori"
-spelling Xori = codes "xori"
-spelling Lui = codes "lui"
-spelling Lb = codes "lb"
-spelling Lbu = codes "lbu"
-spelling Lw = codes "lw"
-spelling Sb = codes "sb"
-spelling Sw = codes "sw"
-spelling Nop = codes "nop"
-spelling Move = codes "move"
-spelling Li = codes "li"
-spelling La = codes "la"
-spelling Text = codes ".text"
-spelling Data = codes ".data"
-spelling Globl = codes ".globl"
-spelling Word = codes ".word"
-spelling Byte = codes ".byte"
-spelling Ascii = codes ".ascii"
-spelling Asciiz = codes ".asciiz"
-spelling Space = codes ".space"
-spelling Align = codes ".align"
+abbrev pub keyword_text : Keyword → List ℕ
+keyword_text Sll = codes "sll"
+keyword_text Srl = codes "srl"
+keyword_text Sra = codes "sra"
+keyword_text Jr = codes "jr"
+keyword_text Jalr = codes "jalr"
+keyword_text Syscall = codes "syscall"
+keyword_text Break = codes "break"
+keyword_text Mfhi = codes "mfhi"
+keyword_text Mflo = codes "mflo"
+keyword_text Mult = codes "mult"
+keyword_text Div = codes "div"
+keyword_text Add = codes "add"
+keyword_text Sub = codes "sub"
+keyword_text Addu = codes "addu"
+keyword_text Subu = codes "subu"
+keyword_text And = codes "and"
+keyword_text Or = codes "or"
+keyword_text Xor = codes "xor"
+keyword_text Nor = codes "nor"
+keyword_text Slt = codes "slt"
+keyword_text Sltu = codes "sltu"
+keyword_text J = codes "j"
+keyword_text Jal = codes "jal"
+keyword_text Beq = codes "beq"
+keyword_text Bne = codes "bne"
+keyword_text Blez = codes "blez"
+keyword_text Bgtz = codes "bgtz"
+keyword_text Bltz = codes "bltz"
+keyword_text Bgez = codes "bgez"
+keyword_text Addi = codes "addi"
+keyword_text Addiu = codes "addiu"
+keyword_text Slti = codes "slti"
+keyword_text Sltiu = codes "sltiu"
+keyword_text Andi = codes "andi"
+keyword_text Ori = codes "ori"
+keyword_text Xori = codes "xori"
+keyword_text Lui = codes "lui"
+keyword_text Lb = codes "lb"
+keyword_text Lbu = codes "lbu"
+keyword_text Lw = codes "lw"
+keyword_text Sb = codes "sb"
+keyword_text Sw = codes "sw"
+keyword_text Nop = codes "nop"
+keyword_text Move = codes "move"
+keyword_text Li = codes "li"
+keyword_text La = codes "la"
+keyword_text Text = codes ".text"
+keyword_text Data = codes ".data"
+keyword_text Globl = codes ".globl"
+keyword_text Word = codes ".word"
+keyword_text Byte = codes ".byte"
+keyword_text Ascii = codes ".ascii"
+keyword_text Asciiz = codes ".asciiz"
+keyword_text Space = codes ".space"
+keyword_text Align = codes ".align"
 
 abbrev pub keywords : List Keyword
 keywords =
@@ -95,7 +95,7 @@ keywords =
 
 abbrev pub among : List Keyword → List ℕ → Option Keyword
 among [] text = None
-among (k ∷ ks) text = if bytes_eq (spelling k) text then Some k else among ks text
+among (k ∷ ks) text = if bytes_eq (keyword_text k) text then Some k else among ks text
 
 abbrev pub keyword : List ℕ → Option Keyword
 keyword text = among keywords text
@@ -370,19 +370,19 @@ abbrev pub aligned : Result ℕ AsmRule → Result Item AsmRule
 aligned (Ok n) = Ok (Data' (2 ^ n) [])
 aligned (Err e) = Err e
 
-abbrev pub alone : List Operand → Item → Result Item AsmRule
-alone [] item = Ok item
-alone (o ∷ os) item = Err A3
+abbrev pub without_operands : List Operand → Item → Result Item AsmRule
+without_operands [] item = Ok item
+without_operands (o ∷ os) item = Err A3
 
-abbrev pub named : List Operand → Result Item AsmRule
-named (Plain text ∷ []) = if is_label text then Ok Nothing else Err A3
-named _ = Err A3
+abbrev pub globl_item : List Operand → Result Item AsmRule
+globl_item (Plain text ∷ []) = if is_label text then Ok Nothing else Err A3
+globl_item _ = Err A3
 
 -- what an item is, or its first fault of A3 and A7
 abbrev pub item : Keyword → List Operand → Result Item AsmRule
-item Text os = alone os (Section Code)
-item Data os = alone os (Section Statics)
-item Globl os = named os
+item Text os = without_operands os (Section Code)
+item Data os = without_operands os (Section Statics)
+item Globl os = globl_item os
 item Word os = values Word 4 os
 item Byte os = values Byte 1 os
 item Ascii os = text_of [] os
@@ -392,21 +392,21 @@ item Align os = aligned (size_of Align os)
 item k os = instruction k os
 
 -- whether an item may stand in a segment
-abbrev pub stands_in : Keyword → Segment → Bool
-stands_in Text segment = true
-stands_in Data segment = true
-stands_in Globl segment = true
-stands_in Word Code = false
-stands_in Word Statics = true
-stands_in Byte Code = false
-stands_in Byte Statics = true
-stands_in Ascii Code = false
-stands_in Ascii Statics = true
-stands_in Asciiz Code = false
-stands_in Asciiz Statics = true
-stands_in Space Code = false
-stands_in Space Statics = true
-stands_in Align Code = false
-stands_in Align Statics = true
-stands_in k Code = true
-stands_in k Statics = false
+abbrev pub may_stand_in : Keyword → Segment → Bool
+may_stand_in Text segment = true
+may_stand_in Data segment = true
+may_stand_in Globl segment = true
+may_stand_in Word Code = false
+may_stand_in Word Statics = true
+may_stand_in Byte Code = false
+may_stand_in Byte Statics = true
+may_stand_in Ascii Code = false
+may_stand_in Ascii Statics = true
+may_stand_in Asciiz Code = false
+may_stand_in Asciiz Statics = true
+may_stand_in Space Code = false
+may_stand_in Space Statics = true
+may_stand_in Align Code = false
+may_stand_in Align Statics = true
+may_stand_in k Code = true
+may_stand_in k Statics = false

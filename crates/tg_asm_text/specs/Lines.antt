@@ -16,8 +16,8 @@ lines (c ∷ text) = before_lines c (lines text)
 
 -- classes of bytes: blanks; what ends an item's word and an operand (a blank, `,`, `"`, `#`); what
 -- labels are made of
-abbrev pub is_between : ℕ → ℕ → ℕ → Bool
-is_between low high c = nat_le low c && nat_le c high
+abbrev pub is_in_range : ℕ → ℕ → ℕ → Bool
+is_in_range low high c = nat_le low c && nat_le c high
 
 abbrev pub is_blank : ℕ → Bool
 is_blank c = c == 32 || (c == 9 || c == 13)
@@ -29,10 +29,10 @@ abbrev pub is_end : ℕ → Bool
 is_end c = is_blank c || (c == 44 || (c == 34 || c == 35))
 
 abbrev pub begins_label : ℕ → Bool
-begins_label c = is_between 65 90 c || (is_between 97 122 c || c == 95)
+begins_label c = is_in_range 65 90 c || (is_in_range 97 122 c || c == 95)
 
 abbrev pub is_in_label : ℕ → Bool
-is_in_label c = begins_label c || (is_between 48 57 c || c == 46)
+is_in_label c = begins_label c || (is_in_range 48 57 c || c == 46)
 
 abbrev pub is_past_label : ℕ → Bool
 is_past_label c = not (is_in_label c)

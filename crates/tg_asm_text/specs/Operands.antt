@@ -5,7 +5,7 @@ use Rattle.std.specs.Prelude.{false, ◌==◌, ◌&&◌, ◌||◌, nat_le, nat_l
 use Rattle.std.specs.Prelude.{None}
 use Rattle.std.specs.Str.{bytes_eq}
 use Rattle.tg_isa.specs.Names.{names}
-use Rattle.tg_asm_text.specs.Lines.{is_between, begins_label, is_past_label, front, back, Operand}
+use Rattle.tg_asm_text.specs.Lines.{is_in_range, begins_label, is_past_label, front, back, Operand}
 use Rattle.tg_asm_text.specs.Lines.{Plain, Quoted}
 use Rattle.tg_asm_text.specs.declared.keywords.Slot.{Slot}
 use Rattle.tg_asm_text.specs.declared.keywords.Slot.TheVariants.{Rd, Rs, Rt, Number, Based, Label}
@@ -27,9 +27,9 @@ digit_below base d = if nat_lt d base then Some d else None
 
 abbrev pub digit : ℕ → ℕ → Option ℕ
 digit base c =
-    if is_between 48 57 c then digit_below base (c - 48) else
-    if is_between 65 70 c then digit_below base (c - 55) else
-    if is_between 97 102 c then digit_below base (c - 87) else
+    if is_in_range 48 57 c then digit_below base (c - 48) else
+    if is_in_range 65 70 c then digit_below base (c - 55) else
+    if is_in_range 97 102 c then digit_below base (c - 87) else
     None
 
 -- what digits behind others with a value come to
@@ -85,15 +85,15 @@ named_from r [] text = None
 named_from r (name ∷ more) text =
     if bytes_eq name text then Some r else named_from (r + 1) more text
 
-abbrev pub named : List ℕ → Option ℕ
-named text = named_from 0 names text
+abbrev pub named_register : List ℕ → Option ℕ
+named_register text = named_from 0 names text
 
 abbrev pub or_numbered : Option ℕ → List ℕ → Option ℕ
 or_numbered (Some r) text = Some r
 or_numbered None text = numbered text
 
-abbrev pub register : List ℕ → Option ℕ
-register text = or_numbered (named text) text
+abbrev pub register_operand : List ℕ → Option ℕ
+register_operand text = or_numbered (named_register text) text
 
 -- a label
 abbrev pub is_label : List ℕ → Bool
@@ -109,17 +109,17 @@ abbrev pub or_nothing : List ℕ → Option Signed
 or_nothing [] = Some nothing
 or_nothing (c ∷ text) = number (c ∷ text)
 
-abbrev pub address_of : Option Signed → Option ℕ → Option Address
-address_of (Some n) (Some r) = Some (record { number = n; base = r })
-address_of (Some n) None = None
-address_of None r = None
+abbrev pub address_operand : Option Signed → Option ℕ → Option Address
+address_operand (Some n) (Some r) = Some (record { number = n; base = r })
+address_operand (Some n) None = None
+address_operand None r = None
 
 abbrev pub closed : List ℕ → Bool
 closed text = length (back (λ c. c == 41) text) == 1
 
 abbrev pub closed_address : Option Signed → List ℕ → Option Address
 closed_address n text =
-    if closed text then address_of n (register (front (λ c. c == 41) text)) else None
+    if closed text then address_operand n (register_operand (front (λ c. c == 41) text)) else None
 
 abbrev pub in_parens : Option Signed → List ℕ → Option Address
 in_parens n [] = None
@@ -139,7 +139,7 @@ escape c =
     None
 
 abbrev pub plain : ℕ → Option ℕ
-plain c = if is_between 32 126 c || is_between 128 255 c then Some c else None
+plain c = if is_in_range 32 126 c || is_in_range 128 255 c then Some c else None
 
 abbrev pub before_string : Option ℕ → Option (List ℕ) → Option (List ℕ)
 before_string (Some b) (Some bytes) = Some (b ∷ bytes)
@@ -191,9 +191,9 @@ fill_label f text = if is_label text then Some (record f { label = text }) else 
 
 -- one operand; none where it is of another kind
 abbrev pub fill : Slot → Operand → Fields → Option Fields
-fill Rd (Plain text) f = fill_rd f (register text)
-fill Rs (Plain text) f = fill_rs f (register text)
-fill Rt (Plain text) f = fill_rt f (register text)
+fill Rd (Plain text) f = fill_rd f (register_operand text)
+fill Rs (Plain text) f = fill_rs f (register_operand text)
+fill Rt (Plain text) f = fill_rt f (register_operand text)
 fill Number (Plain text) f = fill_number f (number text)
 fill Based (Plain text) f = fill_based f (based text)
 fill Label (Plain text) f = fill_label f text

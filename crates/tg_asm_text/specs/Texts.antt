@@ -7,9 +7,9 @@ use Rattle.tg_state.specs.State.{most_bytes}
 use Rattle.tg_isa.specs.declared.mips.Mips.{Mips}
 use Rattle.tg_asm_text.specs.declared.keywords.Segment.{Segment}
 use Rattle.tg_asm_text.specs.declared.keywords.Segment.TheVariants.{Code, Statics}
-use Rattle.tg_isa.specs.Names.{name_of}
+use Rattle.tg_isa.specs.Names.{register_name}
 use Rattle.tg_isa.specs.Table.{IsRow}
-use Rattle.tg_asm_text.specs.Lines.{is_between}
+use Rattle.tg_asm_text.specs.Lines.{is_in_range}
 use Rattle.tg_asm_text.specs.Operands.{Signed, is_label}
 use Rattle.tg_asm_text.specs.Items as items
 use Rattle.tg_asm_text.specs.Assembly.{Reading}
@@ -47,7 +47,7 @@ escaped_text (c ∷ text) = escaped c ++ escaped_text text
 
 -- the bytes that a string can hold
 abbrev pub is_in_string : ℕ → Bool
-is_in_string c = is_between 32 126 c || (is_between 128 255 c || (c == 10 || (c == 9 || c == 0)))
+is_in_string c = is_in_range 32 126 c || (is_in_range 128 255 c || (c == 10 || (c == 9 || c == 0)))
 
 -- a line as it is written, without its newline; items stand behind a tab
 abbrev pub written_line : Line → List ℕ
@@ -56,7 +56,7 @@ written_line (Enter Statics) = codes "\t.data"
 written_line (Globl name) = codes "\t.globl" ++ joined (name ∷ [])
 written_line (Label name) = name ++ codes ":"
 written_line (One one target) = codes "\t" ++ line_of one target
-written_line (La r label) = codes "\tla" ++ joined (name_of r ∷ label ∷ [])
+written_line (La r label) = codes "\tla" ++ joined (register_name r ∷ label ∷ [])
 written_line (Align power) = codes "\t.align" ++ joined (decimal power ∷ [])
 written_line (Space n) = codes "\t.space" ++ joined (decimal n ∷ [])
 written_line (Words ns) = codes "\t.word" ++ joined (map decimal ns)

@@ -15,9 +15,9 @@ use Rattle.tg_asm_text.specs.declared.keywords.Keyword.TheVariants.{Bgez, Addi, 
 use Rattle.tg_asm_text.specs.declared.keywords.Keyword.TheVariants.{Andi, Ori, Xori, Lui, Lb, Lbu}
 use Rattle.tg_asm_text.specs.declared.keywords.Keyword.TheVariants.{Lw, Sb, Sw}
 use Rattle.tg_asm_text.specs.declared.keywords.Segment.TheVariants.{Code}
-use Rattle.tg_isa.specs.Names.{name_of}
+use Rattle.tg_isa.specs.Names.{register_name}
 use Rattle.tg_asm_text.specs.Lines.{lines}
-use Rattle.tg_asm_text.specs.Items.{spelling, Coded, Fixed, Branch, Jump, Words}
+use Rattle.tg_asm_text.specs.Items.{keyword_text, Coded, Fixed, Branch, Jump, Words}
 use Rattle.tg_asm_text.specs.Assembly.{reading, with_offset, with_target}
 
 -- the word of a row
@@ -70,52 +70,52 @@ abbrev pub signed_text : ℕ → List ℕ
 signed_text n = if nat_lt n 32768 then decimal n else 45 ∷ decimal (65536 - n)
 
 abbrev pub based_text : ℕ → ℕ → List ℕ
-based_text n base = signed_text n ++ 40 ∷ name_of base ++ 41 ∷ []
+based_text n base = signed_text n ++ 40 ∷ register_name base ++ 41 ∷ []
 
 -- the operands of a row in the order of the text
 abbrev pub written : Mips → List ℕ → List (List ℕ)
-written (row.Sll rd rt n) target = name_of rd ∷ name_of rt ∷ decimal n ∷ []
-written (row.Srl rd rt n) target = name_of rd ∷ name_of rt ∷ decimal n ∷ []
-written (row.Sra rd rt n) target = name_of rd ∷ name_of rt ∷ decimal n ∷ []
-written (row.Jr rs) target = name_of rs ∷ []
-written (row.Jalr rd rs) target = name_of rd ∷ name_of rs ∷ []
+written (row.Sll rd rt n) target = register_name rd ∷ register_name rt ∷ decimal n ∷ []
+written (row.Srl rd rt n) target = register_name rd ∷ register_name rt ∷ decimal n ∷ []
+written (row.Sra rd rt n) target = register_name rd ∷ register_name rt ∷ decimal n ∷ []
+written (row.Jr rs) target = register_name rs ∷ []
+written (row.Jalr rd rs) target = register_name rd ∷ register_name rs ∷ []
 written row.Syscall target = []
 written (row.Break n) target = decimal n ∷ []
-written (row.Mfhi rd) target = name_of rd ∷ []
-written (row.Mflo rd) target = name_of rd ∷ []
-written (row.Mult rs rt) target = name_of rs ∷ name_of rt ∷ []
-written (row.Div rs rt) target = name_of rs ∷ name_of rt ∷ []
-written (row.Add rd rs rt) target = name_of rd ∷ name_of rs ∷ name_of rt ∷ []
-written (row.Sub rd rs rt) target = name_of rd ∷ name_of rs ∷ name_of rt ∷ []
-written (row.Addu rd rs rt) target = name_of rd ∷ name_of rs ∷ name_of rt ∷ []
-written (row.Subu rd rs rt) target = name_of rd ∷ name_of rs ∷ name_of rt ∷ []
-written (row.And rd rs rt) target = name_of rd ∷ name_of rs ∷ name_of rt ∷ []
-written (row.Or rd rs rt) target = name_of rd ∷ name_of rs ∷ name_of rt ∷ []
-written (row.Xor rd rs rt) target = name_of rd ∷ name_of rs ∷ name_of rt ∷ []
-written (row.Nor rd rs rt) target = name_of rd ∷ name_of rs ∷ name_of rt ∷ []
-written (row.Slt rd rs rt) target = name_of rd ∷ name_of rs ∷ name_of rt ∷ []
-written (row.Sltu rd rs rt) target = name_of rd ∷ name_of rs ∷ name_of rt ∷ []
+written (row.Mfhi rd) target = register_name rd ∷ []
+written (row.Mflo rd) target = register_name rd ∷ []
+written (row.Mult rs rt) target = register_name rs ∷ register_name rt ∷ []
+written (row.Div rs rt) target = register_name rs ∷ register_name rt ∷ []
+written (row.Add rd rs rt) target = register_name rd ∷ register_name rs ∷ register_name rt ∷ []
+written (row.Sub rd rs rt) target = register_name rd ∷ register_name rs ∷ register_name rt ∷ []
+written (row.Addu rd rs rt) target = register_name rd ∷ register_name rs ∷ register_name rt ∷ []
+written (row.Subu rd rs rt) target = register_name rd ∷ register_name rs ∷ register_name rt ∷ []
+written (row.And rd rs rt) target = register_name rd ∷ register_name rs ∷ register_name rt ∷ []
+written (row.Or rd rs rt) target = register_name rd ∷ register_name rs ∷ register_name rt ∷ []
+written (row.Xor rd rs rt) target = register_name rd ∷ register_name rs ∷ register_name rt ∷ []
+written (row.Nor rd rs rt) target = register_name rd ∷ register_name rs ∷ register_name rt ∷ []
+written (row.Slt rd rs rt) target = register_name rd ∷ register_name rs ∷ register_name rt ∷ []
+written (row.Sltu rd rs rt) target = register_name rd ∷ register_name rs ∷ register_name rt ∷ []
 written (row.J n) target = target ∷ []
 written (row.Jal n) target = target ∷ []
-written (row.Beq rs rt n) target = name_of rs ∷ name_of rt ∷ target ∷ []
-written (row.Bne rs rt n) target = name_of rs ∷ name_of rt ∷ target ∷ []
-written (row.Blez rs n) target = name_of rs ∷ target ∷ []
-written (row.Bgtz rs n) target = name_of rs ∷ target ∷ []
-written (row.Bltz rs n) target = name_of rs ∷ target ∷ []
-written (row.Bgez rs n) target = name_of rs ∷ target ∷ []
-written (row.Addi rt rs n) target = name_of rt ∷ name_of rs ∷ signed_text n ∷ []
-written (row.Addiu rt rs n) target = name_of rt ∷ name_of rs ∷ signed_text n ∷ []
-written (row.Slti rt rs n) target = name_of rt ∷ name_of rs ∷ signed_text n ∷ []
-written (row.Sltiu rt rs n) target = name_of rt ∷ name_of rs ∷ signed_text n ∷ []
-written (row.Andi rt rs n) target = name_of rt ∷ name_of rs ∷ decimal n ∷ []
-written (row.Ori rt rs n) target = name_of rt ∷ name_of rs ∷ decimal n ∷ []
-written (row.Xori rt rs n) target = name_of rt ∷ name_of rs ∷ decimal n ∷ []
-written (row.Lui rt n) target = name_of rt ∷ decimal n ∷ []
-written (row.Lb rt n rs) target = name_of rt ∷ based_text n rs ∷ []
-written (row.Lbu rt n rs) target = name_of rt ∷ based_text n rs ∷ []
-written (row.Lw rt n rs) target = name_of rt ∷ based_text n rs ∷ []
-written (row.Sb rt n rs) target = name_of rt ∷ based_text n rs ∷ []
-written (row.Sw rt n rs) target = name_of rt ∷ based_text n rs ∷ []
+written (row.Beq rs rt n) target = register_name rs ∷ register_name rt ∷ target ∷ []
+written (row.Bne rs rt n) target = register_name rs ∷ register_name rt ∷ target ∷ []
+written (row.Blez rs n) target = register_name rs ∷ target ∷ []
+written (row.Bgtz rs n) target = register_name rs ∷ target ∷ []
+written (row.Bltz rs n) target = register_name rs ∷ target ∷ []
+written (row.Bgez rs n) target = register_name rs ∷ target ∷ []
+written (row.Addi rt rs n) target = register_name rt ∷ register_name rs ∷ signed_text n ∷ []
+written (row.Addiu rt rs n) target = register_name rt ∷ register_name rs ∷ signed_text n ∷ []
+written (row.Slti rt rs n) target = register_name rt ∷ register_name rs ∷ signed_text n ∷ []
+written (row.Sltiu rt rs n) target = register_name rt ∷ register_name rs ∷ signed_text n ∷ []
+written (row.Andi rt rs n) target = register_name rt ∷ register_name rs ∷ decimal n ∷ []
+written (row.Ori rt rs n) target = register_name rt ∷ register_name rs ∷ decimal n ∷ []
+written (row.Xori rt rs n) target = register_name rt ∷ register_name rs ∷ decimal n ∷ []
+written (row.Lui rt n) target = register_name rt ∷ decimal n ∷ []
+written (row.Lb rt n rs) target = register_name rt ∷ based_text n rs ∷ []
+written (row.Lbu rt n rs) target = register_name rt ∷ based_text n rs ∷ []
+written (row.Lw rt n rs) target = register_name rt ∷ based_text n rs ∷ []
+written (row.Sb rt n rs) target = register_name rt ∷ based_text n rs ∷ []
+written (row.Sw rt n rs) target = register_name rt ∷ based_text n rs ∷ []
 
 -- operands behind a word, parted by commas
 abbrev pub further : List (List ℕ) → List ℕ
@@ -128,7 +128,7 @@ joined (o ∷ os) = 32 ∷ o ++ further os
 
 -- the line of a row, with a label where its form takes one
 abbrev pub line_of : Mips → List ℕ → List ℕ
-line_of one target = spelling (keyword_of one) ++ joined (written one target)
+line_of one target = keyword_text (keyword_of one) ++ joined (written one target)
 
 -- whether the form of a row takes a label
 abbrev pub takes_label : Mips → Bool

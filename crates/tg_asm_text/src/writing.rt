@@ -11,7 +11,7 @@ ghost use Rattle.tg_asm_text.specs.Writing.{
   takes_label,
   unlabelled_row,
 };
-ghost use Rattle.tg_isa.specs.Names.{name_of};
+ghost use Rattle.tg_isa.specs.Names.{register_name};
 ghost use Rattle.tg_isa.specs.Table.{IsRow};
 
 use std::alloc::Global;
@@ -106,7 +106,7 @@ fn next(line: &mut Vec<u8>, operand: &[u8]) -> Result<(), Memory>
 
 /// A word with a register.
 fn one_register(alloc: Global, word: &str, only: Reg) -> Result<Vec<u8>, Memory>
-    ensures text { IfOk result (λ l. l.items ≡ word.now ++ joined (name_of only ∷ [])) }
+    ensures text { IfOk result (λ l. l.items ≡ word.now ++ joined (register_name only ∷ [])) }
     ensures fits { OnOk result (only < 2 ^ 5) }
 {
     first(alloc, word, name(only).as_bytes())
@@ -115,7 +115,7 @@ fn one_register(alloc: Global, word: &str, only: Reg) -> Result<Vec<u8>, Memory>
 /// A word with two registers.
 fn two_registers(alloc: Global, word: &str, left: Reg, right: Reg) -> Result<Vec<u8>, Memory>
     ensures text { IfOk result
-        (λ l. l.items ≡ word.now ++ joined (name_of left ∷ name_of right ∷ [])) }
+        (λ l. l.items ≡ word.now ++ joined (register_name left ∷ register_name right ∷ [])) }
     ensures fits { OnOk result ((left < 2 ^ 5) × (right < 2 ^ 5)) }
 {
     let mut line = one_register(alloc, word, left)?;
@@ -126,7 +126,8 @@ fn two_registers(alloc: Global, word: &str, left: Reg, right: Reg) -> Result<Vec
 /// A word with three registers.
 fn three_registers(alloc: Global, word: &str, rd: Reg, rs: Reg, rt: Reg) -> Result<Vec<u8>, Memory>
     ensures text { IfOk result
-        (λ l. l.items ≡ word.now ++ joined (name_of rd ∷ name_of rs ∷ name_of rt ∷ [])) }
+        (λ l. l.items ≡ word.now
+        ++ joined (register_name rd ∷ register_name rs ∷ register_name rt ∷ [])) }
     ensures fits { OnOk result ((rd < 2 ^ 5) × (rs < 2 ^ 5) × (rt < 2 ^ 5)) }
 {
     let mut line = two_registers(alloc, word, rd, rs)?;
@@ -137,7 +138,8 @@ fn three_registers(alloc: Global, word: &str, rd: Reg, rs: Reg, rt: Reg) -> Resu
 /// A shift.
 fn shift(alloc: Global, word: &str, rd: Reg, rt: Reg, amount: Bits<5>) -> Result<Vec<u8>, Memory>
     ensures text { IfOk result
-        (λ l. l.items ≡ word.now ++ joined (name_of rd ∷ name_of rt ∷ decimal amount ∷ [])) }
+        (λ l. l.items ≡ word.now
+        ++ joined (register_name rd ∷ register_name rt ∷ decimal amount ∷ [])) }
     ensures fits { OnOk result ((rd < 2 ^ 5) × (rt < 2 ^ 5) × (amount < 2 ^ 5)) }
 {
     let mut line = two_registers(alloc, word, rd, rt)?;
@@ -163,7 +165,7 @@ fn jump(alloc: Global, word: &str, target: &str) -> Result<Vec<u8>, Memory>
 /// A branch on a register to a label.
 fn branch_of_one(alloc: Global, word: &str, rs: Reg, target: &str) -> Result<Vec<u8>, Memory>
     ensures text { IfOk result
-        (λ l. l.items ≡ word.now ++ joined (name_of rs ∷ target.now ∷ [])) }
+        (λ l. l.items ≡ word.now ++ joined (register_name rs ∷ target.now ∷ [])) }
     ensures fits { OnOk result (rs < 2 ^ 5) }
 {
     let mut line = one_register(alloc, word, rs)?;
@@ -180,7 +182,8 @@ fn branch_of_two(
     target: &str,
 ) -> Result<Vec<u8>, Memory>
     ensures text { IfOk result
-        (λ l. l.items ≡ word.now ++ joined (name_of rs ∷ name_of rt ∷ target.now ∷ [])) }
+        (λ l. l.items ≡ word.now
+        ++ joined (register_name rs ∷ register_name rt ∷ target.now ∷ [])) }
     ensures fits { OnOk result ((rs < 2 ^ 5) × (rt < 2 ^ 5)) }
 {
     let mut line = two_registers(alloc, word, rs, rt)?;
@@ -191,7 +194,8 @@ fn branch_of_two(
 /// An instruction with a number that has a sign.
 fn immediate(alloc: Global, word: &str, rt: Reg, rs: Reg, bits: Bits<16>) -> Result<Vec<u8>, Memory>
     ensures text { IfOk result
-        (λ l. l.items ≡ word.now ++ joined (name_of rt ∷ name_of rs ∷ signed_text bits ∷ [])) }
+        (λ l. l.items ≡ word.now
+        ++ joined (register_name rt ∷ register_name rs ∷ signed_text bits ∷ [])) }
     ensures fits { OnOk result ((rt < 2 ^ 5) × (rs < 2 ^ 5) × (bits < 2 ^ 16)) }
 {
     let mut line = two_registers(alloc, word, rt, rs)?;
@@ -202,7 +206,8 @@ fn immediate(alloc: Global, word: &str, rt: Reg, rs: Reg, bits: Bits<16>) -> Res
 /// An instruction with a number that has no sign.
 fn logical(alloc: Global, word: &str, rt: Reg, rs: Reg, bits: Bits<16>) -> Result<Vec<u8>, Memory>
     ensures text { IfOk result
-        (λ l. l.items ≡ word.now ++ joined (name_of rt ∷ name_of rs ∷ decimal bits ∷ [])) }
+        (λ l. l.items ≡ word.now
+        ++ joined (register_name rt ∷ register_name rs ∷ decimal bits ∷ [])) }
     ensures fits { OnOk result ((rt < 2 ^ 5) × (rs < 2 ^ 5) × (bits < 2 ^ 16)) }
 {
     let mut line = two_registers(alloc, word, rt, rs)?;
@@ -213,7 +218,7 @@ fn logical(alloc: Global, word: &str, rt: Reg, rs: Reg, bits: Bits<16>) -> Resul
 /// `lui` with its number.
 fn upper(alloc: Global, rt: Reg, bits: Bits<16>) -> Result<Vec<u8>, Memory>
     ensures text { IfOk result
-        (λ l. l.items ≡ codes "lui" ++ joined (name_of rt ∷ decimal bits ∷ [])) }
+        (λ l. l.items ≡ codes "lui" ++ joined (register_name rt ∷ decimal bits ∷ [])) }
     ensures fits { OnOk result ((rt < 2 ^ 5) × (bits < 2 ^ 16)) }
 {
     let mut line = one_register(alloc, "lui", rt)?;
@@ -224,7 +229,7 @@ fn upper(alloc: Global, rt: Reg, bits: Bits<16>) -> Result<Vec<u8>, Memory>
 /// A load or a store.
 fn memory(alloc: Global, word: &str, rt: Reg, bits: Bits<16>, rs: Reg) -> Result<Vec<u8>, Memory>
     ensures text { IfOk result
-        (λ l. l.items ≡ word.now ++ joined (name_of rt ∷ based_text bits rs ∷ [])) }
+        (λ l. l.items ≡ word.now ++ joined (register_name rt ∷ based_text bits rs ∷ [])) }
     ensures fits { OnOk result ((rt < 2 ^ 5) × (bits < 2 ^ 16) × (rs < 2 ^ 5)) }
 {
     let mut line = one_register(alloc, word, rt)?;

@@ -50,15 +50,15 @@ abbrev pub write_fails : RoomBytes → Bool
 write_fails s = next_fails s.counts || space s == 0
 
 -- the names and the bytes of a map
-abbrev pub named : BTreeMap (String Global) (Vec ℕ Global) → List (List ℕ × List ℕ)
-named files = map (λ e. (string_bytes e.0, e.1.items)) files.entries
+abbrev pub named_files : BTreeMap (String Global) (Vec ℕ Global) → List (List ℕ × List ℕ)
+named_files files = map (λ e. (string_bytes e.0, e.1.items)) files.entries
 
 -- the bytes of the file of a name, if it is there
 abbrev pub file_of : List (List ℕ × List ℕ) → List ℕ → Option (List ℕ)
 file_of held name = lookup (bytes_eq name) held
 
-abbrev pub told : List (List ℕ × List ℕ) → Files
-told held = Some (file_of held)
+abbrev pub as_files : List (List ℕ × List ℕ) → Files
+as_files held = Some (file_of held)
 
 -- whether a name has no file
 abbrev pub is_missing : List (List ℕ × List ℕ) → List ℕ → Bool

@@ -3,7 +3,7 @@ ghost use Rattle.std.specs.declared.option.Option.{Option};
 ghost use Rattle.std.specs.Io.{ReadsAtMost};
 ghost use Rattle.std.specs.Io.KnownBytes.{ReadConsumes, WriteAppends};
 ghost use Rattle.tg_base.specs.Causes.{Rose, HasCause};
-ghost use Rattle.tg_base.specs.Files.{Files, IsFrontOf};
+ghost use Rattle.tg_base.specs.Files.{Files, IsFilePrefix};
 ghost use Rattle.tg_base.specs.Writes.{TakesAll};
 
 use crate::faults::Failed;
@@ -62,7 +62,7 @@ pub trait Shelf {
         ensures cause { IsErrOf result ShelfFault.Failed →
             Rose (faults self.old name.now) (faults self.new name.now) }
         ensures bound { IfOk result (λ v. length v.items ≤ most) }
-        ensures front { IfOk result (λ v. IsFrontOf (files self.old) name.now most v.items) };
+        ensures front { IfOk result (λ v. IsFilePrefix (files self.old) name.now most v.items) };
 }
 
 /// Writes a piece whole. After `Failed` the sink has taken a prefix of it, and an empty piece

@@ -20,8 +20,14 @@ ghost use Rattle.std.specs.Prelude.{
 ghost use Rattle.std.specs.declared.option.Option.TheVariants.{Some};
 ghost use Rattle.tg_base.specs.Causes.{Rose};
 ghost use Rattle.tg_base.specs.Counts.{counted, none_so_far, next_fails, after_call};
-ghost use Rattle.tg_base.specs.Files.{IsFrontOf};
-ghost use Rattle.tg_base.specs.InMemory.{told, is_missing, read_fails, named, faults_after};
+ghost use Rattle.tg_base.specs.Files.{IsFilePrefix};
+ghost use Rattle.tg_base.specs.InMemory.{
+  as_files,
+  is_missing,
+  read_fails,
+  named_files,
+  faults_after,
+};
 
 use crate::outside::{Shelf, ShelfFault};
 use crate::tallies::Tally;
@@ -51,17 +57,17 @@ pub struct PlainShelf {
 }
 
 impl Model for PlainShelf {
-    ghost use Rattle.tg_base.specs.InMemory.{PlainFiles, named};
+    ghost use Rattle.tg_base.specs.InMemory.{PlainFiles, named_files};
 
     ghost Value = { PlainFiles };
 
-    ghost view = { λ s. record { held = named s.files; calls = s.calls; faults = s.faults } };
+    ghost view = { λ s. record { held = named_files s.files; calls = s.calls; faults = s.faults } };
 }
 
 impl PlainShelf {
     /// A shelf of these files, by their names, none of them read so far.
     pub fn new(files: BTreeMap<String, Vec<u8>>) -> PlainShelf
-        ensures { result ≡ record { held = named files; calls = 0; faults = 0 } }
+        ensures { result ≡ record { held = named_files files; calls = 0; faults = 0 } }
     {
         PlainShelf {
             files,
@@ -86,7 +92,7 @@ impl PlainShelf {
 }
 
 impl Shelf for PlainShelf {
-    ghost files = { λ s. told s.held };
+    ghost files = { λ s. as_files s.held };
 
     ghost faults = { λ s name. if is_missing s.held name then s.faults else 0 };
 
@@ -96,7 +102,8 @@ impl Shelf for PlainShelf {
         ensures later { self.old.faults ≤ self.new.faults }
         ensures cause { IsErrOf result ShelfFault.Failed → Rose self.old.faults self.new.faults }
         ensures bound { IfOk result (λ v. length v.items ≤ most) }
-        ensures front { IfOk result (λ v. IsFrontOf (told self.old.held) name.now most v.items) }
+        ensures front { IfOk result (λ v.
+            IsFilePrefix (as_files self.old.held) name.now most v.items) }
         ensures missing { (result ≡ Err ShelfFault.Failed)
             ↔ IsTrue (is_missing self.old.held name.now) }
         ensures calls { self.new.calls ≡ counted self.old.calls }
@@ -124,17 +131,17 @@ pub struct MapShelf {
 }
 
 impl Model for MapShelf {
-    ghost use Rattle.tg_base.specs.InMemory.{ListedFiles, named};
+    ghost use Rattle.tg_base.specs.InMemory.{ListedFiles, named_files};
 
     ghost Value = { ListedFiles };
 
-    ghost view = { λ s. record { held = named s.files; counts = s.tally } };
+    ghost view = { λ s. record { held = named_files s.files; counts = s.tally } };
 }
 
 impl MapShelf {
     /// A shelf of these files, by their names, whose reads fail at the listed calls.
     pub fn new(files: BTreeMap<String, Vec<u8>>, fails: Vec<u64>) -> MapShelf
-        ensures { result ≡ record { held = named files; counts = none_so_far fails.items } }
+        ensures { result ≡ record { held = named_files files; counts = none_so_far fails.items } }
     {
         MapShelf {
             files,
@@ -158,7 +165,7 @@ impl MapShelf {
 }
 
 impl Shelf for MapShelf {
-    ghost files = { λ s. told s.held };
+    ghost files = { λ s. as_files s.held };
 
     ghost faults = { λ s _. s.counts.faults };
 
@@ -169,7 +176,8 @@ impl Shelf for MapShelf {
         ensures cause { IsErrOf result ShelfFault.Failed →
             Rose self.old.counts.faults self.new.counts.faults }
         ensures bound { IfOk result (λ v. length v.items ≤ most) }
-        ensures front { IfOk result (λ v. IsFrontOf (told self.old.held) name.now most v.items) }
+        ensures front { IfOk result (λ v.
+            IsFilePrefix (as_files self.old.held) name.now most v.items) }
         ensures failed { (result ≡ Err ShelfFault.Failed) ↔ IsTrue (read_fails self.old name.now) }
         ensures counted { self.new.counts
             ≡ after_call self.old.counts (read_fails self.old name.now) }

@@ -3,29 +3,29 @@ use Rattle.std.proofs.Common.{◌≡◌, ℕ, ◌+◌, Bool, true, false, refl}
 use Rattle.tg_tree.specs.declared.operators.Bin.{Bin}
 use Rattle.tg_tree.specs.Tree.{Tx, Const, Address, Temp, FrameAddress, Binary, Load, LoadByte, Call, Service, After, Txs, no_txs, tx, Cond, Compare}
 use Rattle.tg_tree.specs.Tree.{Not, Both, Either, Ts, Move, Store, StoreByte, Do, If, Loop, Break, Fault, Seq, Return, Stms, no_stms, stm}
-use Rattle.tg_tree.specs.Shapes.{IsFlat, AreFlat, IsFlatSide, IsFlatCond, IsCanonical, AreCanonical}
+use Rattle.tg_tree.specs.Shapes.{IsFlat, AreFlat, IsFlatOrEffect, IsFlatCond, IsCanonical, AreCanonical}
 use Rattle.tg_canon.specs.Drawing.{Draws, give, ◌>>=◌}
-use Rattle.tg_canon.specs.Canon.{Part, still, nothing, is_nothing, first_then, ◌before◌, loop_of, block, Parts, in_front, in_turn, Lifted, Two}
-use Rattle.tg_canon.specs.Canon.{Arguments, behind, hold, is_side, hold_side, word, stays, hold_unless, hold_but_offset, hold_for, hold_before}
+use Rattle.tg_canon.specs.Canon.{Part, still, nothing, is_nothing, first_then, ◌before◌, loop_of, block, Parts, in_front, in_turn, Hoisted, Two}
+use Rattle.tg_canon.specs.Canon.{Arguments, behind, hold, is_effect, hold_effect, word, commutes, hold_unless, hold_but_offset, hold_for, hold_before}
 use Rattle.tg_canon.specs.Canon.{in_front_of, side_by_side, argument, over, over_two, over_all, with_one, with_two, assigning, acts, dropped}
 use Rattle.tg_canon.specs.Canon.{is_whole, Tested, compared, opposite, joined, choice, exit_where, wide_choice, deeper, inside, choose, lift}
 use Rattle.tg_canon.specs.Canon.{lift_all, condition, leave, linear, linear_all, statements_of, linearized}
 use Rattle.tg_canon.proofs.Always.{one_of_two, Always, give_is, next, made}
-use Rattle.tg_canon.proofs.Sides.{flat_side, side_flat}
+use Rattle.tg_canon.proofs.Sides.{flat_or_effect, flat_without_effect}
 
 first_then_canonical : (s t : Ts) → IsCanonical s → IsCanonical t → IsCanonical (first_then s t)
 first_then_canonical s t p q =
     one_of_two IsCanonical (is_nothing s) q (one_of_two IsCanonical (is_nothing t) p (p, (q, tt)))
 
--- parts, what is lifted, words, and tests
+-- parts, what is hoisted, words, and tests
 pub record PartIs (p : Part) : Type 0 where
   pub canonical : IsCanonical p.statement
 
-record SideIs (a : Lifted) : Type 0 where
+record SideIs (a : Hoisted) : Type 0 where
   canonical : IsCanonical a.front.statement
-  flat : IsFlatSide a.rest
+  flat : IsFlatOrEffect a.rest
 
-record WordIs (a : Lifted) : Type 0 where
+record WordIs (a : Hoisted) : Type 0 where
   canonical : IsCanonical a.front.statement
   flat : IsFlat a.rest
 
@@ -45,51 +45,51 @@ record TestedIs (t : Tested) : Type 0 where
   canonical : IsCanonical t.front.statement
   flat : IsFlatCond t.condition
 
-hold_is : (x : Tx) → IsFlatSide x → Always WordIs (hold x)
+hold_is : (x : Tx) → IsFlatOrEffect x → Always WordIs (hold x)
 hold_is x h = record { at = λ k. record { canonical = h; flat = tt } }
 
-behind_is : (p : Part) (a : Lifted) → IsCanonical p.statement → WordIs a → WordIs (behind p a)
+behind_is : (p : Part) (a : Hoisted) → IsCanonical p.statement → WordIs a → WordIs (behind p a)
 behind_is p a h w = record { canonical = first_then_canonical p.statement a.front.statement h w.canonical; flat = w.flat }
 
-hold_side_is : (b : Bool) (a : Lifted) → is_side a.rest ≡ b → SideIs a → Always WordIs (hold_side b a)
-hold_side_is true a e s = next (hold a.rest) (λ h. give (behind a.front h)) (hold_is a.rest s.flat)
+hold_effect_is : (b : Bool) (a : Hoisted) → is_effect a.rest ≡ b → SideIs a → Always WordIs (hold_effect b a)
+hold_effect_is true a e s = next (hold a.rest) (λ h. give (behind a.front h)) (hold_is a.rest s.flat)
     (λ h w. record { at = λ k. behind_is a.front h s.canonical w })
-hold_side_is false a e s = record { at = λ k. record { canonical = s.canonical; flat = side_flat a.rest e s.flat } }
+hold_effect_is false a e s = record { at = λ k. record { canonical = s.canonical; flat = flat_without_effect a.rest e s.flat } }
 
-word_is : (m : Draws Lifted) → Always SideIs m → Always WordIs (word m)
-word_is m h = next m (λ a. hold_side (is_side a.rest) a) h (λ a s. hold_side_is (is_side a.rest) a refl s)
+word_is : (m : Draws Hoisted) → Always SideIs m → Always WordIs (word m)
+word_is m h = next m (λ a. hold_effect (is_effect a.rest) a) h (λ a s. hold_effect_is (is_effect a.rest) a refl s)
 
 hold_unless_is : (b : Bool) (x : Tx) → IsFlat x → Always WordIs (hold_unless b x)
 hold_unless_is true x h = record { at = λ k. record { canonical = tt; flat = h } }
-hold_unless_is false x h = hold_is x (flat_side x h)
+hold_unless_is false x h = hold_is x (flat_or_effect x h)
 
 hold_but_offset_is : (b : Bool) (p : Part) (op : Bin) (x y : Tx) → IsFlat x → IsFlat y → Always WordIs (hold_but_offset b p op x y)
 hold_but_offset_is true p op x y hx hy =
-    next (hold_unless (stays p x) x) (λ a. give (record { front = a.front; rest = Binary op a.rest y }))
-    (hold_unless_is (stays p x) x hx) (λ a w. record { at = λ k. record { canonical = w.canonical; flat = (w.flat, hy) } })
+    next (hold_unless (commutes p x) x) (λ a. give (record { front = a.front; rest = Binary op a.rest y }))
+    (hold_unless_is (commutes p x) x hx) (λ a w. record { at = λ k. record { canonical = w.canonical; flat = (w.flat, hy) } })
 hold_but_offset_is false p op x y hx hy = hold_is (Binary op x y) (hx, hy)
 
 hold_for_is : (p : Part) (x : Tx) → IsFlat x → Always WordIs (hold_for p x)
 hold_for_is p (Binary op x y) h = hold_but_offset_is _ p op x y h.0 h.1
-hold_for_is p (Const n) h = hold_unless_is (stays p (Const n)) (Const n) h
-hold_for_is p (Address n) h = hold_unless_is (stays p (Address n)) (Address n) h
-hold_for_is p (Temp n) h = hold_unless_is (stays p (Temp n)) (Temp n) h
-hold_for_is p FrameAddress h = hold_unless_is (stays p FrameAddress) FrameAddress h
-hold_for_is p (Load x) h = hold_unless_is (stays p (Load x)) (Load x) h
-hold_for_is p (LoadByte x) h = hold_unless_is (stays p (LoadByte x)) (LoadByte x) h
+hold_for_is p (Const n) h = hold_unless_is (commutes p (Const n)) (Const n) h
+hold_for_is p (Address n) h = hold_unless_is (commutes p (Address n)) (Address n) h
+hold_for_is p (Temp n) h = hold_unless_is (commutes p (Temp n)) (Temp n) h
+hold_for_is p FrameAddress h = hold_unless_is (commutes p FrameAddress) FrameAddress h
+hold_for_is p (Load x) h = hold_unless_is (commutes p (Load x)) (Load x) h
+hold_for_is p (LoadByte x) h = hold_unless_is (commutes p (LoadByte x)) (LoadByte x) h
 hold_for_is p (Call f xs) h = absurd h
 hold_for_is p (Service n x) h = absurd h
 hold_for_is p (After s x) h = absurd h
 
-hold_before_is : (b : Bool) (p : Part) (a : Lifted) → WordIs a → Always WordIs (hold_before b p a)
+hold_before_is : (b : Bool) (p : Part) (a : Hoisted) → WordIs a → Always WordIs (hold_before b p a)
 hold_before_is true p a w = record { at = λ k. w }
 hold_before_is false p a w = next (hold_for p a.rest) (λ h. give (behind a.front h)) (hold_for_is p a.rest w.flat)
     (λ h v. record { at = λ k. behind_is a.front h w.canonical v })
 
-in_front_of_is : (p : Part) (a : Lifted) → WordIs a → Always WordIs (in_front_of p a)
+in_front_of_is : (p : Part) (a : Hoisted) → WordIs a → Always WordIs (in_front_of p a)
 in_front_of_is p a w = hold_before_is (is_nothing p.statement) p a w
 
-side_by_side_is : (a b : Lifted) → WordIs a → WordIs b → Always TwoAre (side_by_side a b)
+side_by_side_is : (a b : Hoisted) → WordIs a → WordIs b → Always TwoAre (side_by_side a b)
 side_by_side_is a b v w =
     next (in_front_of b.front a) (λ h. give (record { front = h.front before b.front; left = h.rest; right = b.rest }))
     (in_front_of_is b.front a v)
@@ -101,7 +101,7 @@ side_by_side_is a b v w =
       };
     })
 
-argument_is : (a : Lifted) (all : Arguments) → WordIs a → ArgumentsAre all → Always ArgumentsAre (argument a all)
+argument_is : (a : Hoisted) (all : Arguments) → WordIs a → ArgumentsAre all → Always ArgumentsAre (argument a all)
 argument_is a all v w =
     next (in_front_of all.front a) (λ h. give (record { front = h.front before all.front; rest = tx h.rest all.rest }))
     (in_front_of_is all.front a v)
@@ -112,17 +112,17 @@ argument_is a all v w =
       };
     })
 
-two_of_words : {B : Type 0} {Q : B → Type 0} (m n : Draws Lifted) (f : Two → B) → Always SideIs m → Always SideIs n → ((a : Two) → TwoAre a → Q (f a)) →
+two_of_words : {B : Type 0} {Q : B → Type 0} (m n : Draws Hoisted) (f : Two → B) → Always SideIs m → Always SideIs n → ((a : Two) → TwoAre a → Q (f a)) →
     Always Q (word n >>= (λ b. word m >>= (λ a. side_by_side a b >>= (λ ab. give (f ab)))))
 two_of_words m n f hm hn g =
     next (word n) _ (word_is n hn)
     (λ b w. next (word m) _ (word_is m hm) (λ a v. next (side_by_side a b) _ (side_by_side_is a b v w) (λ ab t. give_is (g ab t))))
 
-one_of_word : {B : Type 0} {Q : B → Type 0} (m : Draws Lifted) (f : Lifted → B) → Always SideIs m →
-    ((a : Lifted) → WordIs a → Q (f a)) → Always Q (word m >>= (λ a. give (f a)))
+one_of_word : {B : Type 0} {Q : B → Type 0} (m : Draws Hoisted) (f : Hoisted → B) → Always SideIs m →
+    ((a : Hoisted) → WordIs a → Q (f a)) → Always Q (word m >>= (λ a. give (f a)))
 one_of_word m f hm g = next (word m) _ (word_is m hm) (λ a w. give_is (g a w))
 
-dropped_canonical : (x : Tx) → IsFlatSide x → IsCanonical (dropped x).statement
+dropped_canonical : (x : Tx) → IsFlatOrEffect x → IsCanonical (dropped x).statement
 dropped_canonical x h = one_of_two IsCanonical (acts x) h tt
 
 choice_canonical : (t : Tested) (p q : Part) → TestedIs t → PartIs p → PartIs q → PartIs (choice t p q)

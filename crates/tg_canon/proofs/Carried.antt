@@ -7,15 +7,15 @@ use Rattle.tg_tree.specs.Tree.{Tx, Const, Address, Temp, FrameAddress, Binary, L
 use Rattle.tg_tree.specs.Tree.{Not, Both, Either, Ts, Move, Store, StoreByte, Do, If, Loop, Break, Fault, Seq, Return, Stms, no_stms, stm}
 use Rattle.tg_tree.specs.Operators.{operate}
 use Rattle.tg_tree.specs.Memory.{load, load_byte, store, store_byte}
-use Rattle.tg_tree.specs.Units.{Trees, Canonical, lifted_units, operator_units, argument_units}
-use Rattle.tg_tree.specs.Sizes.{expression_length, arguments_length, statement_length, statements_length, expression_room, arguments_room}
-use Rattle.tg_tree.specs.Sizes.{statement_room, statements_room, in_trees, in_canonical}
+use Rattle.tg_tree.specs.Units.{Trees, Canonical, hoisted_units, operator_units, argument_units}
+use Rattle.tg_tree.specs.Sizes.{expression_length, arguments_length, statement_length, statements_length, expression_needs, arguments_needs}
+use Rattle.tg_tree.specs.Sizes.{statement_needs, statements_needs, in_trees, in_canonical}
 use Rattle.tg_tree.specs.Shapes.{IsFlat, AreFlat, is_flat, are_flat, is_flat_condition}
 use Rattle.tg_tree.specs.Actions.{World, Temps, Around, Acts, Go, charged, with_word, with_given, read_memory, ask, give as acts_give}
 use Rattle.tg_tree.proofs.NamesPassing.{TxPasses, TxsPass, CondPasses, TsPasses, StmsPass}
 use Rattle.tg_canon.specs.Drawing.{Draws, Drawn, give, ◌>>=◌}
-use Rattle.tg_canon.specs.Canon.{Part, still, nothing, is_nothing, first_then, ◌before◌, Parts, in_front, Lifted, Arguments, no_arguments, whole}
-use Rattle.tg_canon.specs.Canon.{is_side, word, in_front_of, acts, dropped, is_whole, choice, wide_choice, deeper, inside, choose, lift, lift_all}
+use Rattle.tg_canon.specs.Canon.{Part, still, nothing, is_nothing, first_then, ◌before◌, Parts, in_front, Hoisted, Arguments, no_arguments, whole}
+use Rattle.tg_canon.specs.Canon.{is_effect, word, in_front_of, acts, dropped, is_whole, choice, wide_choice, deeper, inside, choose, lift, lift_all}
 use Rattle.tg_canon.specs.Canon.{condition, leave, linear, linear_all}
 use Rattle.tg_canon.proofs.Naming.{IsBelow}
 use Rattle.tg_canon.proofs.Growing.{in_front_grows}
@@ -24,7 +24,7 @@ use Rattle.tg_canon.proofs.Paying.{pays, unpaid, credit, along}
 use Rattle.tg_canon.proofs.Fixed.{Scene, around, tree_value, tree_values, tree_test, tree_does, mixed_value, mixed_values}
 use Rattle.tg_canon.proofs.Steady.{Occurs}
 use Rattle.tg_canon.proofs.Splits.{outs_more, backs_more, IsSplit, IsDone, does_nothing}
-use Rattle.tg_canon.proofs.Sides.{flat_side}
+use Rattle.tg_canon.proofs.Sides.{flat_or_effect}
 use Rattle.tg_canon.proofs.Helds.{IsOwned, owned_both, owned_none, owned_one}
 use Rattle.tg_canon.proofs.Words.{spare, units_most, LiftIs, WordIs, word_is, PairIs, pair_is}
 use Rattle.tg_canon.proofs.Dones.{after_split, move_done, dropped_done, return_done, stores_done, choice_done, break_done, fault_done, AllDone}
@@ -36,28 +36,28 @@ both_true : (a b : Bool) → (a && b) ≡ true → (a ≡ true) × (b ≡ true)
 both_true true b e = (refl, e)
 both_true false b e = cc
 
--- what is lifted in front of a part that isn't flat is counted
-lifted_counts : (part flat : Bool) → (flat ≡ true → part ≡ true) → part ≡ false → lifted_units Trees flat ≡ 2
-lifted_counts part true h e = let g : true ≡ false = sym (h refl) ∙ e in cc
-lifted_counts part false h e = refl
+-- what is hoisted in front of a part that isn't flat is counted
+hoisted_counts : (part flat : Bool) → (flat ≡ true → part ≡ true) → part ≡ false → hoisted_units Trees flat ≡ 2
+hoisted_counts part true h e = let g : true ≡ false = sym (h refl) ∙ e in cc
+hoisted_counts part false h e = refl
 
 -- what isn't wanted, and what is put in front of a list
-dropped_counts : (x : Tx) → (size (dropped x).statement ≤ expression_length Canonical x) × (takes (dropped x).statement ≤ expression_room in_canonical x)
+dropped_counts : (x : Tx) → (size (dropped x).statement ≤ expression_length Canonical x) × (takes (dropped x).statement ≤ expression_needs in_canonical x)
 dropped_counts x = by (acts x)
   where
     by : (b : Bool) →
-        (size (if b then Do x else nothing) ≤ expression_length Canonical x) × (takes (if b then Do x else nothing) ≤ expression_room in_canonical x)
+        (size (if b then Do x else nothing) ≤ expression_length Canonical x) × (takes (if b then Do x else nothing) ≤ expression_needs in_canonical x)
     by true = (omega arith, omega arith)
     by false = (omega arith, omega arith)
 
 in_front_counts : (p : Part) (all : Parts) →
     (statements_length Canonical (in_front p all).list ≤ size p.statement + statements_length Canonical all.list) ×
-    (statements_room in_canonical (in_front p all).list ≤ takes p.statement + statements_room in_canonical all.list)
+    (statements_needs in_canonical (in_front p all).list ≤ takes p.statement + statements_needs in_canonical all.list)
 in_front_counts p all = by (is_nothing p.statement)
   where
     by : (b : Bool) →
         (statements_length Canonical (if b then all.list else stm p.statement all.list) ≤ size p.statement + statements_length Canonical all.list) ×
-        (statements_room in_canonical (if b then all.list else stm p.statement all.list) ≤ takes p.statement + statements_room in_canonical all.list)
+        (statements_needs in_canonical (if b then all.list else stm p.statement all.list) ≤ takes p.statement + statements_needs in_canonical all.list)
     by true = (omega arith, omega arith)
     by false = (omega arith, omega arith)
 
@@ -69,10 +69,11 @@ flat_whole (Either c d) e = let f = both_true (is_flat_condition c) (is_flat_con
 
 module _ (z : Scene) (out : ℕ → ℕ) where
   -- an expression that stands for itself
-  leaf : (x : Tx) (k : ℕ) → IsFlat x → spare x ≡ 0 → is_side x ≡ false → ((i : ℕ) → Occurs i x → i < z.own) →
+  leaf : (x : Tx) (k : ℕ) → IsFlat x → spare x ≡ 0 → is_effect x ≡ false → ((i : ℕ) → Occurs i x → i < z.own) →
       ((e : Around) (go : Go ℕ) (w : World) (t t' : Temps) → ((i : ℕ) → i < z.own → t' i ≡ t i) → tree_value z x e go w t ≡ mixed_value z x e
       (λ v w1 t1. go v w1 t) w t') →
-      expression_length Canonical x ≤ expression_length Trees x → expression_room in_canonical x + 1 ≤ expression_room in_trees x → LiftIs z out x k (whole x) k
+      expression_length Canonical x ≤ expression_length Trees x → expression_needs in_canonical x + 1 ≤ expression_needs in_trees x →
+      LiftIs z out x k (whole x) k
   leaf x k f s p reads same long large = record {
     split = record {
       runs = λ J r a o o' b b' go next kept outs backs hyp w t t' near.
@@ -80,7 +81,7 @@ module _ (z : Scene) (out : ℕ → ℕ) where
           (does_nothing z nothing (around a o' b') next w t' refl)
           (credit z.fuel (r + spare x) r _ (next w t') (let q = s in omega arith) (hyp w t t' near));
     };
-    side = flat_side x f;
+    side = flat_or_effect x f;
     none = λ g. refl;
     plain = λ g. p;
     units = λ op. omega arith;
@@ -113,31 +114,31 @@ module _ (z : Scene) (out : ℕ → ℕ) where
     none : are_flat xs ≡ true → is_nothing a.front.statement ≡ true
     owned : IsOwned z.own a.front.least a.front.greatest
     length : size a.front.statement + arguments_length Canonical a.rest ≤ arguments_length Trees xs
-    room : takes a.front.statement + arguments_room in_canonical a.rest + to ≤ arguments_room in_trees xs + from
+    room : takes a.front.statement + arguments_needs in_canonical a.rest + to ≤ arguments_needs in_trees xs + from
     grows : from ≤ to
 
   pub record PartIs (s : Ts) (from : ℕ) (p : Part) (to : ℕ) : Type 1 where
     pub done : IsDone z out (tree_does z s) p from to
     pub owned : IsOwned z.own p.least p.greatest
     pub length : size p.statement ≤ statement_length Trees s
-    pub room : takes p.statement + to ≤ statement_room in_trees s + from
+    pub room : takes p.statement + to ≤ statement_needs in_trees s + from
     pub grows : from ≤ to
 
   record PartsAre (ss : Stms) (from : ℕ) (all : Parts) (to : ℕ) : Type 1 where
     done : AllDone z out ss all from to
     owned : IsOwned z.own all.least all.greatest
     length : statements_length Canonical all.list ≤ statements_length Trees ss
-    room : statements_room in_canonical all.list + to ≤ statements_room in_trees ss + from
+    room : statements_needs in_canonical all.list + to ≤ statements_needs in_trees ss + from
     grows : from ≤ to
 
   -- two words are stored
-  stored : (s : Ts) (x y : Tx) (last : Ts) (first from : ℕ) (b h : Lifted) (to : ℕ) → WordIs z out y first b from →
-      PairIs z out x (tree_value z y) (mixed_value z b.rest) b.front (1 + lifted_units Trees (is_flat y)) 1 first from h to →
+  stored : (s : Ts) (x y : Tx) (last : Ts) (first from : ℕ) (b h : Hoisted) (to : ℕ) → WordIs z out y first b from →
+      PairIs z out x (tree_value z y) (mixed_value z b.rest) b.front (1 + hoisted_units Trees (is_flat y)) 1 first from h to →
       IsDone z out (tree_does z s) (h.front before b.front before still last) first to →
       size last ≡ 1 + (expression_length Canonical h.rest + expression_length Canonical b.rest) →
-      takes last ≡ expression_room in_canonical h.rest + expression_room in_canonical b.rest →
-      statement_length Trees s ≡ 1 + lifted_units Trees (is_flat y) + (expression_length Trees x + expression_length Trees y) →
-      statement_room in_trees s ≡ expression_room in_trees x + expression_room in_trees y →
+      takes last ≡ expression_needs in_canonical h.rest + expression_needs in_canonical b.rest →
+      statement_length Trees s ≡ 1 + hoisted_units Trees (is_flat y) + (expression_length Trees x + expression_length Trees y) →
+      statement_needs in_trees s ≡ expression_needs in_trees x + expression_needs in_trees y →
       PartIs s first (h.front before b.front before still last) to
   stored s x y last first from b h to right pairs done l l' m m' =
       let c = in_turn_counts (first_then h.front.statement b.front.statement) last in
@@ -150,8 +151,8 @@ module _ (z : Scene) (out : ℕ → ℕ) where
         grows = pairs.grows;
       }
 
-  binary_lift : (op : Bin) (x y : Tx) (first from : ℕ) (b h : Lifted) (to : ℕ) → WordIs z out y first b from → from ≤ to →
-      PairIs z out x (tree_value z y) (mixed_value z b.rest) b.front (operator_units op y + lifted_units Trees (is_flat y))
+  binary_lift : (op : Bin) (x y : Tx) (first from : ℕ) (b h : Hoisted) (to : ℕ) → WordIs z out y first b from → from ≤ to →
+      PairIs z out x (tree_value z y) (mixed_value z b.rest) b.front (operator_units op y + hoisted_units Trees (is_flat y))
       (operator_units op b.rest + 0) first from h to →
       LiftIs z out (Binary op x y) first (record { front = h.front before b.front; rest = Binary op h.rest b.rest }) to
   binary_lift op x y first from b h to right le pairs = record {
@@ -170,7 +171,7 @@ module _ (z : Scene) (out : ℕ → ℕ) where
     grows = pairs.grows;
   }
 
-  load_lift : (x : Tx) (from : ℕ) (a : Lifted) (to : ℕ) → WordIs z out x from a to →
+  load_lift : (x : Tx) (from : ℕ) (a : Hoisted) (to : ℕ) → WordIs z out x from a to →
       LiftIs z out (Load x) from (record { front = a.front; rest = Load a.rest }) to
   load_lift x from a to h = record {
     split = under (tree_value z x) (mixed_value z a.rest) a.front from to 1 1 0 (λ u. read_memory (λ m. load m u)) (omega arith)
@@ -186,7 +187,7 @@ module _ (z : Scene) (out : ℕ → ℕ) where
     grows = h.grows;
   }
 
-  load_byte_lift : (x : Tx) (from : ℕ) (a : Lifted) (to : ℕ) → WordIs z out x from a to →
+  load_byte_lift : (x : Tx) (from : ℕ) (a : Hoisted) (to : ℕ) → WordIs z out x from a to →
       LiftIs z out (LoadByte x) from (record { front = a.front; rest = LoadByte a.rest }) to
   load_byte_lift x from a to h = record {
     split = under (tree_value z x) (mixed_value z a.rest) a.front from to 1 1 0 (λ u. read_memory (λ m. load_byte m u)) (omega arith)
@@ -202,7 +203,7 @@ module _ (z : Scene) (out : ℕ → ℕ) where
     grows = h.grows;
   }
 
-  service_lift : (n : ℕ) (x : Tx) (from : ℕ) (a : Lifted) (to : ℕ) → WordIs z out x from a to →
+  service_lift : (n : ℕ) (x : Tx) (from : ℕ) (a : Hoisted) (to : ℕ) → WordIs z out x from a to →
       LiftIs z out (Service n x) from (record { front = a.front; rest = Service n a.rest }) to
   service_lift n x from a to h = record {
     split = under (tree_value z x) (mixed_value z a.rest) a.front from to 7 5 2 (λ u. ask z.room n u) (omega arith) (λ v e go w t t1. refl) h.split;
@@ -233,7 +234,7 @@ module _ (z : Scene) (out : ℕ → ℕ) where
     grows = h.grows;
   }
 
-  after_lift : (s : Ts) (x : Tx) (first from : ℕ) (a : Lifted) (p : Part) (to : ℕ) → LiftIs z out x first a from → PartIs s from p to →
+  after_lift : (s : Ts) (x : Tx) (first from : ℕ) (a : Hoisted) (p : Part) (to : ℕ) → LiftIs z out x first a from → PartIs s from p to →
       LiftIs z out (After s x) first (record { front = p before a.front; rest = a.rest }) to
   after_lift s x first from a p to h l = record {
     split = after_split z out s p (tree_value z x) (mixed_value z a.rest) (spare a.rest) a.front first from to h.split l.done h.grows l.grows;
@@ -263,7 +264,7 @@ module _ (z : Scene) (out : ℕ → ℕ) where
     grows = omega arith;
   }
 
-  more_arguments : (x : Tx) (xs : Txs) (first from : ℕ) (all : Arguments) (h : Lifted) (to : ℕ) → ArgumentsAre xs first all from →
+  more_arguments : (x : Tx) (xs : Txs) (first from : ℕ) (all : Arguments) (h : Hoisted) (to : ℕ) → ArgumentsAre xs first all from →
       PairIs z out x (tree_values z xs) (mixed_values z all.rest) all.front (argument_units Trees xs) 4 first from h to → ArgumentsAre (tx x xs) first
       (record { front = h.front before all.front; rest = tx h.rest all.rest }) to
   more_arguments x xs first from all h to rest pairs = record {
@@ -306,13 +307,13 @@ module _ (z : Scene) (pay : JoinsPay) (again : (out : ℕ → ℕ) (s : Ts) (k :
 
   -- two words, side by side, where the second is drawn first
   module _ (out : ℕ → ℕ) (x y : Tx) (k : ℕ) (le : z.own ≤ k) (ly : LiftedAt out y k) (lx : (j : ℕ) → z.own ≤ j → LiftedAt out x j) where
-    abbrev second : Drawn Lifted
+    abbrev second : Drawn Hoisted
     second = word (lift out y) k
 
-    abbrev first : Drawn Lifted
+    abbrev first : Drawn Hoisted
     first = word (lift out x) second.next
 
-    abbrev beside : Drawn Lifted
+    abbrev beside : Drawn Hoisted
     beside = in_front_of second.it.front first.it first.next
 
     second_is : WordAt out y k
@@ -324,43 +325,43 @@ module _ (z : Scene) (pay : JoinsPay) (again : (out : ℕ → ℕ) (s : Ts) (k :
     pairs_grow : second.next ≤ beside.next
     pairs_grow = let h = first_is in let f = h.grows in let g = (in_front_grows second.it.front first.it).at first.next in omega arith
 
-    pair_at : (u v : ℕ) → v ≤ u → (lifted_units Trees (is_flat y) ≡ 2 → v + 2 ≤ u) →
+    pair_at : (u v : ℕ) → v ≤ u → (hoisted_units Trees (is_flat y) ≡ 2 → v + 2 ≤ u) →
         PairIs z out x (tree_value z y) (mixed_value z second.it.rest) second.it.front u v k second.next beside.it beside.next
     pair_at u v f g =
         let h = second_is in
         pair_is z out x (tree_value z y) (mixed_value z second.it.rest) second.it.front u v k second.next first.it first.next first_is
         h.split h.owned le h.grows (λ e. f)
-        (λ e. g (lifted_counts (is_nothing second.it.front.statement) (is_flat y) h.none e))
+        (λ e. g (hoisted_counts (is_nothing second.it.front.statement) (is_flat y) h.none e))
 
     binary_at : (op : Bin) → LiftedAt out (Binary op x y) k
     binary_at op =
         let h = second_is in
         let n = h.units op in
         binary_lift z out op x y k second.next second.it beside.it beside.next h pairs_grow
-        (pair_at (operator_units op y + lifted_units Trees (is_flat y)) (operator_units op second.it.rest + 0) (omega arith) (λ e. omega arith))
+        (pair_at (operator_units op y + hoisted_units Trees (is_flat y)) (operator_units op second.it.rest + 0) (omega arith) (λ e. omega arith))
 
     compare_at : (rel : Rel) → TestAt out (Compare rel x y) k
     compare_at rel =
         compare_is z out rel x y second.it beside.it k second.next beside.next
-        (pair_at (4 + lifted_units Trees (is_flat y)) 4 (omega arith) (λ e. omega arith)) second_is
+        (pair_at (4 + hoisted_units Trees (is_flat y)) 4 (omega arith) (λ e. omega arith)) second_is
 
     stored_pair :
-        PairIs z out x (tree_value z y) (mixed_value z second.it.rest) second.it.front (1 + lifted_units Trees (is_flat y)) 1
+        PairIs z out x (tree_value z y) (mixed_value z second.it.rest) second.it.front (1 + hoisted_units Trees (is_flat y)) 1
         k second.next beside.it beside.next
-    stored_pair = pair_at (1 + lifted_units Trees (is_flat y)) 1 (omega arith) (λ e. omega arith)
+    stored_pair = pair_at (1 + hoisted_units Trees (is_flat y)) 1 (omega arith) (λ e. omega arith)
 
     store_at : PartAt out (Store x y) k
     store_at =
         let h = second_is in
         stored z out (Store x y) x y (Store beside.it.rest second.it.rest) k second.next second.it beside.it beside.next h stored_pair
-        (stores_done z out x y k second.next beside.it second.it beside.next (1 + lifted_units Trees (is_flat y)) 1 stored_pair h.flat store
+        (stores_done z out x y k second.next beside.it second.it beside.next (1 + hoisted_units Trees (is_flat y)) 1 stored_pair h.flat store
         (Store beside.it.rest second.it.rest) refl (λ e next w t. refl)) refl refl refl refl
 
     store_byte_at : PartAt out (StoreByte x y) k
     store_byte_at =
         let h = second_is in
         stored z out (StoreByte x y) x y (StoreByte beside.it.rest second.it.rest) k second.next second.it beside.it beside.next h stored_pair
-        (stores_done z out x y k second.next beside.it second.it beside.next (1 + lifted_units Trees (is_flat y)) 1 stored_pair h.flat store_byte
+        (stores_done z out x y k second.next beside.it second.it beside.next (1 + hoisted_units Trees (is_flat y)) 1 stored_pair h.flat store_byte
         (StoreByte beside.it.rest second.it.rest) refl (λ e next w t. refl)) refl refl refl refl
 
   call_at : (out : ℕ → ℕ) (label : ℕ) (xs : Txs) (k : ℕ) → ArgumentsAre z out xs k (lift_all out xs k).it (lift_all out xs k).next →
@@ -377,7 +378,7 @@ module _ (z : Scene) (pay : JoinsPay) (again : (out : ℕ → ℕ) (s : Ts) (k :
       let d = in_front_of all.it.front a.it a.next in
       let pairs = pair_is z out x (tree_values z xs) (mixed_values z all.it.rest) all.it.front (argument_units Trees xs) 4
       k all.next a.it a.next hx rest.split rest.owned le rest.grows (λ e. omega arith)
-      (λ e. let n = lifted_counts (is_nothing all.it.front.statement) (are_flat xs) rest.none e in omega arith) in
+      (λ e. let n = hoisted_counts (is_nothing all.it.front.statement) (are_flat xs) rest.none e in omega arith) in
       more_arguments z out x xs k all.next all.it d.it d.next rest pairs
 
   after_at : (out : ℕ → ℕ) (s : Ts) (x : Tx) (k : ℕ) → z.own ≤ k → LiftedAt out x k → ((j : ℕ) → z.own ≤ j → PartAt out s j) → LiftedAt out (After s x) k

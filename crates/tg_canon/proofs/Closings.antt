@@ -7,7 +7,7 @@ use Rattle.tg_tree.specs.Shapes.{BreaksWithin, BreaksWithinStms, BreaksWithinTx,
 use Rattle.tg_tree.specs.Shapes.{IsClosed, AreClosed}
 use Rattle.tg_canon.specs.Drawing.{Draws, give, ◌>>=◌}
 use Rattle.tg_canon.specs.Canon.{Part, still, nothing, is_nothing, pair, first_then, ◌before◌, loop_of, block, Parts, no_parts, in_front, in_turn}
-use Rattle.tg_canon.specs.Canon.{Lifted, Two, Arguments, behind, hold, is_side, hold_side, word, stays, hold_unless, hold_but_offset, hold_for}
+use Rattle.tg_canon.specs.Canon.{Hoisted, Two, Arguments, behind, hold, is_effect, hold_effect, word, commutes, hold_unless, hold_but_offset, hold_for}
 use Rattle.tg_canon.specs.Canon.{hold_before, in_front_of, side_by_side, argument, over, over_two, over_all, with_one, with_two, assigning, acts}
 use Rattle.tg_canon.specs.Canon.{dropped, is_whole, Tested, compared, opposite, joined, choice, exit_where, wide_choice, deeper, inside, choose, lift}
 use Rattle.tg_canon.specs.Canon.{lift_all, condition, leave, linear, linear_all, statements_of, linearized}
@@ -18,7 +18,7 @@ module _ (n : ℕ) where
   record Within (p : Part) : Type 0 where
     part : BreaksWithin n p.statement
 
-  record LiftedWithin (a : Lifted) : Type 0 where
+  record LiftedWithin (a : Hoisted) : Type 0 where
     front : BreaksWithin n a.front.statement
     rest : BreaksWithinTx n a.rest
 
@@ -41,15 +41,15 @@ module _ (n : ℕ) where
   hold_within : (x : Tx) → BreaksWithinTx n x → Always LiftedWithin (hold x)
   hold_within x h = record { at = λ k. record { front = h; rest = tt } }
 
-  behind_within : (p : Part) (a : Lifted) → BreaksWithin n p.statement → LiftedWithin a → LiftedWithin (behind p a)
+  behind_within : (p : Part) (a : Hoisted) → BreaksWithin n p.statement → LiftedWithin a → LiftedWithin (behind p a)
   behind_within p a h w = record { front = first_then_within p.statement a.front.statement h w.front; rest = w.rest }
 
-  hold_side_within : (b : Bool) (a : Lifted) → LiftedWithin a → Always LiftedWithin (hold_side b a)
-  hold_side_within true a w = next (hold a.rest) (λ h. give (behind a.front h)) (hold_within a.rest w.rest) (λ h v. give_is (behind_within a.front h w.front v))
-  hold_side_within false a w = give_is w
+  hold_effect_within : (b : Bool) (a : Hoisted) → LiftedWithin a → Always LiftedWithin (hold_effect b a)
+  hold_effect_within true a w = next (hold a.rest) (λ h. give (behind a.front h)) (hold_within a.rest w.rest) (λ h v. give_is (behind_within a.front h w.front v))
+  hold_effect_within false a w = give_is w
 
-  word_within : (m : Draws Lifted) → Always LiftedWithin m → Always LiftedWithin (word m)
-  word_within m h = next m (λ a. hold_side (is_side a.rest) a) h (λ a w. hold_side_within (is_side a.rest) a w)
+  word_within : (m : Draws Hoisted) → Always LiftedWithin m → Always LiftedWithin (word m)
+  word_within m h = next m (λ a. hold_effect (is_effect a.rest) a) h (λ a w. hold_effect_within (is_effect a.rest) a w)
 
   hold_unless_within : (b : Bool) (x : Tx) → BreaksWithinTx n x → Always LiftedWithin (hold_unless b x)
   hold_unless_within true x h = give_is (record { front = tt; rest = h })
@@ -58,48 +58,48 @@ module _ (n : ℕ) where
   hold_but_offset_within : (b : Bool) (p : Part) (op : Bin) (x y : Tx) → BreaksWithinTx n x → BreaksWithinTx n y →
       Always LiftedWithin (hold_but_offset b p op x y)
   hold_but_offset_within true p op x y hx hy =
-      next (hold_unless (stays p x) x) (λ a. give (record { front = a.front; rest = Binary op a.rest y }))
-      (hold_unless_within (stays p x) x hx) (λ a w. give_is (record { front = w.front; rest = (w.rest, hy) }))
+      next (hold_unless (commutes p x) x) (λ a. give (record { front = a.front; rest = Binary op a.rest y }))
+      (hold_unless_within (commutes p x) x hx) (λ a w. give_is (record { front = w.front; rest = (w.rest, hy) }))
   hold_but_offset_within false p op x y hx hy = hold_within (Binary op x y) (hx, hy)
 
   hold_for_within : (p : Part) (x : Tx) → BreaksWithinTx n x → Always LiftedWithin (hold_for p x)
   hold_for_within p (Binary op x y) h = hold_but_offset_within _ p op x y h.0 h.1
-  hold_for_within p (Const i) h = hold_unless_within (stays p (Const i)) (Const i) h
-  hold_for_within p (Address i) h = hold_unless_within (stays p (Address i)) (Address i) h
-  hold_for_within p (Temp i) h = hold_unless_within (stays p (Temp i)) (Temp i) h
-  hold_for_within p FrameAddress h = hold_unless_within (stays p FrameAddress) FrameAddress h
-  hold_for_within p (Load x) h = hold_unless_within (stays p (Load x)) (Load x) h
-  hold_for_within p (LoadByte x) h = hold_unless_within (stays p (LoadByte x)) (LoadByte x) h
-  hold_for_within p (Call f xs) h = hold_unless_within (stays p (Call f xs)) (Call f xs) h
-  hold_for_within p (Service i x) h = hold_unless_within (stays p (Service i x)) (Service i x) h
-  hold_for_within p (After s x) h = hold_unless_within (stays p (After s x)) (After s x) h
+  hold_for_within p (Const i) h = hold_unless_within (commutes p (Const i)) (Const i) h
+  hold_for_within p (Address i) h = hold_unless_within (commutes p (Address i)) (Address i) h
+  hold_for_within p (Temp i) h = hold_unless_within (commutes p (Temp i)) (Temp i) h
+  hold_for_within p FrameAddress h = hold_unless_within (commutes p FrameAddress) FrameAddress h
+  hold_for_within p (Load x) h = hold_unless_within (commutes p (Load x)) (Load x) h
+  hold_for_within p (LoadByte x) h = hold_unless_within (commutes p (LoadByte x)) (LoadByte x) h
+  hold_for_within p (Call f xs) h = hold_unless_within (commutes p (Call f xs)) (Call f xs) h
+  hold_for_within p (Service i x) h = hold_unless_within (commutes p (Service i x)) (Service i x) h
+  hold_for_within p (After s x) h = hold_unless_within (commutes p (After s x)) (After s x) h
 
-  in_front_of_within : (b : Bool) (p : Part) (a : Lifted) → LiftedWithin a → Always LiftedWithin (hold_before b p a)
+  in_front_of_within : (b : Bool) (p : Part) (a : Hoisted) → LiftedWithin a → Always LiftedWithin (hold_before b p a)
   in_front_of_within true p a w = give_is w
   in_front_of_within false p a w = next (hold_for p a.rest) (λ h. give (behind a.front h)) (hold_for_within p a.rest w.rest)
       (λ h v. give_is (behind_within a.front h w.front v))
 
-  side_by_side_within : (a b : Lifted) → LiftedWithin a → LiftedWithin b → Always TwoWithin (side_by_side a b)
+  side_by_side_within : (a b : Hoisted) → LiftedWithin a → LiftedWithin b → Always TwoWithin (side_by_side a b)
   side_by_side_within a b v w =
       next (in_front_of b.front a) (λ h. give (record { front = h.front before b.front; left = h.rest; right = b.rest }))
       (in_front_of_within _ b.front a v)
       (λ h u. give_is (record { front = first_then_within h.front.statement b.front.statement u.front w.front; left = u.rest; right = w.rest }))
 
-  argument_within : (a : Lifted) (all : Arguments) → LiftedWithin a → AllWithin all → Always AllWithin (argument a all)
+  argument_within : (a : Hoisted) (all : Arguments) → LiftedWithin a → AllWithin all → Always AllWithin (argument a all)
   argument_within a all v w =
       next (in_front_of all.front a) (λ h. give (record { front = h.front before all.front; rest = tx h.rest all.rest }))
       (in_front_of_within _ all.front a v)
       (λ h u. give_is (record { front = first_then_within h.front.statement all.front.statement u.front w.front; rest = (u.rest, w.rest) }))
 
-  two_within : {B : Type 0} {Q : B → Type 0} (m l : Draws Lifted) (f : Two → B) → Always LiftedWithin m → Always LiftedWithin l →
+  two_within : {B : Type 0} {Q : B → Type 0} (m l : Draws Hoisted) (f : Two → B) → Always LiftedWithin m → Always LiftedWithin l →
       ((a : Two) → TwoWithin a → Q (f a)) →
       Always Q (word l >>= (λ b. word m >>= (λ a. side_by_side a b >>= (λ ab. give (f ab)))))
   two_within m l f hm hl g =
       next (word l) _ (word_within l hl)
       (λ b w. next (word m) _ (word_within m hm) (λ a v. next (side_by_side a b) _ (side_by_side_within a b v w) (λ ab t. give_is (g ab t))))
 
-  one_within : {B : Type 0} {Q : B → Type 0} (m : Draws Lifted) (f : Lifted → B) → Always LiftedWithin m →
-      ((a : Lifted) → LiftedWithin a → Q (f a)) → Always Q (word m >>= (λ a. give (f a)))
+  one_within : {B : Type 0} {Q : B → Type 0} (m : Draws Hoisted) (f : Hoisted → B) → Always LiftedWithin m →
+      ((a : Hoisted) → LiftedWithin a → Q (f a)) → Always Q (word m >>= (λ a. give (f a)))
   one_within m f hm g = next (word m) _ (word_within m hm) (λ a w. give_is (g a w))
 
   in_front_within : (p : Part) (all : Parts) → Within p → PartsWithin all → PartsWithin (in_front p all)

@@ -10,29 +10,29 @@ use Rattle.tg_tree.specs.Units.{Trees, Canonical}
 use Rattle.tg_tree.specs.Shapes.{IsFlat, IsFlatCond}
 use Rattle.tg_tree.specs.Actions.{World, Temps, set_temp, Activation, Around, Acts, Go, Next, Out, Back, ◌>>◌, charged, pay, with_memory, leaving}
 use Rattle.tg_tree.specs.Meaning.{run_all}
-use Rattle.tg_canon.specs.Canon.{Part, still, assigning, is_nothing, nothing, as_part, ◌before◌, loop_of, Parts, no_parts, in_front, in_turn, Lifted}
-use Rattle.tg_canon.specs.Canon.{is_side, acts, dropped, Tested, choice, inside}
+use Rattle.tg_canon.specs.Canon.{Part, still, assigning, is_nothing, nothing, as_part, ◌before◌, loop_of, Parts, no_parts, in_front, in_turn, Hoisted}
+use Rattle.tg_canon.specs.Canon.{is_effect, acts, dropped, Tested, choice, inside}
 use Rattle.tg_canon.proofs.Paying.{Sim, trade, pays, worked, unpaid, credit, along}
 use Rattle.tg_canon.proofs.Fixed.{Scene, around, tree_value, tree_test, tree_does, mixed_value, mixed_test, then_value, then_test, then_does}
 use Rattle.tg_canon.proofs.Fixed.{fixed_value, fixed_test}
 use Rattle.tg_canon.proofs.Steady.{IsQuiet, quiet_word, quiet_wrong, quiet_value}
 use Rattle.tg_canon.proofs.Splits.{Known, Beside, KeptBy, kept_within, kept_first, kept_second, beside_world, beside_assigned, OutsAre, BacksAre}
 use Rattle.tg_canon.proofs.Splits.{outs_more, backs_more, IsSplit, IsDone, does_nothing, does_in_turn}
-use Rattle.tg_canon.proofs.Sides.{flat_side, side_flat}
-use Rattle.tg_canon.proofs.Helds.{fixed_runs, side_runs}
+use Rattle.tg_canon.proofs.Sides.{flat_or_effect, flat_without_effect}
+use Rattle.tg_canon.proofs.Helds.{fixed_runs, effect_runs}
 use Rattle.tg_canon.proofs.Words.{spare, LiftIs, WordIs, both_before, both_rest, PairIs}
 
-no_side : (x : Tx) → acts x ≡ false → is_side x ≡ false
-no_side (Const _) e = refl
-no_side (Address _) e = refl
-no_side (Temp _) e = refl
-no_side FrameAddress e = refl
-no_side (Binary _ _ _) e = refl
-no_side (Load _) e = refl
-no_side (LoadByte _) e = refl
-no_side (Call _ _) e = cc
-no_side (Service _ _) e = cc
-no_side (After _ _) e = refl
+no_effect : (x : Tx) → acts x ≡ false → is_effect x ≡ false
+no_effect (Const _) e = refl
+no_effect (Address _) e = refl
+no_effect (Temp _) e = refl
+no_effect FrameAddress e = refl
+no_effect (Binary _ _ _) e = refl
+no_effect (Load _) e = refl
+no_effect (LoadByte _) e = refl
+no_effect (Call _ _) e = cc
+no_effect (Service _ _) e = cc
+no_effect (After _ _) e = refl
 
 module _ (z : Scene) (out : ℕ → ℕ) where
   -- a statement, and then what is split
@@ -83,12 +83,12 @@ module _ (z : Scene) (out : ℕ → ℕ) where
         (omega arith) kept) outs backs nexts v w1 w2 t1 u1 near1)))) w t t' near);
   }
 
-  -- Moves, returns and what isn't wanted, of what is lifted.
-  module _ (x : Tx) (from : ℕ) (a : Lifted) (to : ℕ) (l : LiftIs z out x from a to) where
+  -- Moves, returns and what isn't wanted, of what is hoisted.
+  module _ (x : Tx) (from : ℕ) (a : Hoisted) (to : ℕ) (l : LiftIs z out x from a to) where
     sides : (k : ℕ) (r : ℕ) (act : Activation) (o o' : Out) (b b' : Back) (w : World) (t : Temps) (g g' : Go ℕ) →
         ((v : ℕ) (w1 : World) → Sim r z.fuel (g v w1 t) (g' v w1 t)) →
         Sim r z.fuel ((pay k >> mixed_value z a.rest) (around act o b) g w t) ((pay k >> then_value z a.rest) (around act o' b') g' w t)
-    sides k r act o o' b b' w t g g' h = trade z.fuel r r k k _ _ (omega arith) (side_runs z r act o o' b b' w t g g' h a.rest l.side)
+    sides k r act o o' b b' w t g g' h = trade z.fuel r r k k _ _ (omega arith) (effect_runs z r act o o' b b' w t g g' h a.rest l.side)
 
     pub move_done : (i : ℕ) → IsDone z out (tree_does z (Move i x)) (a.front before assigning i (Move i a.rest)) from to
     move_done i =
@@ -120,7 +120,7 @@ module _ (z : Scene) (out : ℕ → ℕ) where
           (λ w1 t1 u1 near1. credit z.fuel r (r + spare a.rest) _ _ (omega arith)
           (along z.fuel r _ _ (next' w1 u1) _ refl (does_nothing z nothing (around act o' b') next' w1 u1 refl)
           (by r (around act o b) w1 t1 u1 next next' (nexts w1 t1 u1 near1)
-          (quiet_value z (around act o b) w1 u1 a.rest (side_flat a.rest (no_side a.rest e) l.side) e)))) w t t' near));
+          (quiet_value z (around act o b) w1 u1 a.rest (flat_without_effect a.rest (no_effect a.rest e) l.side) e)))) w t t' near));
     }
       where
         by : (r : ℕ) (e0 : Around) (w : World) (t t' : Temps) (next next' : Next) → Sim r z.fuel (next w t) (next' w t') →
@@ -137,17 +137,17 @@ module _ (z : Scene) (out : ℕ → ℕ) where
     dropped_done = dropped_by (acts a.rest) refl
 
   -- A word is returned.
-  pub return_done : (x : Tx) (from : ℕ) (a : Lifted) (to : ℕ) → WordIs z out x from a to →
+  pub return_done : (x : Tx) (from : ℕ) (a : Hoisted) (to : ℕ) → WordIs z out x from a to →
       IsDone z out (tree_does z (Return x)) (a.front before still (Return a.rest)) from to
   return_done x from a to l =
       closes (pay 16 >> tree_value z x) (pay 16 >> mixed_value z a.rest) (pay 16 >> then_value z a.rest) 0 a.front (still (Return a.rest)) from to
       (λ v e next w t. e.back v w)
       (paid_split (tree_value z x) (mixed_value z a.rest) 0 0 a.front from to 16 16 (omega arith) l.split) l.grows (λ e next w t. refl)
-      (λ r act o o' b b' w t g g' h. trade z.fuel r r 16 16 _ _ (omega arith) (side_runs z r act o o' b b' w t g g' h a.rest (flat_side a.rest l.flat)))
+      (λ r act o o' b b' w t g g' h. trade z.fuel r r 16 16 _ _ (omega arith) (effect_runs z r act o o' b b' w t g g' h a.rest (flat_or_effect a.rest l.flat)))
       (λ J r act o o' b b' next next' kept outs backs nexts v w w1 t t' near. backs v w1)
 
   -- Two words are stored.
-  module _ (x y : Tx) (from middle : ℕ) (h b : Lifted) (to u v : ℕ)
+  module _ (x y : Tx) (from middle : ℕ) (h b : Hoisted) (to u v : ℕ)
       (pairs : PairIs z out x (tree_value z y) (mixed_value z b.rest) b.front u v from middle h to) (flat : IsFlat b.rest) where
     abbrev both_then : Acts (Go (ℕ × ℕ))
     both_then e go w t = charged v (then_value z h.rest e (λ p w1 t1. then_value z b.rest e (λ q w2 t2. go (p, q) w2 t2) w1 t1) w t)

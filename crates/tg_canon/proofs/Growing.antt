@@ -4,8 +4,8 @@ use Rattle.tg_tree.specs.declared.operators.Bin.{Bin}
 use Rattle.tg_tree.specs.Tree.{Tx, Const, Address, Temp, FrameAddress, Binary, Load, LoadByte, Call, Service, After, Txs, no_txs, tx, Cond, Compare}
 use Rattle.tg_tree.specs.Tree.{Not, Both, Either, Ts, Move, Store, StoreByte, Do, If, Loop, Break, Fault, Seq, Return, Stms, no_stms, stm}
 use Rattle.tg_canon.specs.Drawing.{Draws, Drawn, give, fresh, ◌>>=◌, DrawsFrom}
-use Rattle.tg_canon.specs.Canon.{Part, still, assigning, is_nothing, ◌before◌, loop_of, block, no_parts, in_front, in_turn, Lifted, Arguments}
-use Rattle.tg_canon.specs.Canon.{no_arguments, whole, behind, hold, is_side, hold_side, word, stays, hold_unless, is_constant, is_sum}
+use Rattle.tg_canon.specs.Canon.{Part, still, assigning, is_nothing, ◌before◌, loop_of, block, no_parts, in_front, in_turn, Hoisted, Arguments}
+use Rattle.tg_canon.specs.Canon.{no_arguments, whole, behind, hold, is_effect, hold_effect, word, commutes, hold_unless, is_constant, is_sum}
 use Rattle.tg_canon.specs.Canon.{hold_but_offset, hold_for, hold_before, in_front_of, side_by_side, argument, over, over_two, over_all, with_one}
 use Rattle.tg_canon.specs.Canon.{with_two, dropped, is_whole, compared, opposite, joined, choice, exit_where, wide_choice, deeper, inside, choose}
 use Rattle.tg_canon.specs.Canon.{lift, lift_all, condition, leave, linear, linear_all, operands, linearized}
@@ -31,52 +31,52 @@ fresh_grows = record { at = λ k. omega arith }
 hold_grows : (x : Tx) → Grows (hold x)
 hold_grows x = record { at = λ k. omega arith }
 
-pub hold_side_grows : (b : Bool) (a : Lifted) → Grows (hold_side b a)
-hold_side_grows true a = made (hold a.rest) (behind a.front) (hold_grows a.rest)
-hold_side_grows false a = stays_at a
+pub hold_effect_grows : (b : Bool) (a : Hoisted) → Grows (hold_effect b a)
+hold_effect_grows true a = made (hold a.rest) (behind a.front) (hold_grows a.rest)
+hold_effect_grows false a = stays_at a
 
-pub word_grows : (m : Draws Lifted) → Grows m → Grows (word m)
-word_grows m g = next m (λ a. hold_side (is_side a.rest) a) g (λ a. hold_side_grows (is_side a.rest) a)
+pub word_grows : (m : Draws Hoisted) → Grows m → Grows (word m)
+word_grows m g = next m (λ a. hold_effect (is_effect a.rest) a) g (λ a. hold_effect_grows (is_effect a.rest) a)
 
 hold_unless_grows : (b : Bool) (x : Tx) → Grows (hold_unless b x)
 hold_unless_grows true x = stays_at (whole x)
 hold_unless_grows false x = hold_grows x
 
 hold_but_offset_grows : (b : Bool) (p : Part) (op : Bin) (x y : Tx) → Grows (hold_but_offset b p op x y)
-hold_but_offset_grows true p op x y = made (hold_unless (stays p x) x) (λ a. record { front = a.front; rest = Binary op a.rest y })
-    (hold_unless_grows (stays p x) x)
+hold_but_offset_grows true p op x y = made (hold_unless (commutes p x) x) (λ a. record { front = a.front; rest = Binary op a.rest y })
+    (hold_unless_grows (commutes p x) x)
 hold_but_offset_grows false p op x y = hold_grows (Binary op x y)
 
 hold_for_grows : (p : Part) (x : Tx) → Grows (hold_for p x)
-hold_for_grows p (Const n) = hold_unless_grows (stays p (Const n)) (Const n)
-hold_for_grows p (Address n) = hold_unless_grows (stays p (Address n)) (Address n)
-hold_for_grows p (Temp i) = hold_unless_grows (stays p (Temp i)) (Temp i)
-hold_for_grows p FrameAddress = hold_unless_grows (stays p FrameAddress) FrameAddress
+hold_for_grows p (Const n) = hold_unless_grows (commutes p (Const n)) (Const n)
+hold_for_grows p (Address n) = hold_unless_grows (commutes p (Address n)) (Address n)
+hold_for_grows p (Temp i) = hold_unless_grows (commutes p (Temp i)) (Temp i)
+hold_for_grows p FrameAddress = hold_unless_grows (commutes p FrameAddress) FrameAddress
 hold_for_grows p (Binary op x y) = hold_but_offset_grows (is_sum op && is_constant y) p op x y
-hold_for_grows p (Load x) = hold_unless_grows (stays p (Load x)) (Load x)
-hold_for_grows p (LoadByte x) = hold_unless_grows (stays p (LoadByte x)) (LoadByte x)
-hold_for_grows p (Call f xs) = hold_unless_grows (stays p (Call f xs)) (Call f xs)
-hold_for_grows p (Service n x) = hold_unless_grows (stays p (Service n x)) (Service n x)
-hold_for_grows p (After s x) = hold_unless_grows (stays p (After s x)) (After s x)
+hold_for_grows p (Load x) = hold_unless_grows (commutes p (Load x)) (Load x)
+hold_for_grows p (LoadByte x) = hold_unless_grows (commutes p (LoadByte x)) (LoadByte x)
+hold_for_grows p (Call f xs) = hold_unless_grows (commutes p (Call f xs)) (Call f xs)
+hold_for_grows p (Service n x) = hold_unless_grows (commutes p (Service n x)) (Service n x)
+hold_for_grows p (After s x) = hold_unless_grows (commutes p (After s x)) (After s x)
 
-hold_before_grows : (b : Bool) (p : Part) (a : Lifted) → Grows (hold_before b p a)
+hold_before_grows : (b : Bool) (p : Part) (a : Hoisted) → Grows (hold_before b p a)
 hold_before_grows true p a = stays_at a
 hold_before_grows false p a = made (hold_for p a.rest) (behind a.front) (hold_for_grows p a.rest)
 
-pub in_front_grows : (p : Part) (a : Lifted) → Grows (in_front_of p a)
+pub in_front_grows : (p : Part) (a : Hoisted) → Grows (in_front_of p a)
 in_front_grows p a = hold_before_grows (is_nothing p.statement) p a
 
-pub side_by_side_grows : (a b : Lifted) → Grows (side_by_side a b)
+pub side_by_side_grows : (a b : Hoisted) → Grows (side_by_side a b)
 side_by_side_grows a b =
     made (in_front_of b.front a) (λ h. record { front = h.front before b.front; left = h.rest; right = b.rest })
     (hold_before_grows (is_nothing b.front.statement) b.front a)
 
-pub argument_grows : (a : Lifted) (all : Arguments) → Grows (argument a all)
+pub argument_grows : (a : Hoisted) (all : Arguments) → Grows (argument a all)
 argument_grows a all =
     made (in_front_of all.front a) (λ h. record { front = h.front before all.front; rest = tx h.rest all.rest })
     (hold_before_grows (is_nothing all.front.statement) all.front a)
 
-operands_grow : (m n : Draws Lifted) → Grows m → Grows n → Grows (word n >>= λ b. word m >>= λ a. side_by_side a b)
+operands_grow : (m n : Draws Hoisted) → Grows m → Grows n → Grows (word n >>= λ b. word m >>= λ a. side_by_side a b)
 operands_grow m n g h =
     next (word n) (λ b. word m >>= λ a. side_by_side a b) (word_grows n h)
     (λ b. next (word m) (λ a. side_by_side a b) (word_grows m g) (λ a. side_by_side_grows a b))

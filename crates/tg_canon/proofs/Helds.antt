@@ -9,21 +9,21 @@ use Rattle.tg_tree.specs.declared.operators.Bin.{Bin}
 use Rattle.tg_tree.specs.Tree.{Tx, Const, Address, Temp, FrameAddress, Binary, Load, LoadByte, Call, Service, After, Move}
 use Rattle.tg_tree.specs.Operators.{operate}
 use Rattle.tg_tree.specs.Units.{Canonical, expression_units}
-use Rattle.tg_tree.specs.Sizes.{expression_length, expression_room, in_canonical}
-use Rattle.tg_tree.specs.Shapes.{IsFlat, IsFlatSide}
+use Rattle.tg_tree.specs.Sizes.{expression_length, expression_needs, in_canonical}
+use Rattle.tg_tree.specs.Shapes.{IsFlat, IsFlatOrEffect}
 use Rattle.tg_tree.specs.Actions.{World, Temps, set_temp, Activation, Around, Acts, Go, Next, Out, Back, over, wrong, charged, with_word, with_given, service}
 use Rattle.tg_tree.specs.Meaning.{Point}
 use Rattle.tg_tree.proofs.Relating.{Related, Keeps, Alike, alike, keep_value}
 use Rattle.tg_tree.proofs.Relating as relating
 use Rattle.tg_tree.proofs.Going.{one, OneWorld, OneTemps, KeepsRuns, keeps_one}
 use Rattle.tg_canon.specs.Drawing.{Drawn, give}
-use Rattle.tg_canon.specs.Canon.{Part, still, nothing, Lifted, whole, hold, is_constant, is_sum, stays, hold_unless, hold_but_offset, hold_for}
+use Rattle.tg_canon.specs.Canon.{Part, still, nothing, Hoisted, whole, hold, is_constant, is_sum, commutes, hold_unless, hold_but_offset, hold_for}
 use Rattle.tg_canon.proofs.Sizing.{size, takes, holdable, holdable_most, own_holdable}
 use Rattle.tg_canon.proofs.Paying.{Sim, trade, pays, worked, unpaid, untraded, credit, along, free}
 use Rattle.tg_canon.proofs.Fixed.{Scene, around, mixed_value, mixed_values, then_value, then_values, then_does, IsFixed, gives, stops, fixed_value}
 use Rattle.tg_canon.proofs.Fixed.{fixed_values}
 use Rattle.tg_canon.proofs.Steady.{Occurs, IsSteady}
-use Rattle.tg_canon.proofs.Sides.{flat_side}
+use Rattle.tg_canon.proofs.Sides.{flat_or_effect}
 use Rattle.tg_canon.proofs.Splits.{set_same, Known, Beside, KeptBy, beside_world, beside_drawn, does_nothing}
 
 -- a temporary of the body's own, or one of those drawn from a number up to another
@@ -65,17 +65,17 @@ both_true true b e = (refl, e)
 both_true false b e = cc
 
 -- what stays behind a part
-stays_steady : (p : Part) (x : Tx) → stays p x ≡ true → IsSteady x
-stays_steady p (Const _) e = tt
-stays_steady p (Address _) e = tt
-stays_steady p (Temp _) e = tt
-stays_steady p FrameAddress e = tt
-stays_steady p (Binary _ _ _) e = cc
-stays_steady p (Load _) e = cc
-stays_steady p (LoadByte _) e = cc
-stays_steady p (Call _ _) e = cc
-stays_steady p (Service _ _) e = cc
-stays_steady p (After _ _) e = cc
+commutes_steady : (p : Part) (x : Tx) → commutes p x ≡ true → IsSteady x
+commutes_steady p (Const _) e = tt
+commutes_steady p (Address _) e = tt
+commutes_steady p (Temp _) e = tt
+commutes_steady p FrameAddress e = tt
+commutes_steady p (Binary _ _ _) e = cc
+commutes_steady p (Load _) e = cc
+commutes_steady p (LoadByte _) e = cc
+commutes_steady p (Call _ _) e = cc
+commutes_steady p (Service _ _) e = cc
+commutes_steady p (After _ _) e = cc
 
 not_assigned : (least greatest i : ℕ) → not (nat_le least i && nat_le i greatest) ≡ true → least ≤ i → greatest < i
 not_assigned least greatest i e le = ⊎_elim (λ h. absurd (by h.0)) (λ h. h.1) (leb_tells i greatest)
@@ -89,20 +89,20 @@ unassigned least greatest i h = ⊎_elim (λ e. rw (e.0, lt-leb i greatest (h e.
 below_or : (own i : ℕ) → ((nat_le own i ≡ false) × (i < own)) ⊎ ((nat_le own i ≡ true) × (own ≤ i))
 below_or own i = ⊎_elim (λ e. inr e) (λ e. inl e) (leb_tells own i)
 
-stays_apart : (p : Part) (x : Tx) → stays p x ≡ true → (i : ℕ) → Occurs i x → p.least ≤ i → p.greatest < i
-stays_apart p (Const _) e i o le = absurd o
-stays_apart p (Address _) e i o le = absurd o
-stays_apart p (Temp j) e i o le = let h = not_assigned p.least p.greatest j e in subst (λ n. p.least ≤ n → p.greatest < n) (sym o) h le
-stays_apart p FrameAddress e i o le = absurd o
-stays_apart p (Binary _ _ _) e i o le = cc
-stays_apart p (Load _) e i o le = cc
-stays_apart p (LoadByte _) e i o le = cc
-stays_apart p (Call _ _) e i o le = cc
-stays_apart p (Service _ _) e i o le = cc
-stays_apart p (After _ _) e i o le = cc
+commutes_apart : (p : Part) (x : Tx) → commutes p x ≡ true → (i : ℕ) → Occurs i x → p.least ≤ i → p.greatest < i
+commutes_apart p (Const _) e i o le = absurd o
+commutes_apart p (Address _) e i o le = absurd o
+commutes_apart p (Temp j) e i o le = let h = not_assigned p.least p.greatest j e in subst (λ n. p.least ≤ n → p.greatest < n) (sym o) h le
+commutes_apart p FrameAddress e i o le = absurd o
+commutes_apart p (Binary _ _ _) e i o le = cc
+commutes_apart p (Load _) e i o le = cc
+commutes_apart p (LoadByte _) e i o le = cc
+commutes_apart p (Call _ _) e i o le = cc
+commutes_apart p (Service _ _) e i o le = cc
+commutes_apart p (After _ _) e i o le = cc
 
 -- what doesn't stay is no temporary that is drawn
-held_once : (own : ℕ) (p : Part) → IsOwned own p.least p.greatest → (x : Tx) → stays p x ≡ false → holdable own x ≡ 1
+held_once : (own : ℕ) (p : Part) → IsOwned own p.least p.greatest → (x : Tx) → commutes p x ≡ false → holdable own x ≡ 1
 held_once own p h (Const _) e = refl
 held_once own p h (Address _) e = refl
 held_once own p h (Temp i) e = ⊎_elim (λ f. own_holdable own i f.1) (λ f. absurd (by f.1)) (below_or own i)
@@ -110,7 +110,7 @@ held_once own p h (Temp i) e = ⊎_elim (λ f. own_holdable own i f.1) (λ f. ab
     by : own ≤ i → ⊥
     by le =
         let apart : p.least ≤ i → p.greatest < i = λ lo. apart_from own p.least p.greatest i h.strict h.zero le lo in
-        let g : stays p (Temp i) ≡ true = unassigned p.least p.greatest i apart in
+        let g : commutes p (Temp i) ≡ true = unassigned p.least p.greatest i apart in
         let f : false ≡ true = sym e ∙ g in cc
 held_once own p h FrameAddress e = refl
 held_once own p h (Binary _ _ _) e = refl
@@ -174,34 +174,34 @@ module _ (z : Scene) where
     flat_runs x f = fixed_runs r a o o' b b' w t (mixed_value z x) (then_value z x) go go' (fixed_value z a o o' b b' w t x f) (λ v. goes v w)
 
     -- a right side does what it does among what the trees call
-    pub side_runs : (x : Tx) → IsFlatSide x → Sim r z.fuel (mixed_value z x (around a o b) go w t) (then_value z x (around a o' b') go' w t)
-    side_runs (Const n) f = flat_runs (Const n) f
-    side_runs (Address n) f = flat_runs (Address n) f
-    side_runs (Temp i) f = flat_runs (Temp i) f
-    side_runs FrameAddress f = flat_runs FrameAddress f
-    side_runs (Binary op x y) f = flat_runs (Binary op x y) f
-    side_runs (Load x) f = flat_runs (Load x) f
-    side_runs (LoadByte x) f = flat_runs (LoadByte x) f
-    side_runs (Call label xs) f =
+    pub effect_runs : (x : Tx) → IsFlatOrEffect x → Sim r z.fuel (mixed_value z x (around a o b) go w t) (then_value z x (around a o' b') go' w t)
+    effect_runs (Const n) f = flat_runs (Const n) f
+    effect_runs (Address n) f = flat_runs (Address n) f
+    effect_runs (Temp i) f = flat_runs (Temp i) f
+    effect_runs FrameAddress f = flat_runs FrameAddress f
+    effect_runs (Binary op x y) f = flat_runs (Binary op x y) f
+    effect_runs (Load x) f = flat_runs (Load x) f
+    effect_runs (LoadByte x) f = flat_runs (LoadByte x) f
+    effect_runs (Call label xs) f =
         trade z.fuel r r 2 2 _ _ (omega arith)
         (fixed_runs r a o o' b b' w t (mixed_values z xs) (then_values z xs) (λ vs w1 t1. z.enter label vs (a.base - a.size) (λ v w2. go v w2 t1) w1)
         (λ vs w1 t1. z.enter' label vs (a.base - a.size) (λ v w2. go' v w2 t1) w1) (fixed_values z a o o' b b' w t xs f)
         (λ vs. credit z.fuel (r + 0) r _ _ (omega arith) (z.calls label vs (a.base - a.size) (λ v w2. go v w2 t) (λ v w2. go' v w2 t) w r (λ v w2. goes v w2))))
-    side_runs (Service n x) f =
+    effect_runs (Service n x) f =
         trade z.fuel r r 5 5 _ _ (omega arith)
         (fixed_runs r a o o' b b' w t (mixed_value z x) (then_value z x) (λ u w1 t1. service z.room n u w1 (λ v w2. go v w2 t1))
         (λ u w1 t1. service z.room n u w1 (λ v w2. go' v w2 t1)) (fixed_value z a o o' b b' w t x f) (λ u. service_runs n u))
-    side_runs (After s x) f = absurd f
+    effect_runs (After s x) f = absurd f
 
   -- A right side is moved to a temporary that is drawn for it, whose word is what it gives.
-  pub move_runs : (x : Tx) (l : ℕ) → IsFlatSide x → z.own ≤ l → (J : Known) (r : ℕ) (a : Activation) (o o' : Out) (b b' : Back) (go : Go ℕ) (next : Next) →
+  pub move_runs : (x : Tx) (l : ℕ) → IsFlatOrEffect x → z.own ≤ l → (J : Known) (r : ℕ) (a : Activation) (o o' : Out) (b b' : Back) (go : Go ℕ) (next : Next) →
       KeptBy J (still (Move l x)) l (l + 1) →
       ((w : World) (t t' : Temps) → Beside z.own J w t t' → Sim r z.fuel (mixed_value z (Temp l) (around a o b) (λ v w1 t1. go v w1 t) w t') (next w t')) →
       (w : World) (t t' : Temps) → Beside z.own J w t t' → Sim (r + 2) z.fuel (mixed_value z x (around a o b) (λ v w1 t1. go v w1 t) w t')
       (then_does z (Move l x) (around a o' b') next w t')
   move_runs x l f le J r a o o' b b' go next kept hyp w t t' near =
       worked z.fuel (r + 2) r 2 _ (then_value z x (around a o' b') (λ v w1 t1. next w1 (set_temp l v t1)) w t') (omega arith)
-      (side_runs r a o o' b b' w t' (λ v w1 t1. go v w1 t) (λ v w1 t1. next w1 (set_temp l v t1)) (λ v w1.
+      (effect_runs r a o o' b b' w t' (λ v w1 t1. go v w1 t) (λ v w1 t1. next w1 (set_temp l v t1)) (λ v w1.
       along z.fuel r (mixed_value z (Temp l) (around a o b) (λ u w2 t2. go u w2 t) w1 (set_temp l v t')) (go v w1 t) (next w1 (set_temp l v t'))
       (next w1 (set_temp l v t'))
       (sym (ap (λ d. charged 0 (with_word d w1 (λ u. go u w1 t))) (set_same l v t') ∙ free (go v w1 t))) refl
@@ -209,7 +209,7 @@ module _ (z : Scene) where
       (beside_world z.own J w w1 t t' 4294967295 0 l (l + 1) (kept refl) near)))) x f)
 
   -- What becomes of a flat expression in front of a part: a front, and an expression that gives the same word behind the part.
-  pub record IsHeld (p : Part) (x : Tx) (low from : ℕ) (h : Lifted) (to : ℕ) : Type 1 where
+  pub record IsHeld (p : Part) (x : Tx) (low from : ℕ) (h : Hoisted) (to : ℕ) : Type 1 where
     pub runs :
         (J : Known) (r : ℕ) (a : Activation) (o o' : Out) (b b' : Back) (go : Go ℕ) (next : Next) →
         KeptBy J h.front from to →
@@ -221,14 +221,14 @@ module _ (z : Scene) where
     pub reads : (i : ℕ) → Occurs i h.rest → IsIn z.own low to i
     pub owned : IsOwned z.own h.front.least h.front.greatest
     pub length : size h.front.statement + expression_length Canonical h.rest ≤ expression_length Canonical x + 2
-    pub room : takes h.front.statement + expression_room in_canonical h.rest + to ≤ expression_room in_canonical x + holdable z.own x + from
+    pub room : takes h.front.statement + expression_needs in_canonical h.rest + to ≤ expression_needs in_canonical x + holdable z.own x + from
     pub grows : from ≤ to
 
   module _ (p : Part) (owned : IsOwned z.own p.least p.greatest) (low from : ℕ) (above : z.own ≤ low) (later : low ≤ from) where
-    abbrev Held : Tx → Drawn Lifted → Type 1
+    abbrev Held : Tx → Drawn Hoisted → Type 1
     Held x d = IsHeld p x low from d.it d.next
 
-    hold_held : (x : Tx) → IsFlatSide x → holdable z.own x ≡ 1 → Held x (hold x from)
+    hold_held : (x : Tx) → IsFlatOrEffect x → holdable z.own x ≡ 1 → Held x (hold x from)
     hold_held x f once = record {
       runs = λ J r a o o' b b' go next kept hyp. move_runs x from f (omega arith) J r a o o' b b' go next kept hyp;
       steady = tt;
@@ -258,13 +258,13 @@ module _ (z : Scene) where
     unless_held : (b : Bool) (x : Tx) → IsFlat x → (b ≡ true → IsSteady x) → (b ≡ true → (i : ℕ) → Occurs i x → p.least ≤ i → p.greatest < i) →
         (b ≡ false → holdable z.own x ≡ 1) → ((i : ℕ) → Occurs i x → IsIn z.own low from i) → Held x (hold_unless b x from)
     unless_held true x f steady apart once reads = whole_held x (steady refl) (apart refl) reads
-    unless_held false x f steady apart once reads = hold_held x (flat_side x f) (once refl)
+    unless_held false x f steady apart once reads = hold_held x (flat_or_effect x f) (once refl)
 
-    stays_held : (x : Tx) → IsFlat x → ((i : ℕ) → Occurs i x → IsIn z.own low from i) → Held x (hold_unless (stays p x) x from)
-    stays_held x f reads = unless_held (stays p x) x f (stays_steady p x) (stays_apart p x) (held_once z.own p owned x) reads
+    commutes_held : (x : Tx) → IsFlat x → ((i : ℕ) → Occurs i x → IsIn z.own low from i) → Held x (hold_unless (commutes p x) x from)
+    commutes_held x f reads = unless_held (commutes p x) x f (commutes_steady p x) (commutes_apart p x) (held_once z.own p owned x) reads
 
     -- a sum with an offset, of which the left side is held
-    offset_held : (op : Bin) (x y : Tx) → is_sum op ≡ true → is_constant y ≡ true → (d : Drawn Lifted) → Held x d →
+    offset_held : (op : Bin) (x y : Tx) → is_sum op ≡ true → is_constant y ≡ true → (d : Drawn Hoisted) → Held x d →
         Held (Binary op x y) (record { it = record { front = d.it.front; rest = Binary op d.it.rest y }; next = d.next })
     offset_held op x (Const c) e q d h = record {
       runs = λ J r a o o' b b' go next kept hyp w t t' near.
@@ -294,17 +294,17 @@ module _ (z : Scene) where
         ((i : ℕ) → Occurs i x → IsIn z.own low from i) → Held (Binary op x y) (hold_but_offset b p op x y from)
     but_offset_held true op x y e f g reads =
         let q = both_true (is_sum op) (is_constant y) e in
-        offset_held op x y q.0 q.1 (hold_unless (stays p x) x from) (stays_held x f reads)
+        offset_held op x y q.0 q.1 (hold_unless (commutes p x) x from) (commutes_held x f reads)
     but_offset_held false op x y e f g reads = hold_held (Binary op x y) (f, g) refl
 
     pub held : (x : Tx) → IsFlat x → ((i : ℕ) → Occurs i x → IsIn z.own low from i) → Held x (hold_for p x from)
     held (Binary op x y) f reads = but_offset_held (is_sum op && is_constant y) op x y refl f.0 f.1 (λ i o. reads i (inl o))
-    held (Const n) f reads = stays_held (Const n) f reads
-    held (Address n) f reads = stays_held (Address n) f reads
-    held (Temp i) f reads = stays_held (Temp i) f reads
-    held FrameAddress f reads = stays_held FrameAddress f reads
-    held (Load x) f reads = stays_held (Load x) f reads
-    held (LoadByte x) f reads = stays_held (LoadByte x) f reads
+    held (Const n) f reads = commutes_held (Const n) f reads
+    held (Address n) f reads = commutes_held (Address n) f reads
+    held (Temp i) f reads = commutes_held (Temp i) f reads
+    held FrameAddress f reads = commutes_held FrameAddress f reads
+    held (Load x) f reads = commutes_held (Load x) f reads
+    held (LoadByte x) f reads = commutes_held (LoadByte x) f reads
     held (Call g xs) f reads = absurd f
     held (Service n x) f reads = absurd f
     held (After s x) f reads = absurd f

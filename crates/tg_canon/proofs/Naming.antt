@@ -8,15 +8,15 @@ use Rattle.tg_tree.specs.Tree.{Not, Both, Either, Ts, Move, Store, StoreByte, Do
 use Rattle.tg_tree.specs.Named.{NamesAreAllowed, Named, function, literal, fault, temporary, constant, named_ts, named_stms}
 use Rattle.tg_tree.proofs.NamesPassing.{TxPasses, TxsPass, CondPasses, TsPasses, StmsPass, body_passes, statements_names}
 use Rattle.tg_canon.specs.Drawing.{Draws, give, ◌>>=◌}
-use Rattle.tg_canon.specs.Canon.{Part, still, nothing, is_nothing, first_then, ◌before◌, loop_of, block, Parts, in_front, in_turn, Lifted, Two}
-use Rattle.tg_canon.specs.Canon.{Arguments, behind, hold, is_side, hold_side, word, stays, hold_unless, hold_but_offset, hold_for, hold_before}
+use Rattle.tg_canon.specs.Canon.{Part, still, nothing, is_nothing, first_then, ◌before◌, loop_of, block, Parts, in_front, in_turn, Hoisted, Two}
+use Rattle.tg_canon.specs.Canon.{Arguments, behind, hold, is_effect, hold_effect, word, commutes, hold_unless, hold_but_offset, hold_for, hold_before}
 use Rattle.tg_canon.specs.Canon.{in_front_of, side_by_side, argument, over, over_two, over_all, with_one, with_two, assigning, acts, dropped}
 use Rattle.tg_canon.specs.Canon.{is_whole, Tested, compared, opposite, joined, choice, exit_where, wide_choice, deeper, inside, choose, lift}
 use Rattle.tg_canon.specs.Canon.{lift_all, condition, leave, linear, linear_all, statements_of, linearized}
 use Rattle.tg_canon.specs.Laws.{AllowsDrawn, AreTempsBelow}
 use Rattle.tg_canon.proofs.Always.{one_of_two}
 use Rattle.tg_canon.proofs.Growing as growing
-use Rattle.tg_canon.proofs.Growing.{Grows, two, hold_side_grows, word_grows, side_by_side_grows, argument_grows, lift_grows, condition_grows}
+use Rattle.tg_canon.proofs.Growing.{Grows, two, hold_effect_grows, word_grows, side_by_side_grows, argument_grows, lift_grows, condition_grows}
 use Rattle.tg_canon.proofs.Growing.{leave_grows, linear_grows, linearized_grows}
 
 -- The test passes the temporaries from one number up to another.
@@ -47,7 +47,7 @@ module _ (allowed : Named → Bool) (from top : ℕ) (drawn : AllowsDrawn allowe
   record PartPasses (p : Part) : Type 0 where
     part : TsPasses Passes p.statement
 
-  record LiftedPasses (a : Lifted) : Type 0 where
+  record LiftedPasses (a : Hoisted) : Type 0 where
     front : TsPasses Passes a.front.statement
     rest : TxPasses Passes a.rest
 
@@ -77,15 +77,15 @@ module _ (allowed : Named → Bool) (from top : ℕ) (drawn : AllowsDrawn allowe
         record { front = (it, h); rest = it };
   }
 
-  behind_passes : (p : Part) (a : Lifted) → TsPasses Passes p.statement → LiftedPasses a → LiftedPasses (behind p a)
+  behind_passes : (p : Part) (a : Hoisted) → TsPasses Passes p.statement → LiftedPasses a → LiftedPasses (behind p a)
   behind_passes p a h w = record { front = first_then_passes p.statement a.front.statement h w.front; rest = w.rest }
 
-  hold_side_passes : (b : Bool) (a : Lifted) → LiftedPasses a → Keeps LiftedPasses (hold_side b a)
-  hold_side_passes true a w = made (hold a.rest) (behind a.front) (hold_passes a.rest w.rest) (λ h v. behind_passes a.front h w.front v)
-  hold_side_passes false a w = given w
+  hold_effect_passes : (b : Bool) (a : Hoisted) → LiftedPasses a → Keeps LiftedPasses (hold_effect b a)
+  hold_effect_passes true a w = made (hold a.rest) (behind a.front) (hold_passes a.rest w.rest) (λ h v. behind_passes a.front h w.front v)
+  hold_effect_passes false a w = given w
 
-  word_passes : (m : Draws Lifted) → Grows m → Keeps LiftedPasses m → Keeps LiftedPasses (word m)
-  word_passes m g h = next m (λ a. hold_side (is_side a.rest) a) g (λ a. hold_side_grows (is_side a.rest) a) h (λ a w. hold_side_passes (is_side a.rest) a w)
+  word_passes : (m : Draws Hoisted) → Grows m → Keeps LiftedPasses m → Keeps LiftedPasses (word m)
+  word_passes m g h = next m (λ a. hold_effect (is_effect a.rest) a) g (λ a. hold_effect_grows (is_effect a.rest) a) h (λ a w. hold_effect_passes (is_effect a.rest) a w)
 
   hold_unless_passes : (b : Bool) (x : Tx) → TxPasses Passes x → Keeps LiftedPasses (hold_unless b x)
   hold_unless_passes true x h = given (record { front = tt; rest = h })
@@ -94,40 +94,40 @@ module _ (allowed : Named → Bool) (from top : ℕ) (drawn : AllowsDrawn allowe
   hold_but_offset_passes : (b : Bool) (p : Part) (op : Bin) (x y : Tx) → TxPasses Passes x → TxPasses Passes y →
       Keeps LiftedPasses (hold_but_offset b p op x y)
   hold_but_offset_passes true p op x y hx hy =
-      made (hold_unless (stays p x) x) (λ a. record { front = a.front; rest = Binary op a.rest y })
-      (hold_unless_passes (stays p x) x hx) (λ a w. record { front = w.front; rest = (w.rest, hy) })
+      made (hold_unless (commutes p x) x) (λ a. record { front = a.front; rest = Binary op a.rest y })
+      (hold_unless_passes (commutes p x) x hx) (λ a w. record { front = w.front; rest = (w.rest, hy) })
   hold_but_offset_passes false p op x y hx hy = hold_passes (Binary op x y) (hx, hy)
 
   hold_for_passes : (p : Part) (x : Tx) → TxPasses Passes x → Keeps LiftedPasses (hold_for p x)
   hold_for_passes p (Binary op x y) h = hold_but_offset_passes _ p op x y h.0 h.1
-  hold_for_passes p (Const i) h = hold_unless_passes (stays p (Const i)) (Const i) h
-  hold_for_passes p (Address i) h = hold_unless_passes (stays p (Address i)) (Address i) h
-  hold_for_passes p (Temp i) h = hold_unless_passes (stays p (Temp i)) (Temp i) h
-  hold_for_passes p FrameAddress h = hold_unless_passes (stays p FrameAddress) FrameAddress h
-  hold_for_passes p (Load x) h = hold_unless_passes (stays p (Load x)) (Load x) h
-  hold_for_passes p (LoadByte x) h = hold_unless_passes (stays p (LoadByte x)) (LoadByte x) h
-  hold_for_passes p (Call f xs) h = hold_unless_passes (stays p (Call f xs)) (Call f xs) h
-  hold_for_passes p (Service i x) h = hold_unless_passes (stays p (Service i x)) (Service i x) h
-  hold_for_passes p (After s x) h = hold_unless_passes (stays p (After s x)) (After s x) h
+  hold_for_passes p (Const i) h = hold_unless_passes (commutes p (Const i)) (Const i) h
+  hold_for_passes p (Address i) h = hold_unless_passes (commutes p (Address i)) (Address i) h
+  hold_for_passes p (Temp i) h = hold_unless_passes (commutes p (Temp i)) (Temp i) h
+  hold_for_passes p FrameAddress h = hold_unless_passes (commutes p FrameAddress) FrameAddress h
+  hold_for_passes p (Load x) h = hold_unless_passes (commutes p (Load x)) (Load x) h
+  hold_for_passes p (LoadByte x) h = hold_unless_passes (commutes p (LoadByte x)) (LoadByte x) h
+  hold_for_passes p (Call f xs) h = hold_unless_passes (commutes p (Call f xs)) (Call f xs) h
+  hold_for_passes p (Service i x) h = hold_unless_passes (commutes p (Service i x)) (Service i x) h
+  hold_for_passes p (After s x) h = hold_unless_passes (commutes p (After s x)) (After s x) h
 
-  hold_before_passes : (b : Bool) (p : Part) (a : Lifted) → LiftedPasses a → Keeps LiftedPasses (hold_before b p a)
+  hold_before_passes : (b : Bool) (p : Part) (a : Hoisted) → LiftedPasses a → Keeps LiftedPasses (hold_before b p a)
   hold_before_passes true p a w = given w
   hold_before_passes false p a w = made (hold_for p a.rest) (behind a.front) (hold_for_passes p a.rest w.rest) (λ h v. behind_passes a.front h w.front v)
 
-  side_by_side_passes : (a b : Lifted) → LiftedPasses a → LiftedPasses b → Keeps TwoPass (side_by_side a b)
+  side_by_side_passes : (a b : Hoisted) → LiftedPasses a → LiftedPasses b → Keeps TwoPass (side_by_side a b)
   side_by_side_passes a b v w =
       made (in_front_of b.front a) (λ h. record { front = h.front before b.front; left = h.rest; right = b.rest })
       (hold_before_passes _ b.front a v)
       (λ h u. record { front = first_then_passes h.front.statement b.front.statement u.front w.front; left = u.rest; right = w.rest })
 
-  argument_passes : (a : Lifted) (all : Arguments) → LiftedPasses a → ArgumentsPass all → Keeps ArgumentsPass (argument a all)
+  argument_passes : (a : Hoisted) (all : Arguments) → LiftedPasses a → ArgumentsPass all → Keeps ArgumentsPass (argument a all)
   argument_passes a all v w =
       made (in_front_of all.front a) (λ h. record { front = h.front before all.front; rest = tx h.rest all.rest })
       (hold_before_passes _ all.front a v)
       (λ h u. record { front = first_then_passes h.front.statement all.front.statement u.front w.front; rest = (u.rest, w.rest) })
 
   -- two words, and one
-  two_pass : {B : Type 0} {Q : B → Type 0} (m l : Draws Lifted) (f : Two → B) → Grows m → Grows l → Keeps LiftedPasses m →
+  two_pass : {B : Type 0} {Q : B → Type 0} (m l : Draws Hoisted) (f : Two → B) → Grows m → Grows l → Keeps LiftedPasses m →
       Keeps LiftedPasses l → ((a : Two) → TwoPass a → Q (f a)) →
       Keeps Q (word l >>= (λ b. word m >>= (λ a. side_by_side a b >>= (λ ab. give (f ab)))))
   two_pass m l f gm gl hm hl g =
@@ -138,8 +138,8 @@ module _ (allowed : Named → Bool) (from top : ℕ) (drawn : AllowsDrawn allowe
       (λ a. growing.made (side_by_side a b) f (side_by_side_grows a b)) (word_passes m gm hm) (λ a v.
       made (side_by_side a b) f (side_by_side_passes a b v w) g))
 
-  one_passes : {B : Type 0} {Q : B → Type 0} (m : Draws Lifted) (f : Lifted → B) → Grows m → Keeps LiftedPasses m →
-      ((a : Lifted) → LiftedPasses a → Q (f a)) → Keeps Q (word m >>= (λ a. give (f a)))
+  one_passes : {B : Type 0} {Q : B → Type 0} (m : Draws Hoisted) (f : Hoisted → B) → Grows m → Keeps LiftedPasses m →
+      ((a : Hoisted) → LiftedPasses a → Q (f a)) → Keeps Q (word m >>= (λ a. give (f a)))
   one_passes m f gm hm g = made (word m) f (word_passes m gm hm) g
 
   -- one thing drawn after another

@@ -4,10 +4,10 @@ use Rattle.tg_tree.specs.declared.operators.Bin.{Bin}
 use Rattle.tg_tree.specs.declared.trees.Tx.{Tx as CodeTx, Const, Address, Temp, FrameAddress, Binary, Binary', Load', LoadByte', Call', Service', After'}
 use Rattle.tg_tree.specs.Plain.{plain_tx}
 use Rattle.tg_canon.specs.Drawing.{Draws, DrawsFrom}
-use Rattle.tg_canon.specs.Canon.{Part, Lifted, stays, hold_unless, hold_for}
+use Rattle.tg_canon.specs.Canon.{Part, Hoisted, commutes, hold_unless, hold_for}
 
 other_held : (p : Part) (x : CodeTx) → ((op : Bin) (a b : Box CodeTx Global) → x ≡ Binary op a b → ⊥) →
-    hold_for p (plain_tx x) ≡ hold_unless (stays p (plain_tx x)) (plain_tx x)
+    hold_for p (plain_tx x) ≡ hold_unless (commutes p (plain_tx x)) (plain_tx x)
 other_held p (Const _) h = refl
 other_held p (Address _) h = refl
 other_held p (Temp _) h = refl
@@ -21,6 +21,6 @@ other_held p (Service' _ _ _) h = refl
 other_held p (After' _ _ _ _) h = refl
 
 pub other_gives :
-    (p : Part) (x : CodeTx) {k l : ℕ} {a : Lifted} → ((op : Bin) (a b : Box CodeTx Global) → x ≡ Binary op a b → ⊥) →
-    DrawsFrom (hold_unless (stays p (plain_tx x)) (plain_tx x)) k a l → DrawsFrom (hold_for p (plain_tx x)) k a l
-other_gives p x {k = k} h g = record { is = ap (λ (m : Draws Lifted). m k) (other_held p x h) ∙ g.is }
+    (p : Part) (x : CodeTx) {k l : ℕ} {a : Hoisted} → ((op : Bin) (a b : Box CodeTx Global) → x ≡ Binary op a b → ⊥) →
+    DrawsFrom (hold_unless (commutes p (plain_tx x)) (plain_tx x)) k a l → DrawsFrom (hold_for p (plain_tx x)) k a l
+other_gives p x {k = k} h g = record { is = ap (λ (m : Draws Hoisted). m k) (other_held p x h) ∙ g.is }

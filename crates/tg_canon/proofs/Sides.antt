@@ -1,30 +1,30 @@
 -- Right sides, and which of them are flat words.
 use Rattle.std.proofs.Common.{◌≡◌, false}
 use Rattle.tg_tree.specs.Tree.{Tx, Const, Address, Temp, FrameAddress, Binary, Load, LoadByte, Call, Service, After}
-use Rattle.tg_tree.specs.Shapes.{IsFlat, IsFlatSide}
-use Rattle.tg_canon.specs.Canon.{is_side}
+use Rattle.tg_tree.specs.Shapes.{IsFlat, IsFlatOrEffect}
+use Rattle.tg_canon.specs.Canon.{is_effect}
 
-pub flat_side : (x : Tx) → IsFlat x → IsFlatSide x
-flat_side (Const _) h = h
-flat_side (Address _) h = h
-flat_side (Temp _) h = h
-flat_side FrameAddress h = h
-flat_side (Binary _ _ _) h = h
-flat_side (Load _) h = h
-flat_side (LoadByte _) h = h
-flat_side (Call _ _) h = absurd h
-flat_side (Service _ _) h = absurd h
-flat_side (After _ _) h = absurd h
+pub flat_or_effect : (x : Tx) → IsFlat x → IsFlatOrEffect x
+flat_or_effect (Const _) h = h
+flat_or_effect (Address _) h = h
+flat_or_effect (Temp _) h = h
+flat_or_effect FrameAddress h = h
+flat_or_effect (Binary _ _ _) h = h
+flat_or_effect (Load _) h = h
+flat_or_effect (LoadByte _) h = h
+flat_or_effect (Call _ _) h = absurd h
+flat_or_effect (Service _ _) h = absurd h
+flat_or_effect (After _ _) h = absurd h
 
 -- a side that isn't a call or service
-pub side_flat : (x : Tx) → is_side x ≡ false → IsFlatSide x → IsFlat x
-side_flat (Const _) e h = h
-side_flat (Address _) e h = h
-side_flat (Temp _) e h = h
-side_flat FrameAddress e h = h
-side_flat (Binary _ _ _) e h = h
-side_flat (Load _) e h = h
-side_flat (LoadByte _) e h = h
-side_flat (Call _ _) e h = cc
-side_flat (Service _ _) e h = cc
-side_flat (After _ _) e h = h
+pub flat_without_effect : (x : Tx) → is_effect x ≡ false → IsFlatOrEffect x → IsFlat x
+flat_without_effect (Const _) e h = h
+flat_without_effect (Address _) e h = h
+flat_without_effect (Temp _) e h = h
+flat_without_effect FrameAddress e h = h
+flat_without_effect (Binary _ _ _) e h = h
+flat_without_effect (Load _) e h = h
+flat_without_effect (LoadByte _) e h = h
+flat_without_effect (Call _ _) e h = cc
+flat_without_effect (Service _ _) e h = cc
+flat_without_effect (After _ _) e h = h

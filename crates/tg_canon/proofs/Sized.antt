@@ -4,12 +4,12 @@ use Rattle.tg_simulation.specs.Ran.{Wrong}
 use Rattle.tg_simulation.proofs.Simulations.{simulates_stopping}
 use Rattle.tg_tree.specs.Tree.{Ts, Move, Store, StoreByte, Do, If, Loop, Break, Fault, Seq, Return, Function}
 use Rattle.tg_tree.specs.Units.{Canonical}
-use Rattle.tg_tree.specs.Sizes.{statements_length, statements_room, in_canonical, tree_length, tree_room, canonical_length, canonical_room}
+use Rattle.tg_tree.specs.Sizes.{statements_length, statements_needs, in_canonical, tree_length, tree_needs, canonical_length, canonical_needs}
 use Rattle.tg_tree.specs.Named.{named_ts}
 use Rattle.tg_tree.specs.Actions.{wrong}
 use Rattle.tg_tree.proofs.NamesPassing.{body_passes}
 use Rattle.tg_canon.specs.Canon.{statements_of, linear}
-use Rattle.tg_canon.specs.Meaning.{canonical, HasOwnTemps, added_length, added_room}
+use Rattle.tg_canon.specs.Meaning.{canonical, HasOwnTemps, added_length, added_needs}
 use Rattle.tg_canon.proofs.Naming.{IsBelow, below_more}
 use Rattle.tg_canon.proofs.Sizing.{size, takes}
 use Rattle.tg_canon.proofs.Fixed.{Scene}
@@ -29,7 +29,7 @@ idle own = record {
   calls = λ label vs top back back' w r h. simulates_stopping 1 (r + 0) 0 w.input Wrong;
 }
 
-statements_count : (s : Ts) → (statements_length Canonical (statements_of s) ≤ size s) × (statements_room in_canonical (statements_of s) ≤ takes s)
+statements_count : (s : Ts) → (statements_length Canonical (statements_of s) ≤ size s) × (statements_needs in_canonical (statements_of s) ≤ takes s)
 statements_count (Seq ss) = (omega arith, omega arith)
 statements_count (Move i x) = (omega arith, omega arith)
 statements_count (Store x y) = (omega arith, omega arith)
@@ -50,5 +50,5 @@ module _ (pay : JoinsPay) (f : Function Ts) (own : HasOwnTemps f) where
   pub length_stays : canonical_length (canonical f) ≤ tree_length f + added_length
   length_stays = let p = part in let n = p.length in let c = (statements_count (linear (λ k. k) f.body f.temps).it.statement).0 in omega arith
 
-  pub room_stays : canonical_room (canonical f) ≤ tree_room f + added_room
-  room_stays = let p = part in let n = p.room in let c = (statements_count (linear (λ k. k) f.body f.temps).it.statement).1 in omega arith
+  pub needs_stay : canonical_needs (canonical f) ≤ tree_needs f + added_needs
+  needs_stay = let p = part in let n = p.room in let c = (statements_count (linear (λ k. k) f.body f.temps).it.statement).1 in omega arith

@@ -4,14 +4,14 @@ use Rattle.std.proofs.lemmas.Bool.{lt-ltb, le-ltb}
 use Rattle.tg_tree.specs.Tree.{Tx, Const, Address, Temp, FrameAddress, Binary, Load, LoadByte, Call, Service, After, Ts, Seq, no_stms, stm, Move}
 use Rattle.tg_tree.specs.Tree.{Store, StoreByte, Do, If, Loop, Break, Fault, Return}
 use Rattle.tg_tree.specs.Units.{Canonical}
-use Rattle.tg_tree.specs.Sizes.{statement_length, statement_room, in_canonical}
+use Rattle.tg_tree.specs.Sizes.{statement_length, statement_needs, in_canonical}
 use Rattle.tg_canon.specs.Canon.{is_nothing, pair, first_then}
 
 abbrev pub size : Ts → ℕ
 size s = statement_length Canonical s
 
 abbrev pub takes : Ts → ℕ
-takes s = statement_room in_canonical s
+takes s = statement_needs in_canonical s
 
 nothing_counts : (s : Ts) → is_nothing s ≡ true → (size s ≡ 0) × (takes s ≡ 0)
 nothing_counts (Seq no_stms) e = (refl, refl)

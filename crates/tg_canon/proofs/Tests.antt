@@ -3,11 +3,11 @@ use Rattle.std.proofs.Common.{◌≡◌, ℕ, suc, ◌+◌, ◌≤◌, min, max,
 use Rattle.tg_tree.specs.declared.operators.Rel.{Rel}
 use Rattle.tg_tree.specs.Tree.{Tx, Cond, Compare, Not, Both, Either, Ts, If, Loop, Break}
 use Rattle.tg_tree.specs.Operators.{holds}
-use Rattle.tg_tree.specs.Units.{Trees, Canonical, lifted_units, joined_units}
-use Rattle.tg_tree.specs.Sizes.{condition_length, condition_room, in_trees, in_canonical}
+use Rattle.tg_tree.specs.Units.{Trees, Canonical, hoisted_units, joined_units}
+use Rattle.tg_tree.specs.Sizes.{condition_length, condition_needs, in_trees, in_canonical}
 use Rattle.tg_tree.specs.Shapes.{IsFlatCond, is_flat, is_flat_condition}
 use Rattle.tg_tree.specs.Actions.{World, Temps, Activation, Around, Acts, Go, Next, Out, Back, give, over, charged, leaving}
-use Rattle.tg_canon.specs.Canon.{Part, still, is_nothing, nothing, first_then, ◌before◌, block, as_part, Lifted, is_whole, Tested, opposite, joined}
+use Rattle.tg_canon.specs.Canon.{Part, still, is_nothing, nothing, first_then, ◌before◌, block, as_part, Hoisted, is_whole, Tested, opposite, joined}
 use Rattle.tg_canon.specs.Canon.{exit_where, wide_choice, deeper}
 use Rattle.tg_canon.proofs.Sizing.{size, takes, in_turn_counts}
 use Rattle.tg_canon.proofs.Paying.{Sim, trade, pays, worked, reworked, unpaid, credit, along, free, charged_add}
@@ -36,7 +36,7 @@ module _ (z : Scene) (out : ℕ → ℕ) where
     pub none : is_flat_condition c ≡ true → is_nothing t.front.statement ≡ true
     pub owned : IsOwned z.own t.front.least t.front.greatest
     pub length : size t.front.statement + condition_length Canonical t.condition ≤ condition_length Trees c
-    pub room : takes t.front.statement + condition_room in_canonical t.condition + to ≤ condition_room in_trees c + from
+    pub room : takes t.front.statement + condition_needs in_canonical t.condition + to ≤ condition_needs in_trees c + from
     pub grows : from ≤ to
 
   pub not_is : (c : Cond) (from : ℕ) (t : Tested) (to : ℕ) → TestIs c from t to → TestIs (Not c) from (opposite t) to
@@ -149,8 +149,8 @@ module _ (z : Scene) (out : ℕ → ℕ) where
       turn true = stays true
       turn false = goes_on
 
-  pub compare_is : (rel : Rel) (x y : Tx) (b h : Lifted) (first from to : ℕ) →
-      PairIs z out x (tree_value z y) (mixed_value z b.rest) b.front (4 + lifted_units Trees (is_flat y)) 4 first from h to → WordIs z out y first b from →
+  pub compare_is : (rel : Rel) (x y : Tx) (b h : Hoisted) (first from to : ℕ) →
+      PairIs z out x (tree_value z y) (mixed_value z b.rest) b.front (4 + hoisted_units Trees (is_flat y)) 4 first from h to → WordIs z out y first b from →
       TestIs (Compare rel x y) first (record { front = h.front before b.front; condition = Compare rel h.rest b.rest }) to
   compare_is rel x y b h first from to pairs right = record {
     split = record {
@@ -167,10 +167,10 @@ module _ (z : Scene) (out : ℕ → ℕ) where
 -- What the joins of a condition count where it is tested part by part: 14 each, and 17 more for one whose right side isn't flat.
 pub record JoinsPay : Type 0 where
   pub flat : 14 ≤ joined_units Trees true
-  pub lifted : 31 ≤ joined_units Trees false
+  pub hoisted : 31 ≤ joined_units Trees false
 
 pub joins_are_paid : JoinsPay
-joins_are_paid = record { flat = omega arith; lifted = omega arith }
+joins_are_paid = record { flat = omega arith; hoisted = omega arith }
 
 -- what is left over of a condition that isn't whole
 abbrev pub extra : Cond → ℕ
@@ -197,11 +197,11 @@ extra_there (Either c d) e = extra_joined (is_flat_condition d) c 0 (λ f. extra
 joins_pay : JoinsPay → (c : Cond) (b : Bool) (m : ℕ) → m ≤ (if b then extra c else 17) →
     (k : ℕ) × (l : ℕ) × (k ≤ extra c) × (m ≤ k + l) × (14 + l ≤ joined_units Trees b)
 joins_pay pay c true m le = (m, 0, le, omega arith, pay.flat)
-joins_pay pay c false m le = (0, m, omega arith, omega arith, let h = pay.lifted in omega arith)
+joins_pay pay c false m le = (0, m, omega arith, omega arith, let h = pay.hoisted in omega arith)
 
 joins_last : JoinsPay → (c : Cond) (b : Bool) → (if b then extra c else 17) + 14 ≤ extra c + joined_units Trees b
 joins_last pay c true = let h = pay.flat in omega arith
-joins_last pay c false = let h = pay.lifted in omega arith
+joins_last pay c false = let h = pay.hoisted in omega arith
 
 -- Breaks out of one loop more, and of two.
 pub outs_deeper : (z : Scene) (out : ℕ → ℕ) (J : Known) (r : ℕ) (o o' : Out) (next : Next) → OutsAre z J r out o o' →
@@ -227,7 +227,7 @@ module _ (z : Scene) where
         Sim (r + 7) z.fuel (tree_test z c (around a o b) go w t) (charged m (then_does z p.statement (around a o' b') next w t'))
     pub owned : IsOwned z.own p.least p.greatest
     pub length : size p.statement + extra c ≤ condition_length Trees c + 7
-    pub room : takes p.statement + to ≤ condition_room in_trees c + from
+    pub room : takes p.statement + to ≤ condition_needs in_trees c + from
     pub grows : from ≤ to
 
   -- a comparison
@@ -259,8 +259,9 @@ module _ (z : Scene) where
     part_length : (p q : Ts) → size p + size q ≤ 3 → size (first_then test.front.statement (If test.condition p q)) + extra c ≤ condition_length Trees c + 7
     part_length p q le = let n = h.length in let c1 = (in_turn_counts test.front.statement (If test.condition p q)).0 in let e = none in omega arith
 
-    part_room : (p q : Ts) → takes p ≡ 0 → takes q ≡ 0 → takes (first_then test.front.statement (If test.condition p q)) + to ≤ condition_room in_trees c + from
-    part_room p q e f = let n = h.room in let c1 = (in_turn_counts test.front.statement (If test.condition p q)).1 in omega (arith, e, f)
+    part_needs : (p q : Ts) → takes p ≡ 0 → takes q ≡ 0 →
+        takes (first_then test.front.statement (If test.condition p q)) + to ≤ condition_needs in_trees c + from
+    part_needs p q e f = let n = h.room in let c1 = (in_turn_counts test.front.statement (If test.condition p q)).1 in omega (arith, e, f)
 
     pub exit_left : (when : Bool) (k : ℕ) → LeftIs out when k c from (exit_where when k test) to
     exit_left true k = record {
@@ -268,7 +269,7 @@ module _ (z : Scene) where
           exits_by (Break k) nothing J r a o o' b b' go next kept outs backs (λ d w t t' near. by J r a o' b' go next exits on d w t t' near);
       owned = part_owned nothing;
       length = part_length (Break k) nothing (omega arith);
-      room = part_room (Break k) nothing refl refl;
+      room = part_needs (Break k) nothing refl refl;
       grows = h.grows;
     }
       where
@@ -284,7 +285,7 @@ module _ (z : Scene) where
           exits_by nothing (Break k) J r a o o' b b' go next kept outs backs (λ d w t t' near. by J r a o' b' go next exits on d w t t' near);
       owned = part_owned nothing;
       length = part_length nothing (Break k) (omega arith);
-      room = part_room nothing (Break k) refl refl;
+      room = part_needs nothing (Break k) refl refl;
       grows = h.grows;
     }
       where
@@ -302,7 +303,7 @@ module _ (z : Scene) where
       (tree_test z c e (λ q w1 t1. F q e go w1 t1) w t))
       (extra_is : extra j ≡ (if is_flat_condition d then extra c else 17))
       (length_is : condition_length Trees j ≡ joined_units Trees (is_flat_condition d) + (condition_length Trees c + condition_length Trees d))
-      (room_is : condition_room in_trees j ≡ 6 + (condition_room in_trees c + condition_room in_trees d))
+      (room_is : condition_needs in_trees j ≡ 6 + (condition_needs in_trees c + condition_needs in_trees d))
       (when : Bool) (k first from to : ℕ) (p q : Part) where
     abbrev J' : ℕ
     J' = joined_units Trees (is_flat_condition d)

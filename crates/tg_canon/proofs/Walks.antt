@@ -6,7 +6,7 @@ use Rattle.tg_tree.specs.declared.trees.Ts.{Ts as CodeTs}
 use Rattle.tg_tree.specs.Plain.{plain_tx, plain_ts}
 use Rattle.tg_tree.specs.Lists.{txs_of, stms_of}
 use Rattle.tg_canon.specs.Drawing.{Draws, give, ◌>>=◌, DrawsFrom}
-use Rattle.tg_canon.specs.Canon.{Part, Parts, no_parts, in_front, Lifted, Arguments, no_arguments, word, argument, lift, lift_all, linear, linear_all}
+use Rattle.tg_canon.specs.Canon.{Part, Parts, no_parts, in_front, Hoisted, Arguments, no_arguments, word, argument, lift, lift_all, linear, linear_all}
 use Rattle.tg_canon.proofs.Steps.{given, on, ends, same}
 
 -- all are those that are left and then these, of which this was drawn
@@ -58,7 +58,7 @@ statement_more out s {all = all} w e g f = goes_on s w e (on (λ rest. linear ou
 pub arguments_begin : (out : ℕ → ℕ) (xs : List CodeTx) {k : ℕ} {all : Arguments} → all ≡ no_arguments → ArgumentsWalked out xs k xs all k
 arguments_begin out xs e = begins xs (same (given _ _) e)
 
-pub argument_more : (out : ℕ → ℕ) {whole old left : List CodeTx} (x : CodeTx) {k l m n : ℕ} {all more : Arguments} {a : Lifted} →
+pub argument_more : (out : ℕ → ℕ) {whole old left : List CodeTx} (x : CodeTx) {k l m n : ℕ} {all more : Arguments} {a : Hoisted} →
     ArgumentsWalked out whole k old all l → old ≡ left ++ x ∷ [] → DrawsFrom (word (lift out (plain_tx x))) l a m →
     DrawsFrom (argument a all) m more n → ArgumentsWalked out whole k left more n
 argument_more out x {all = all} w e g h =

@@ -1,16 +1,16 @@
--- Expressions that are lifted, words, and a word beside another part.
+-- Expressions that are hoisted, words, and a word beside another part.
 use Rattle.std.proofs.Common.{◌≡◌, ℕ, ◌+◌, ◌≤◌, min, max, Bool, true, false, if◌then◌else◌, refl, sym, ap, ◌∙◌, arith}
 use Rattle.tg_simulation.proofs.Simulations.{simulates_wrong}
 use Rattle.tg_tree.specs.declared.operators.Bin.{Bin}
 use Rattle.tg_tree.specs.declared.operators.Bin.TheVariants.{Add, Sub, Mul, Div, And, Or, Xor, ShiftLeft, ShiftRight, ShiftSigned, AddTrap, SubTrap, MulHigh}
 use Rattle.tg_tree.specs.Tree.{Tx, Const, Address, Temp, FrameAddress, Binary, Load, LoadByte, Call, Service, After, Ts, Move}
 use Rattle.tg_tree.specs.Units.{Trees, Canonical, shift_units, operator_units}
-use Rattle.tg_tree.specs.Sizes.{expression_length, expression_room, in_trees, in_canonical}
-use Rattle.tg_tree.specs.Shapes.{IsFlat, IsFlatSide, is_flat}
+use Rattle.tg_tree.specs.Sizes.{expression_length, expression_needs, in_trees, in_canonical}
+use Rattle.tg_tree.specs.Shapes.{IsFlat, IsFlatOrEffect, is_flat}
 use Rattle.tg_tree.specs.Actions.{World, Temps, Activation, Acts, Go, Next, Out, Back, over, charged}
 use Rattle.tg_tree.proofs.Flatness.{tested_flat}
 use Rattle.tg_canon.specs.Drawing.{Drawn}
-use Rattle.tg_canon.specs.Canon.{Part, still, is_nothing, pair, first_then, ◌before◌, Lifted, behind, is_constant, is_side, hold_side, hold_for}
+use Rattle.tg_canon.specs.Canon.{Part, still, is_nothing, pair, first_then, ◌before◌, Hoisted, behind, is_constant, is_effect, hold_effect, hold_for}
 use Rattle.tg_canon.specs.Canon.{hold_before, in_front_of}
 use Rattle.tg_canon.proofs.Sizing.{size, takes, holdable, holdable_most, drawn_held, in_turn_counts}
 use Rattle.tg_canon.proofs.Paying.{Sim, pays, unpaid, credit, along}
@@ -18,7 +18,7 @@ use Rattle.tg_canon.proofs.Fixed.{Scene, around, tree_value, mixed_value, then_v
 use Rattle.tg_canon.proofs.Steady.{Occurs, IsSteady, ComesTo, one_word, no_word, steady_comes}
 use Rattle.tg_canon.proofs.Splits.{set_other, Known, Beside, StaysKnown, KeptBy, kept_first, kept_second, beside_less, Only, only, OutsAre, BacksAre}
 use Rattle.tg_canon.proofs.Splits.{outs_more, outs_less, outs_only, backs_more, IsSplit, does_nothing, does_in_turn}
-use Rattle.tg_canon.proofs.Sides.{side_flat}
+use Rattle.tg_canon.proofs.Sides.{flat_without_effect}
 use Rattle.tg_canon.proofs.Helds.{IsIn, IsOwned, owned_both, owned_none, IsHeld, held, move_runs}
 
 -- what a call or service spares: its word is held in front of what follows it
@@ -27,17 +27,17 @@ spare (Call _ _) = 2
 spare (Service _ _) = 2
 spare _ = 0
 
-spare_side : (x : Tx) → is_side x ≡ true → spare x ≡ 2
-spare_side (Const _) e = cc
-spare_side (Address _) e = cc
-spare_side (Temp _) e = cc
-spare_side FrameAddress e = cc
-spare_side (Binary _ _ _) e = cc
-spare_side (Load _) e = cc
-spare_side (LoadByte _) e = cc
-spare_side (Call _ _) e = refl
-spare_side (Service _ _) e = refl
-spare_side (After _ _) e = cc
+spare_effect : (x : Tx) → is_effect x ≡ true → spare x ≡ 2
+spare_effect (Const _) e = cc
+spare_effect (Address _) e = cc
+spare_effect (Temp _) e = cc
+spare_effect FrameAddress e = cc
+spare_effect (Binary _ _ _) e = cc
+spare_effect (Load _) e = cc
+spare_effect (LoadByte _) e = cc
+spare_effect (Call _ _) e = refl
+spare_effect (Service _ _) e = refl
+spare_effect (After _ _) e = cc
 
 -- a shift by what isn't constant counts most
 most : (y : Tx) → shift_units y ≤ 21
@@ -114,20 +114,20 @@ pub both_nothing : (s t : Ts) → is_nothing s ≡ true → is_nothing t ≡ tru
 both_nothing s t p q = ap (λ b. is_nothing (if b then t else if is_nothing t then s else pair s t)) p ∙ q
 
 module _ (z : Scene) where
-  -- what is lifted of an expression; a word
-  pub record LiftIs (out : ℕ → ℕ) (x : Tx) (from : ℕ) (a : Lifted) (to : ℕ) : Type 1 where
+  -- what is hoisted of an expression; a word
+  pub record LiftIs (out : ℕ → ℕ) (x : Tx) (from : ℕ) (a : Hoisted) (to : ℕ) : Type 1 where
     pub split : IsSplit z out (tree_value z x) (spare a.rest) a.front (mixed_value z a.rest) from to
-    pub side : IsFlatSide a.rest
+    pub side : IsFlatOrEffect a.rest
     pub none : is_flat x ≡ true → is_nothing a.front.statement ≡ true
-    pub plain : is_flat x ≡ true → is_side a.rest ≡ false
+    pub plain : is_flat x ≡ true → is_effect a.rest ≡ false
     pub units : (op : Bin) → operator_units op a.rest ≤ operator_units op x
     pub owned : IsOwned z.own a.front.least a.front.greatest
     pub reads : (i : ℕ) → Occurs i a.rest → IsIn z.own from to i
     pub length : size a.front.statement + expression_length Canonical a.rest + spare a.rest ≤ expression_length Trees x
-    pub room : takes a.front.statement + expression_room in_canonical a.rest + 1 + to ≤ expression_room in_trees x + from
+    pub room : takes a.front.statement + expression_needs in_canonical a.rest + 1 + to ≤ expression_needs in_trees x + from
     pub grows : from ≤ to
 
-  pub record WordIs (out : ℕ → ℕ) (x : Tx) (from : ℕ) (a : Lifted) (to : ℕ) : Type 1 where
+  pub record WordIs (out : ℕ → ℕ) (x : Tx) (from : ℕ) (a : Hoisted) (to : ℕ) : Type 1 where
     pub split : IsSplit z out (tree_value z x) 0 a.front (mixed_value z a.rest) from to
     pub flat : IsFlat a.rest
     pub none : is_flat x ≡ true → is_nothing a.front.statement ≡ true
@@ -135,18 +135,19 @@ module _ (z : Scene) where
     pub owned : IsOwned z.own a.front.least a.front.greatest
     pub reads : (i : ℕ) → Occurs i a.rest → IsIn z.own from to i
     pub length : size a.front.statement + expression_length Canonical a.rest ≤ expression_length Trees x
-    pub room : takes a.front.statement + expression_room in_canonical a.rest + holdable z.own a.rest + to ≤ expression_room in_trees x + from
+    pub room : takes a.front.statement + expression_needs in_canonical a.rest + holdable z.own a.rest + to ≤ expression_needs in_trees x + from
     pub grows : from ≤ to
 
-  module _ (out : ℕ → ℕ) (x : Tx) (from : ℕ) (a : Lifted) (to : ℕ) (above : z.own ≤ from) (l : LiftIs out x from a to) where
-    side_word : (d : Drawn Lifted) (b : Bool) → is_side a.rest ≡ b → d ≡ hold_side b a to → WordIs out x from (hold_side b a to).it (hold_side b a to).next
-    side_word d false e p = record {
+  module _ (out : ℕ → ℕ) (x : Tx) (from : ℕ) (a : Hoisted) (to : ℕ) (above : z.own ≤ from) (l : LiftIs out x from a to) where
+    effect_word : (d : Drawn Hoisted) (b : Bool) → is_effect a.rest ≡ b → d ≡ hold_effect b a to →
+        WordIs out x from (hold_effect b a to).it (hold_effect b a to).next
+    effect_word d false e p = record {
       split = record {
         runs = λ J r act o o' b b' go next kept outs backs hyp.
             l.split.runs J r act o o' b b' go next kept outs backs
             (λ w t t' near. credit z.fuel (r + 0) (r + spare a.rest) _ (next w t') (omega arith) (hyp w t t' near));
       };
-      flat = side_flat a.rest e l.side;
+      flat = flat_without_effect a.rest e l.side;
       none = l.none;
       units = l.units;
       owned = l.owned;
@@ -155,7 +156,7 @@ module _ (z : Scene) where
       room = let n = l.room in let m = holdable_most z.own a.rest in omega arith;
       grows = l.grows;
     }
-    side_word d true e p = record {
+    effect_word d true e p = record {
       split = record {
         runs = λ J r act o o' b b' go next kept outs backs hyp w t t' near.
             along z.fuel r _ _ (then_does z a.front.statement (around act o' b')
@@ -163,7 +164,7 @@ module _ (z : Scene) where
             (does_in_turn z a.front.statement (Move to a.rest) (around act o' b') next w t')
             (l.split.runs J r act o o' b b' go (λ w1 u1. then_does z (Move to a.rest) (around act o' b') next w1 u1)
             (kept_first J a.front (still (Move to a.rest)) from (to + 1) from to (omega arith) (omega arith) kept) outs backs
-            (λ w1 t1 u1 near1. credit z.fuel (r + 2) (r + spare a.rest) _ _ (let q = spare_side a.rest e in omega arith)
+            (λ w1 t1 u1 near1. credit z.fuel (r + 2) (r + spare a.rest) _ _ (let q = spare_effect a.rest e in omega arith)
             (move_runs z a.rest to l.side (let g = l.grows in omega arith) J r act o o' b b' go next
             (kept_second J a.front (still (Move to a.rest)) from (to + 1) to (to + 1) l.grows (omega arith) kept)
             (λ w2 t2 u2 near2. credit z.fuel (r + 0) r _ (next w2 u2) (omega arith) (hyp w2 t2 u2 near2)) w1 t1 u1 near1)) w t t' near);
@@ -173,14 +174,14 @@ module _ (z : Scene) where
       units = λ op. units_most op x (Temp to) (not_constant x (λ f. let p = l.plain f in let q : true ≡ false = sym e ∙ p in cc));
       owned = owned_both z.own a.front.least a.front.greatest 4294967295 0 l.owned (owned_none z.own);
       reads = λ i o. record { low = λ lo. let g = l.grows in omega (arith, o); high = λ lo. omega (arith, o) };
-      length = let n = l.length in let q = spare_side a.rest e in let c = (in_turn_counts a.front.statement (Move to a.rest)).0 in omega arith;
+      length = let n = l.length in let q = spare_effect a.rest e in let c = (in_turn_counts a.front.statement (Move to a.rest)).0 in omega arith;
       room = let n = l.room in let c = (in_turn_counts a.front.statement (Move to a.rest)).1 in
           let d = drawn_held z.own to (let g = l.grows in omega arith) in omega arith;
       grows = let g = l.grows in omega arith;
     }
 
-    pub word_is : WordIs out x from (hold_side (is_side a.rest) a to).it (hold_side (is_side a.rest) a to).next
-    word_is = side_word (hold_side (is_side a.rest) a to) (is_side a.rest) refl refl
+    pub word_is : WordIs out x from (hold_effect (is_effect a.rest) a to).it (hold_effect (is_effect a.rest) a to).next
+    word_is = effect_word (hold_effect (is_effect a.rest) a to) (is_effect a.rest) refl refl
 
 -- A word and then another part.
 abbrev pub both_before : (z : Scene) {B : Type 0} (u : ℕ) (x : Tx) (entire : Acts (Go B)) → Acts (Go (ℕ × B))
@@ -190,17 +191,17 @@ abbrev pub both_rest : (z : Scene) {B : Type 0} (u : ℕ) (x : Tx) (rest : Acts 
 both_rest z u x rest e go w t = charged u (mixed_value z x e (λ p w1 t1. rest e (λ q w2 t2. go (p, q) w2 t2) w1 t1) w t)
 
 module _ (z : Scene) {B : Type 0} (out : ℕ → ℕ) (x : Tx) (entire rest : Acts (Go B)) (part : Part) (u v : ℕ) (first : ℕ) where
-  pub record PairIs (from : ℕ) (h : Lifted) (to : ℕ) : Type 1 where
+  pub record PairIs (from : ℕ) (h : Hoisted) (to : ℕ) : Type 1 where
     pub split : IsSplit z out (both_before z u x entire) 0 (h.front before part) (both_rest z v h.rest rest) first to
     pub flat : IsFlat h.rest
     pub none : is_flat x ≡ true → is_nothing part.statement ≡ true → is_nothing (first_then h.front.statement part.statement) ≡ true
     pub owned : IsOwned z.own (min h.front.least part.least) (max h.front.greatest part.greatest)
     pub reads : (i : ℕ) → Occurs i h.rest → IsIn z.own first to i
     pub length : v + (size h.front.statement + expression_length Canonical h.rest) ≤ u + expression_length Trees x
-    pub room : takes h.front.statement + expression_room in_canonical h.rest + to ≤ expression_room in_trees x + from
+    pub room : takes h.front.statement + expression_needs in_canonical h.rest + to ≤ expression_needs in_trees x + from
     pub grows : first ≤ to
 
-  module _ (from : ℕ) (a : Lifted) (to : ℕ) (word : WordIs z out x from a to) (other : IsSplit z out entire 0 part rest first from)
+  module _ (from : ℕ) (a : Hoisted) (to : ℕ) (word : WordIs z out x from a to) (other : IsSplit z out entire 0 part rest first from)
       (owned : IsOwned z.own part.least part.greatest) (above : z.own ≤ first) (grows : first ≤ from) where
     -- where nothing is in front of the other part, the word stands in place
     module _ (e : is_nothing part.statement ≡ true) (enough : v ≤ u) where
@@ -260,7 +261,7 @@ module _ (z : Scene) {B : Type 0} (out : ℕ → ℕ) (x : Tx) (entire rest : Ac
       }
 
     -- where something is, the word is held unless it stays
-    module _ (e : is_nothing part.statement ≡ false) (enough : v + 2 ≤ u) (d : Drawn Lifted) (h : IsHeld z part a.rest from to d.it d.next) where
+    module _ (e : is_nothing part.statement ≡ false) (enough : v + 2 ≤ u) (d : Drawn Hoisted) (h : IsHeld z part a.rest from to d.it d.next) where
       -- its temporaries are as they were
       abbrev Then : Known → Temps → Known
       Then J t' w1 t1 u1 = J w1 t1 u1 × ((i : ℕ) → Occurs i d.it.rest → u1 i ≡ t' i)

@@ -1,6 +1,6 @@
 -- Canonical trees (Appel, chapter 8). What a statement's expressions can't hold in canonical form,
--- statements, calls and services, is lifted in front of it. An expression on the left of what is
--- lifted is held in a fresh temporary, unless it gives the same word behind it. All is looked at
+-- statements, calls and services, is hoisted in front of it. An expression on the left of what is
+-- hoisted is held in a fresh temporary, unless it gives the same word behind it. All is looked at
 -- from the right, so that what comes between is known when an expression is.
 use Rattle.std.specs.Prelude.{ℕ, zero, suc, ◌+◌, min, max}
 use Rattle.std.specs.Prelude.{Bool, true, false, not, ◌&&◌, ◌||◌, nat_le, if◌then◌else◌}
@@ -89,8 +89,8 @@ in_turn all = record { statement = Seq all.list; least = all.least; greatest = a
 -- Expressions.
 
 -- what is left of an expression, a flat one or a call or service of flat ones, behind what is
--- lifted out of it
-pub record Lifted : Type 0 where
+-- hoisted out of it
+pub record Hoisted : Type 0 where
   pub front : Part
   pub rest : Tx
 
@@ -104,47 +104,47 @@ pub record Arguments : Type 0 where
   pub front : Part
   pub rest : Txs
 
-abbrev pub whole : Tx → Lifted
+abbrev pub whole : Tx → Hoisted
 whole x = record { front = still nothing; rest = x }
 
 abbrev pub no_arguments : Arguments
 no_arguments = record { front = still nothing; rest = no_txs }
 
-abbrev pub behind : Part → Lifted → Lifted
+abbrev pub behind : Part → Hoisted → Hoisted
 behind p a = record { front = p before a.front; rest = a.rest }
 
-abbrev pub hold : Tx → Draws Lifted
+abbrev pub hold : Tx → Draws Hoisted
 hold x = do
   t ← fresh
   give (record { front = still (Move t x); rest = Temp t })
 
-abbrev pub is_side : Tx → Bool
-is_side (Call _ _) = true
-is_side (Service _ _) = true
-is_side _ = false
+abbrev pub is_effect : Tx → Bool
+is_effect (Call _ _) = true
+is_effect (Service _ _) = true
+is_effect _ = false
 
 -- the word of a call or service is held
-abbrev pub hold_side : Bool → Lifted → Draws Lifted
-hold_side true a = do
+abbrev pub hold_effect : Bool → Hoisted → Draws Hoisted
+hold_effect true a = do
   h ← hold a.rest
   give (behind a.front h)
-hold_side false a = give a
+hold_effect false a = give a
 
-abbrev pub word : Draws Lifted → Draws Lifted
+abbrev pub word : Draws Hoisted → Draws Hoisted
 word m = do
   a ← m
-  hold_side (is_side a.rest) a
+  hold_effect (is_effect a.rest) a
 
 -- whether an expression gives the same word behind a part: it reads no memory, and no temporary
 -- that the part assigns
-abbrev pub stays : Part → Tx → Bool
-stays p (Const _) = true
-stays p (Address _) = true
-stays p (Temp i) = not (may_assign p i)
-stays p FrameAddress = true
-stays p _ = false
+abbrev pub commutes : Part → Tx → Bool
+commutes p (Const _) = true
+commutes p (Address _) = true
+commutes p (Temp i) = not (may_assign p i)
+commutes p FrameAddress = true
+commutes p _ = false
 
-abbrev pub hold_unless : Bool → Tx → Draws Lifted
+abbrev pub hold_unless : Bool → Tx → Draws Hoisted
 hold_unless true x = give (whole x)
 hold_unless false x = hold x
 
@@ -158,55 +158,55 @@ is_sum Add = true
 is_sum Sub = true
 is_sum _ = false
 
-abbrev pub hold_but_offset : Bool → Part → Bin → (left right : Tx) → Draws Lifted
+abbrev pub hold_but_offset : Bool → Part → Bin → (left right : Tx) → Draws Hoisted
 hold_but_offset true p op x y = do
-  a ← hold_unless (stays p x) x
+  a ← hold_unless (commutes p x) x
   give (record { front = a.front; rest = Binary op a.rest y })
 hold_but_offset false p op x y = hold (Binary op x y)
 
-abbrev pub hold_for : Part → Tx → Draws Lifted
+abbrev pub hold_for : Part → Tx → Draws Hoisted
 hold_for p (Binary op x y) = hold_but_offset (is_sum op && is_constant y) p op x y
-hold_for p x = hold_unless (stays p x) x
+hold_for p x = hold_unless (commutes p x) x
 
 -- an expression in front of a part
-abbrev pub hold_before : Bool → Part → Lifted → Draws Lifted
+abbrev pub hold_before : Bool → Part → Hoisted → Draws Hoisted
 hold_before true p a = give a
 hold_before false p a = do
   h ← hold_for p a.rest
   give (behind a.front h)
 
-abbrev pub in_front_of : Part → Lifted → Draws Lifted
+abbrev pub in_front_of : Part → Hoisted → Draws Hoisted
 in_front_of p a = hold_before (is_nothing p.statement) p a
 
-abbrev pub side_by_side : (left right : Lifted) → Draws Two
+abbrev pub side_by_side : (left right : Hoisted) → Draws Two
 side_by_side a b = do
   h ← in_front_of b.front a
   give (record { front = h.front before b.front; left = h.rest; right = b.rest })
 
 -- two words, of which the right one is drawn first
-abbrev pub two_words : (left right : Draws Lifted) → Draws Two
+abbrev pub two_words : (left right : Draws Hoisted) → Draws Two
 two_words m n = do
   b ← word n
   a ← word m
   side_by_side a b
 
-abbrev pub argument : Lifted → Arguments → Draws Arguments
+abbrev pub argument : Hoisted → Arguments → Draws Arguments
 argument a all = do
   h ← in_front_of all.front a
   give (record { front = h.front before all.front; rest = tx h.rest all.rest })
 
-abbrev pub over : (Tx → Tx) → Lifted → Lifted
+abbrev pub over : (Tx → Tx) → Hoisted → Hoisted
 over f a = record { front = a.front; rest = f a.rest }
 
-abbrev pub over_two : (Tx → Tx → Tx) → Two → Lifted
+abbrev pub over_two : (Tx → Tx → Tx) → Two → Hoisted
 over_two f a = record { front = a.front; rest = f a.left a.right }
 
-abbrev pub over_all : (Txs → Tx) → Arguments → Lifted
+abbrev pub over_all : (Txs → Tx) → Arguments → Hoisted
 over_all f a = record { front = a.front; rest = f a.rest }
 
--- Statements of lifted expressions.
+-- Statements of hoisted expressions.
 
-abbrev pub with_one : (Tx → Part) → Lifted → Part
+abbrev pub with_one : (Tx → Part) → Hoisted → Part
 with_one f a = a.front before f a.rest
 
 abbrev pub with_two : (Tx → Tx → Ts) → Two → Part
@@ -231,14 +231,14 @@ dropped x = still (if acts x then Do x else nothing)
 
 -- Conditions.
 
--- whether nothing has to be lifted out of a condition but what can be in front of all of it
+-- whether nothing has to be hoisted out of a condition but what can be in front of all of it
 abbrev pub is_whole : Cond → Bool
 is_whole (Compare _ _ _) = true
 is_whole (Not c) = is_whole c
 is_whole (Both c d) = is_whole c && is_flat_condition d
 is_whole (Either c d) = is_whole c && is_flat_condition d
 
--- a flat condition behind what is lifted out of it
+-- a flat condition behind what is hoisted out of it
 pub record Tested : Type 0 where
   pub front : Part
   pub condition : Cond
@@ -282,7 +282,7 @@ choose false m n = n
 -- The pass. A break of the body that leaves k loops and one more is one out of `out k` and one more
 -- here.
 abbrev mutual
-  pub lift : (out : ℕ → ℕ) → Tx → Draws Lifted
+  pub lift : (out : ℕ → ℕ) → Tx → Draws Hoisted
   lift out (Const n) = give (whole (Const n))
   lift out (Address label) = give (whole (Address label))
   lift out (Temp i) = give (whole (Temp i))

@@ -5,7 +5,7 @@ use Rattle.tg_simulation.specs.Preserving.{Preserves}
 use Rattle.tg_tree.specs.Tree.{Ts, Stms, Seq, Function, Literal, Code}
 use Rattle.tg_tree.specs.Units.{Stage, Trees, Canonical, marked_entry_units}
 use Rattle.tg_tree.specs.Running.{Runner, run_body, going, tree_run, in_sequence, canonical_run}
-use Rattle.tg_tree.specs.Sizes.{tree_length, tree_room, canonical_length, canonical_room}
+use Rattle.tg_tree.specs.Sizes.{tree_length, tree_needs, canonical_length, canonical_needs}
 use Rattle.tg_tree.specs.Carrying.{BodyCarried, CallsSimulate}
 use Rattle.tg_tree.specs.Named.{named_ts, HasItsTemps}
 use Rattle.tg_canon.specs.Canon.{linearized}
@@ -40,7 +40,8 @@ runner stage functions literals size floor room =
     let code : Code Ts = record { functions = functions; literals = literals } in
     run_body stage code size floor room (going stage code size floor room)
 
--- Work that a function does besides what it did: none. What is lifted, held and tested part by part
+-- Work that a function does besides what it did: none. What is hoisted, held and tested part by
+-- part
 -- is counted in the trees.
 abbrev pub added_work : ℕ
 added_work = 0
@@ -68,8 +69,8 @@ CallsAreCarried =
     code.functions (map in_sequence (canonical_code code).functions) n
 
 -- and so do programs.
-abbrev pub ProgramsArePreserved : Type 0
-ProgramsArePreserved =
+abbrev pub CanonIsCorrect : Type 0
+CanonIsCorrect =
     (code : Code Ts) (size : ℕ → ℕ) (floor room body : ℕ) (input : List ℕ) →
     ((f : Function Ts) → Contains code.functions f → HasOwnTemps f) →
     Preserves 1 added_work
@@ -81,14 +82,14 @@ ProgramsArePreserved =
 abbrev pub added_length : ℕ
 added_length = 0
 
-abbrev pub added_room : ℕ
-added_room = 0
+abbrev pub added_needs : ℕ
+added_needs = 0
 
 abbrev pub LengthStays : Type 0
 LengthStays =
     (f : Function Ts) →
     HasOwnTemps f → canonical_length (canonical f) ≤ tree_length f + added_length
 
-abbrev pub RoomStays : Type 0
-RoomStays =
-    (f : Function Ts) → HasOwnTemps f → canonical_room (canonical f) ≤ tree_room f + added_room
+abbrev pub NeedsStay : Type 0
+NeedsStay =
+    (f : Function Ts) → HasOwnTemps f → canonical_needs (canonical f) ≤ tree_needs f + added_needs

@@ -5,9 +5,9 @@ use Rattle.tg_tree.specs.Plain.{plain_tx, plain_cond, plain_ts}
 use Rattle.tg_tree.specs.Lists.{txs_of, stms_of}
 use Rattle.tg_canon.specs.declared.parts.Part.{Part}
 use Rattle.tg_canon.specs.declared.parts.Parts.{Parts}
-use Rattle.tg_canon.specs.declared.lifted.Lifted.{Lifted}
-use Rattle.tg_canon.specs.declared.lifted.Two.{Two}
-use Rattle.tg_canon.specs.declared.lifted.Arguments.{Arguments}
+use Rattle.tg_canon.specs.declared.hoisted.Hoisted.{Hoisted}
+use Rattle.tg_canon.specs.declared.hoisted.Two.{Two}
+use Rattle.tg_canon.specs.declared.hoisted.Arguments.{Arguments}
 use Rattle.tg_canon.specs.declared.tested.Tested.{Tested}
 use Rattle.tg_canon.specs.Canon as canon
 
@@ -21,8 +21,8 @@ plain_parts all = record {
   greatest = all.greatest;
 }
 
-abbrev pub plain_lifted : Lifted → canon.Lifted
-plain_lifted a = record { front = plain_part a.front; rest = plain_tx a.rest }
+abbrev pub plain_hoisted : Hoisted → canon.Hoisted
+plain_hoisted a = record { front = plain_part a.front; rest = plain_tx a.rest }
 
 abbrev pub plain_two : Two → canon.Two
 plain_two a = record {

@@ -9,8 +9,8 @@ ghost use Rattle.tg_canon.specs.Meaning.{
   BodiesAreCarried,
   CallsAreCarried,
   LengthStays,
-  ProgramsArePreserved,
-  RoomStays,
+  CanonIsCorrect,
+  NeedsStay,
 };
 
 /// The laws of shapes that the pass's function obeys.
@@ -33,12 +33,12 @@ pub fn names_stay()
 pub fn canon_is_correct()
     ensures bodies { BodiesAreCarried }
     ensures calls { CallsAreCarried }
-    ensures programs { ProgramsArePreserved }
+    ensures programs { CanonIsCorrect }
 {}
 
 /// The laws of sizes: a function in canonical form is no longer than its tree, and has no more room
 /// with what is drawn for it.
-pub fn sizes_stay()
+pub fn canon_is_bounded()
     ensures length { LengthStays }
-    ensures room { RoomStays }
+    ensures needs { NeedsStay }
 {}

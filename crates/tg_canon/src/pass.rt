@@ -7,15 +7,15 @@ ghost use Rattle.tg_canon.specs.Drawing.{DrawsFrom};
 ghost use Rattle.tg_canon.specs.Views.{
   plain_part,
   plain_parts,
-  plain_lifted,
+  plain_hoisted,
   plain_two,
   plain_arguments,
   plain_tested,
 };
 
 use crate::breaks::{Breaks, more_loops, target};
-use crate::lifted::{
-    Arguments, Lifted, Two, argument, behind, call_of, load_byte_from, load_from, no_arguments,
+use crate::hoisted::{
+    Arguments, Hoisted, Two, argument, behind, call_of, load_byte_from, load_from, no_arguments,
     operate, serve, side_by_side, whole, word,
 };
 use crate::parts::{Part, Parts};
@@ -39,11 +39,11 @@ fn descend(height: u32) -> Result<u32, Memory>
     }
 }
 
-// What is lifted out of an expression, and what is left of it.
+// What is hoisted out of an expression, and what is left of it.
 #[cycle(canon)]
-fn lift(x: Tx, supply: &mut Supply, breaks: &Breaks, height: u32) -> Result<Lifted, Memory>
+fn lift(x: Tx, supply: &mut Supply, breaks: &Breaks, height: u32) -> Result<Hoisted, Memory>
     ensures { IfOk result (λ a. DrawsFrom (canon.lift (leads breaks.now) (plain_tx x))
-        supply.old.next (plain_lifted a) supply.new.next) }
+        supply.old.next (plain_hoisted a) supply.new.next) }
 {
     let lower = descend(height)?;
     match x {
@@ -82,16 +82,16 @@ fn lift(x: Tx, supply: &mut Supply, breaks: &Breaks, height: u32) -> Result<Lift
 
 // The same, as a word.
 #[cycle(canon)]
-fn lift_word(x: Tx, supply: &mut Supply, breaks: &Breaks, height: u32) -> Result<Lifted, Memory>
+fn lift_word(x: Tx, supply: &mut Supply, breaks: &Breaks, height: u32) -> Result<Hoisted, Memory>
     ensures { IfOk result (λ a. DrawsFrom (canon.word (canon.lift (leads breaks.now) (plain_tx x)))
-        supply.old.next (plain_lifted a) supply.new.next) }
+        supply.old.next (plain_hoisted a) supply.new.next) }
 {
     let lower = descend(height)?;
     let a = lift(x, supply, breaks, lower)?;
     Ok(word(supply, a)?)
 }
 
-// Two words side by side, the right one lifted first: this is no walk of its own into a part.
+// Two words side by side, the right one hoisted first: this is no walk of its own into a part.
 #[cycle(canon)]
 fn lift_both(
     left: Tx,

@@ -2,33 +2,33 @@ ghost use Rattle.std.specs.Prelude.{◌≡◌, IfOk};
 ghost use Rattle.tg_tree.specs.Plain.{plain_tx};
 ghost use Rattle.tg_tree.specs.Tree as tree;
 ghost use Rattle.tg_canon.specs.Canon as canon;
-ghost use Rattle.tg_canon.specs.Views.{plain_part, plain_lifted, plain_two};
+ghost use Rattle.tg_canon.specs.Views.{plain_part, plain_hoisted, plain_two};
 
-use crate::lifted::{Lifted, Two};
+use crate::hoisted::{Hoisted, Two};
 use crate::parts::{Part, nothing};
 use std::alloc::Global;
 use tg_base::{Memory, Temp};
 use tg_tree::{Bin, Ts, Tx};
 
-/// A temporary becomes the value of a lifted expression.
-pub(crate) fn move_to(alloc: Global, temp: Temp, a: Lifted) -> Result<Part, Memory>
+/// A temporary becomes the value of a hoisted expression.
+pub(crate) fn move_to(alloc: Global, temp: Temp, a: Hoisted) -> Result<Part, Memory>
     ensures { IfOk result (λ p. plain_part p ≡
-        canon.with_one (λ v. canon.assigning temp.0 (tree.Move temp.0 v)) (plain_lifted a)) }
+        canon.with_one (λ v. canon.assigning temp.0 (tree.Move temp.0 v)) (plain_hoisted a)) }
 {
     let assigned = Part::assigning(temp, Ts::Move(temp, a.rest));
     Ok(a.front.before(alloc, assigned)?)
 }
 
-/// The value of a lifted expression is returned.
-pub(crate) fn return_of(alloc: Global, a: Lifted) -> Result<Part, Memory>
+/// The value of a hoisted expression is returned.
+pub(crate) fn return_of(alloc: Global, a: Hoisted) -> Result<Part, Memory>
     ensures { IfOk result (λ p. plain_part p ≡
-        canon.with_one (λ v. canon.still (tree.Return v)) (plain_lifted a)) }
+        canon.with_one (λ v. canon.still (tree.Return v)) (plain_hoisted a)) }
 {
     let returned = Part::still(Ts::Return(a.rest));
     Ok(a.front.before(alloc, returned)?)
 }
 
-/// A lifted word is stored at a lifted address.
+/// A hoisted word is stored at a hoisted address.
 pub(crate) fn store(alloc: Global, both: Two) -> Result<Part, Memory>
     ensures { IfOk result (λ p. plain_part p ≡ canon.with_two tree.Store (plain_two both)) }
 {
@@ -36,7 +36,7 @@ pub(crate) fn store(alloc: Global, both: Two) -> Result<Part, Memory>
     Ok(both.front.before(alloc, stored)?)
 }
 
-/// The low byte of a lifted word is stored at a lifted address.
+/// The low byte of a hoisted word is stored at a hoisted address.
 pub(crate) fn store_byte(alloc: Global, both: Two) -> Result<Part, Memory>
     ensures { IfOk result (λ p. plain_part p ≡ canon.with_two tree.StoreByte (plain_two both)) }
 {
@@ -72,9 +72,9 @@ fn dropped(alloc: Global, x: Tx) -> Part
     }
 }
 
-/// The value of a lifted expression isn't wanted.
-pub(crate) fn drop_value(alloc: Global, a: Lifted) -> Result<Part, Memory>
-    ensures { IfOk result (λ p. plain_part p ≡ canon.with_one canon.dropped (plain_lifted a)) }
+/// The value of a hoisted expression isn't wanted.
+pub(crate) fn drop_value(alloc: Global, a: Hoisted) -> Result<Part, Memory>
+    ensures { IfOk result (λ p. plain_part p ≡ canon.with_one canon.dropped (plain_hoisted a)) }
 {
     let done = dropped(alloc, a.rest);
     Ok(a.front.before(alloc, done)?)

@@ -5,13 +5,13 @@ ghost use Rattle.tg_tree.specs.Tree as tree;
 ghost use Rattle.tg_canon.specs.Canon as canon;
 ghost use Rattle.tg_canon.specs.Views.{plain_part, plain_two, plain_tested};
 
-use crate::lifted::Two;
+use crate::hoisted::Two;
 use crate::parts::{Part, nothing};
 use std::alloc::Global;
 use tg_base::{Memory, keep_with};
 use tg_tree::{Cond, Rel, Ts, Tx, both, compare, either, if_else, negate};
 
-/// A flat condition behind what is lifted out of it.
+/// A flat condition behind what is hoisted out of it.
 #[derive(Drop)]
 pub(crate) struct Tested {
     pub(crate) front: Part,
@@ -41,7 +41,7 @@ fn is_flat_test(test: &Cond) -> bool
     }
 }
 
-/// Whether nothing has to be lifted out of a condition but what can be in front of all of it.
+/// Whether nothing has to be hoisted out of a condition but what can be in front of all of it.
 pub(crate) fn is_whole(test: &Cond) -> bool
     ensures { result ≡ canon.is_whole (plain_cond test.now) }
 {
@@ -53,7 +53,7 @@ pub(crate) fn is_whole(test: &Cond) -> bool
     }
 }
 
-/// A comparison of two lifted expressions.
+/// A comparison of two hoisted expressions.
 pub(crate) fn compare_both(alloc: Global, rel: Rel, operands: Two) -> Result<Tested, Memory>
     ensures { IfOk result (λ t.
         plain_tested t ≡ canon.compared (tree.Compare rel) (plain_two operands)) }

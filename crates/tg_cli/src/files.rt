@@ -2,7 +2,7 @@ ghost use Rattle.std.specs.Prelude.{◌≡◌, ◌≢◌, ◌≤◌, ℕ, List, 
 ghost use Rattle.std.specs.declared.option.Option.TheVariants.{None};
 ghost use Rattle.tg_base.specs.Causes.{Rose};
 ghost use Rattle.tg_base.specs.Counts.{counted};
-ghost use Rattle.tg_base.specs.Files.{IsFrontOf};
+ghost use Rattle.tg_base.specs.Files.{IsFilePrefix};
 
 use crate::counted::Counted;
 use std::alloc::Global;
@@ -25,7 +25,7 @@ where
         ensures later { self.old ≤ self.new }
         ensures cause { IsErrOf result ShelfFault.Failed → Rose self.old self.new }
         ensures bound { IfOk result (λ v. length v.items ≤ most) }
-        ensures front { IfOk result (λ v. IsFrontOf None name.now most v.items) }
+        ensures front { IfOk result (λ v. IsFilePrefix None name.now most v.items) }
         ensures failed { result ≡ Err ShelfFault.Failed → self.new ≡ counted self.old }
         ensures unfailed { result ≢ Err ShelfFault.Failed → self.new ≡ self.old }
     {

@@ -1,4 +1,4 @@
--- Uses and marks of the classes after a merge.
+-- Uses and facts of the classes after a merge.
 use Rattle.std.proofs.Common.{◌≡◌, ◌≢◌, ℕ, zero, suc, ◌+◌, ◌<◌, Bool, true, false, not, ◌&&◌, ◌||◌, List}
 use Rattle.std.proofs.Common.{[], ◌∷◌, length, get_or, cond, refl, sym, ap, subst, ◌∙◌, arith}
 use Rattle.std.specs.Prelude.{◌==◌, sum_by, filter, if◌then◌else◌}
@@ -8,7 +8,7 @@ use Rattle.std.proofs.lemmas.List.{get_or-set_same, get_or-set_other}
 use Rattle.std.proofs.lemmas.List.Elements.{filter_agree}
 use Rattle.std.proofs.lemmas.List.Sums.{sum_by-cons}
 use Rattle.tg_irc.specs.Graphs.{Set, every}
-use Rattle.tg_irc.specs.States.{Problem, RoundState, mark_at, all_made}
+use Rattle.tg_irc.specs.States.{Problem, RoundState, facts_at, all_made}
 use Rattle.tg_irc.proofs.Deciding.{clash, never, same_node, same_test}
 use Rattle.tg_coalesce.specs.Groupings.{is_made}
 use Rattle.tg_coalesce.specs.Works.{Work, is_left, alias_of}
@@ -65,7 +65,7 @@ module _ (g : Problem) (w : Work) (h : IsOrderly w) (run : IsRunOf g w) (kept go
   uses_inside z k = subst (λ j. z < j) (sym (h.grouping.uses_sized ∙ h.sized.classes)) k
 
   abbrev uses_of : List ℕ → ℕ
-  uses_of ys = sum_by (λ y. (mark_at g s y).uses) ys
+  uses_of ys = sum_by (λ y. (facts_at g s y).uses) ys
 
   Used : ℕ → Type 0
   Used x =
@@ -76,7 +76,7 @@ module _ (g : Problem) (w : Work) (h : IsOrderly w) (run : IsRunOf g w) (kept go
   unfolding Used
   used_kept b =
       let a = sum_kept w.classes.uses kept gone (uses_inside kept l) (uses_inside gone m) d in
-      let parts = sum_either (λ y. (mark_at g s y).uses) (λ y. s.alias y == kept) (λ y. s.alias y == gone)
+      let parts = sum_either (λ y. (facts_at g s y).uses) (λ y. s.alias y == kept) (λ y. s.alias y == gone)
       (λ z e. never (λ f. d (sym (same_node (s.alias z) kept e) ∙ same_node (s.alias z) gone f)))
       (range_with_len 0 g.graph.nodes) in
       let both = ap uses_of (filter_agree (λ y. (s.alias y == kept) || (s.alias y == gone)) (λ y. alias_then y == kept)
@@ -103,10 +103,10 @@ module _ (g : Problem) (w : Work) (h : IsOrderly w) (run : IsRunOf g w) (kept go
   unfolding Used
   uses_after x b = by_place kept gone Used used_kept used_gone used_other x b
 
-  -- Marks.
+  -- Facts of nodes.
 
   abbrev pub made_then : ℕ → Bool
-  made_then x = every (λ y. not (alias_then y == x) || (mark_at g s y).made) g.graph.nodes
+  made_then x = every (λ y. not (alias_then y == x) || (facts_at g s y).made) g.graph.nodes
 
   Made : ℕ → Type 0
   Made x =
@@ -128,11 +128,11 @@ module _ (g : Problem) (w : Work) (h : IsOrderly w) (run : IsRunOf g w) (kept go
       (subst (λ j. kept < j) (sym (h.grouping.made_sized ∙ h.sized.classes)) l)
       ∙ (ap (λ c. c && is_made w.classes gone) (run.made kept l (own_class g w run h.sized kept l kept_left))
       ∙ (ap (λ c. all_made g s kept && c) (run.made gone m (own_class g w run h.sized gone m gone_left))
-      ∙ (sym (every_both (λ y. not (s.alias y == kept) || (mark_at g s y).made)
-      (λ y. not (s.alias y == gone) || (mark_at g s y).made) g.graph.nodes)
+      ∙ (sym (every_both (λ y. not (s.alias y == kept) || (facts_at g s y).made)
+      (λ y. not (s.alias y == gone) || (facts_at g s y).made) g.graph.nodes)
       ∙ ap (λ S. every S g.graph.nodes)
-      (λ i y. (split (s.alias y == kept) (s.alias y == gone) (mark_at g s y).made
-      ∙ ap (λ c. not c || (mark_at g s y).made) (named_kept w h kept gone l m d (s.alias y))) i))))
+      (λ i y. (split (s.alias y == kept) (s.alias y == gone) (facts_at g s y).made
+      ∙ ap (λ c. not c || (facts_at g s y).made) (named_kept w h kept gone l m d (s.alias y))) i))))
 
   made_gone : Made gone
   unfolding Made
@@ -146,7 +146,7 @@ module _ (g : Problem) (w : Work) (h : IsOrderly w) (run : IsRunOf g w) (kept go
       get_or-set_other w.classes.made kept z (is_made w.classes kept && is_made w.classes gone) false e
       ∙ (run.made z b (by (alias_of w z == gone) (sym (alias_after w h kept gone l m d z 0 b) ∙ own_now))
       ∙ ap (λ S. every S g.graph.nodes)
-      (λ i y. ap (λ c. not c || (mark_at g s y).made) (named_other w h kept gone l m d (s.alias y) z e f) i))
+      (λ i y. ap (λ c. not c || (facts_at g s y).made) (named_other w h kept gone l m d (s.alias y) z e f) i))
     where
       by : (c : Bool) → (if c then kept else alias_of w z) ≡ z → alias_of w z ≡ z
       by true q = absurd (e (sym q))

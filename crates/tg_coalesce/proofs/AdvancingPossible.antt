@@ -142,7 +142,7 @@ module _ (w : Work) (h : IsOrderly w) where
 -- What depends on the nodes and the moves alone holds of a problem that has the same.
 module _ (g : Problem) (w : Work) (nodes : w.graph.nodes ≡ g.graph.nodes) (moves : w.moves.moves ≡ g.moves) where
   abbrev pub with_parts : ℕ → List Move → Problem
-  with_parts n ms = problem (record { nodes = n; pairs = g.graph.pairs }) ms g.marks g.rule
+  with_parts n ms = problem (record { nodes = n; pairs = g.graph.pairs }) ms g.facts g.rule
 
   pub at_problem : (P : ℕ → List Move → Type 0) → P w.graph.nodes w.moves.moves → P g.graph.nodes g.moves
   at_problem P p = subst (λ n. P n g.moves) nodes (subst (λ ms. P w.graph.nodes ms) moves p)

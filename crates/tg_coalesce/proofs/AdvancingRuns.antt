@@ -3,7 +3,7 @@ use Rattle.std.proofs.Common.{◌≡◌, ℕ, ◌<◌, true, [], ◌∷◌, ◌+
 use Rattle.std.specs.Prelude.{sum_by}
 use Rattle.std.proofs.lemmas.List.{get_or_default}
 use Rattle.tg_irc.specs.declared.steps.Step.{Step}
-use Rattle.tg_irc.specs.States.{Problem, RoundState, start, members, mark_at, all_made}
+use Rattle.tg_irc.specs.States.{Problem, RoundState, start, members, facts_at, all_made}
 use Rattle.tg_irc.specs.Steps.{after, after_all, IsTaken, AreTaken}
 use Rattle.tg_irc.proofs.Classes.{Holds, holds_from_start}
 use Rattle.tg_irc.proofs.Running.{runs_go_on}
@@ -60,7 +60,7 @@ module _ (g : Problem) (w : Work) (run : IsRunOf g w) where
 
         Used : ℕ → Grouping → Type 0
         Used x c =
-            get_or c.uses x 0 ≡ sum_by (λ y. (mark_at g (with_classes c) y).uses) (members g (with_classes c) x)
+            get_or c.uses x 0 ≡ sum_by (λ y. (facts_at g (with_classes c) y).uses) (members g (with_classes c) x)
 
         Made : ℕ → Grouping → Type 0
         Made x c = get_or c.aliases x 0 ≡ x → is_made c x ≡ all_made g (with_classes c) x

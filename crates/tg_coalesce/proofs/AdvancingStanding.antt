@@ -5,11 +5,11 @@ use Rattle.std.specs.Prelude.{if◌then◌else◌}
 use Rattle.std.specs.Bool.{beq}
 use Rattle.tg_irc.specs.declared.steps.Step.{Step}
 use Rattle.tg_irc.specs.Graphs.{is_register}
-use Rattle.tg_irc.specs.States.{Problem, RoundState, start, mark_at, all_made}
+use Rattle.tg_irc.specs.States.{Problem, RoundState, start, facts_at, all_made}
 use Rattle.tg_irc.specs.Steps.{after, after_all, AreTaken, stands_under}
 use Rattle.tg_irc.specs.Laws.{StandsWell}
 use Rattle.tg_irc.proofs.Deciding.{clash, and_true, or_left, or_right, from_false, tells}
-use Rattle.tg_irc.proofs.Standing.{stands_at_start, stands_after, stands_by_mark}
+use Rattle.tg_irc.proofs.Standing.{stands_at_start, stands_after, stands_by_facts}
 use Rattle.tg_coalesce.specs.Groupings.{is_made}
 use Rattle.tg_coalesce.specs.Works.{Work, is_left}
 use Rattle.tg_coalesce.specs.Standing.{state_of, IsOrderly, IsRunOf}
@@ -56,9 +56,9 @@ module _ (g : Problem) (w : Work) (h : IsOrderly w) (run : IsRunOf g w) (kept go
   well = subst (λ t. StandsWell g t) (sym run.state)
       (stands_all g (start g) w.steps (stands_at_start g) run.steps)
 
-  mark_told : is_register kept ≡ false → all_made g (state_of w) kept ≡ (mark_at g (state_of w) kept).made
-  mark_told r =
-      stands_by_mark g (state_of w) well kept (subst (λ n. kept < n) run.nodes l) (own_alias g w run kept l kept_left) r
+  facts_told : is_register kept ≡ false → all_made g (state_of w) kept ≡ (facts_at g (state_of w) kept).made
+  facts_told r =
+      stands_by_facts g (state_of w) well kept (subst (λ n. kept < n) run.nodes l) (own_alias g w run kept l kept_left) r
 
   pub stands_told : is_register gone ≡ false → Leads (is_register kept) (is_made w.classes kept) (is_made w.classes gone) →
       stands_under g (state_of w) kept gone ≡ true
@@ -70,7 +70,7 @@ module _ (g : Problem) (w : Work) (h : IsOrderly w) (run : IsRunOf g w) (kept go
       (λ (q : is_register kept ≡ true). absurd (clash q r))
       (λ q. ⊎_elim
       (λ (u : is_made w.classes kept ≡ false).
-      or_left _ _ (from_false (sym (mark_told r) ∙ (sym (made_told kept l kept_left) ∙ u))))
+      or_left _ _ (from_false (sym (facts_told r) ∙ (sym (made_told kept l kept_left) ∙ u))))
       (λ (u : (is_made w.classes kept ≡ true) × (is_made w.classes gone ≡ true)).
       or_right _ _ (and_true (sym (made_told kept l kept_left) ∙ u.0) (sym (made_told gone m gone_left) ∙ u.1))) q)
       leads)))

@@ -6,7 +6,7 @@ use Rattle.tg_irc.specs.declared.moves.MoveState.{MoveState}
 use Rattle.tg_irc.specs.declared.moves.MoveState.TheVariants.{Coalesced, Constrained}
 use Rattle.tg_irc.specs.declared.steps.Step.{Step}
 use Rattle.tg_irc.specs.declared.steps.Step.TheVariants.{Same, Constrain}
-use Rattle.tg_irc.specs.States.{Problem, RoundState, members, mark_at, all_made}
+use Rattle.tg_irc.specs.States.{Problem, RoundState, members, facts_at, all_made}
 use Rattle.tg_irc.specs.States as states
 use Rattle.tg_irc.specs.Steps.{can, after, is_safe, stands_under, IsTaken}
 use Rattle.tg_irc.proofs.Deciding.{clash, and_true, both, never, or_left, or_right, same_test}
@@ -94,7 +94,7 @@ module _ (i : ℕ) (w : Work) (h : IsOrderly w) (first : slice_get w.moves.ready
         state = state_on p w run (stepped st v) st is_taken refl state_v;
         uses = λ x l.
             uses_after p w h run kept gone kept_node gone_node apart kept_stays gone_stays x (subst (λ n. x < n) b.size l)
-            ∙ ap (λ (t : RoundState). sum_by (λ y. (mark_at p t y).uses) (members p t x)) (sym state_v);
+            ∙ ap (λ (t : RoundState). sum_by (λ y. (facts_at p t y).uses) (members p t x)) (sym state_v);
         made = λ x l e.
             made_after p w h run kept gone kept_node gone_node apart kept_stays gone_stays x
             (subst (λ n. x < n) b.size l) e

@@ -6,7 +6,7 @@ use Rattle.std.proofs.lemmas.Bool.{cases_lt}
 use Rattle.std.proofs.lemmas.List.{length-set, length-map, get_or-map, get_or_past}
 use Rattle.std.proofs.lemmas.List.FromFn.{length-range_with_len, get_or-range_with_len}
 use Rattle.std.proofs.lemmas.List.Elements.{All-nil, All-cons, All-set}
-use Rattle.tg_irc.specs.declared.candidates.Mark.{Mark}
+use Rattle.tg_irc.specs.declared.candidates.NodeFacts.{NodeFacts}
 use Rattle.tg_coalesce.specs.Lists.{list_at, singletons, set_at_all}
 use Rattle.tg_coalesce.specs.Groupings.{Grouping, IsGrouping, apart, joined}
 use Rattle.tg_coalesce.proofs.Listing.{each_poured, length_poured, length_moved_sum, length_set_at_all, sum_moved, range_below}
@@ -32,16 +32,16 @@ singletons_below n x =
     (λ (h : n ≤ x). subst (All P) (sym (no_singleton n x h)) (All-nil P))
     (cases_lt x n)
 
-pub apart_grouping : (marks : List Mark) → sum (map (λ m. m.uses) marks) < 2 ^ 32 → IsGrouping (apart marks)
-apart_grouping marks few =
-    let n = length marks in
+pub apart_grouping : (facts : List NodeFacts) → sum (map (λ m. m.uses) facts) < 2 ^ 32 → IsGrouping (apart facts)
+apart_grouping facts few =
+    let n = length facts in
     let size : length (range_with_len 0 n) ≡ n = length-range_with_len 0 n in
     let members : length (singletons n) ≡ length (range_with_len 0 n) = length-map (range_with_len 0 n) (λ (y : ℕ). y ∷ []) in
     let below = λ (xs : List ℕ). subst (λ (k : ℕ). All (λ x. x < k) xs) (sym size) in
     record {
       members_sized = members;
-      uses_sized = length-map marks (λ (m : Mark). m.uses) ∙ sym size;
-      made_sized = length-map marks (λ (m : Mark). m.made) ∙ sym size;
+      uses_sized = length-map facts (λ (m : NodeFacts). m.uses) ∙ sym size;
+      made_sized = length-map facts (λ (m : NodeFacts). m.made) ∙ sym size;
       aliases_below = below (range_with_len 0 n) (range_below 0 n n (omega arith));
       members_below = λ x. below (list_at (singletons n) x) (singletons_below n x);
       few = few;

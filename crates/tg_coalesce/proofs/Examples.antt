@@ -2,7 +2,7 @@
 use Rattle.std.proofs.Common.{◌≡◌, ℕ, true, false, List, [], ◌∷◌, ◌++◌, map, replicate, Option, Some, refl}
 use Rattle.std.specs.Prelude.{fold}
 use Rattle.std.specs.List.{range_with_len}
-use Rattle.tg_irc.specs.declared.candidates.Mark.{Mark}
+use Rattle.tg_irc.specs.declared.candidates.NodeFacts.{NodeFacts}
 use Rattle.tg_irc.specs.declared.moves.Move.{Move}
 use Rattle.tg_irc.specs.declared.moves.MoveState.{MoveState}
 use Rattle.tg_irc.specs.declared.moves.MoveState.TheVariants.{Coalesced, Constrained}
@@ -24,7 +24,7 @@ move to from = record { to = to; from = from }
 
 abbrev at_start : ℕ → List (ℕ × ℕ) → List Move → Work
 at_start n ps moves =
-    let marks : List Mark = replicate n (record { uses = 2; made = false }) in started (graph n ps) moves marks
+    let facts : List NodeFacts = replicate n (record { uses = 2; made = false }) in started (graph n ps) moves facts
 
 abbrev registers : List ℕ
 registers = range_with_len 0 25

@@ -16,7 +16,7 @@ use Rattle.tg_graph.proofs.Joining.{few_neighbours, stays_below}
 use Rattle.tg_graph.proofs.Members.{among_within}
 use Rattle.tg_graph.proofs.Moves.{told_fixed, told_spill}
 use Rattle.tg_graph.proofs.Partitions.{start_parts}
-use Rattle.tg_irc.specs.declared.candidates.Mark.{Mark}
+use Rattle.tg_irc.specs.declared.candidates.NodeFacts.{NodeFacts}
 use Rattle.tg_irc.specs.declared.moves.Move.{Move}
 use Rattle.tg_irc.specs.declared.moves.MoveState.TheVariants.{Ready}
 use Rattle.tg_irc.specs.Graphs.{bit, count}
@@ -52,10 +52,10 @@ temporary_low : (x : ℕ) → not (is_register x) ≡ true → 25 ≤ x
 temporary_low x e =
     ⊎_elim (λ (k : x < 25). absurd (clash (lt-ltb x 25 k) (not_true e))) (λ (k : 25 ≤ x). k) (cases_lt x 25)
 
-module _ (g : Interference) (moves : List Move) (marks : List Mark) (given : IsGiven g moves marks) where
+module _ (g : Interference) (moves : List Move) (facts : List NodeFacts) (given : IsGiven g moves facts) where
   -- everything at the start, with other worklists
   abbrev pub with_lists : Lists → Work
-  with_lists l = record (unlisted g moves marks) { lists = l }
+  with_lists l = record (unlisted g moves facts) { lists = l }
 
   abbrev pub first_lists : Lists
   first_lists = lists.started g.nodes
@@ -66,7 +66,7 @@ module _ (g : Interference) (moves : List Move) (marks : List Mark) (given : IsG
     pub shifted : IsShifted first_lists w.lists
     pub listed : (x : ℕ) → colours ≤ x → x < a → IsListed w x
 
-  begun_none : IsBegun (unlisted g moves marks) colours
+  begun_none : IsBegun (unlisted g moves facts) colours
   begun_none = record {
     same = refl;
     shifted = shifted_none first_lists;
@@ -93,9 +93,9 @@ module _ (g : Interference) (moves : List Move) (marks : List Mark) (given : IsG
       begun_all k (a + 1) (relisted a w) (begun_more w a b low (omega (arith, e))) (omega (arith, low))
       (omega (arith, e))
 
-  pub begun : IsBegun (started g moves marks) g.nodes
+  pub begun : IsBegun (started g moves facts) g.nodes
   unfolding started
-  begun = begun_all (g.nodes - colours) colours (unlisted g moves marks) begun_none (omega arith)
+  begun = begun_all (g.nodes - colours) colours (unlisted g moves facts) begun_none (omega arith)
       (omega (arith, given.some))
 
   -- What holds of such work.
@@ -111,12 +111,12 @@ module _ (g : Interference) (moves : List Move) (marks : List Mark) (given : IsG
     sized = record {
       lists = shifted.nodes;
       degrees = length_first g given.some;
-      classes = length-range_with_len 0 (length marks) ∙ given.sized;
+      classes = length-range_with_len 0 (length facts) ∙ given.sized;
       touching = length_listed moves g.nodes (length moves);
     }
 
-    alias_is : (x d : ℕ) → x < g.nodes → get_or (range_with_len 0 (length marks)) x d ≡ x
-    alias_is x d k = place_in (length marks) x d (omega (arith, k, given.sized))
+    alias_is : (x d : ℕ) → x < g.nodes → get_or (range_with_len 0 (length facts)) x d ≡ x
+    alias_is x d k = place_in (length facts) x d (omega (arith, k, given.sized))
 
     degrees_exact : (x : ℕ) → colours ≤ x → x < g.nodes →
         degree g x ≡ count (λ y. (nat_lt y g.nodes && is_left l y) && interferes g x y) g.nodes
@@ -160,7 +160,7 @@ module _ (g : Interference) (moves : List Move) (marks : List Mark) (given : IsG
 
     members : HasMembers w
     members = record {
-      exact = λ x y k. ap (is_among y) (singleton_at (length marks) x (omega (arith, k, given.sized)))
+      exact = λ x y k. ap (is_among y) (singleton_at (length facts) x (omega (arith, k, given.sized)))
           ∙ (or_none (y == x) ∙ ⊎_elim
           (λ (m : y < g.nodes).
           sym (ap (λ b. b && (alias_of w y == x)) (lt-ltb y g.nodes m) ∙ ap (λ z. z == x) (alias_is y 0 m)))
@@ -169,9 +169,9 @@ module _ (g : Interference) (moves : List Move) (marks : List Mark) (given : IsG
           ∙ sym (ap (λ b. b && (alias_of w y == x)) (le-ltb y g.nodes m)))
           (cases_lt y g.nodes));
       distinct = λ x. ⊎_elim
-          (λ (k : x < length marks). subst (IsDistinct nat_eq) (sym (singleton_at (length marks) x k)) (alone x))
-          (λ (k : length marks ≤ x). subst (IsDistinct nat_eq) (sym (no_singleton (length marks) x k)) nothing)
-          (cases_lt x (length marks));
+          (λ (k : x < length facts). subst (IsDistinct nat_eq) (sym (singleton_at (length facts) x k)) (alone x))
+          (λ (k : length facts ≤ x). subst (IsDistinct nat_eq) (sym (no_singleton (length facts) x k)) nothing)
+          (cases_lt x (length facts));
     }
       where
         or_none : (b : Bool) → (b || false) ≡ b
@@ -218,7 +218,7 @@ module _ (g : Interference) (moves : List Move) (marks : List Mark) (given : IsG
       some = given.some;
       few = given.few;
       sized = sized;
-      grouping = apart_grouping marks given.few_uses;
+      grouping = apart_grouping facts given.few_uses;
       table = started_table moves g.nodes given.few_moves given.ends;
       graph = given.graph;
       degrees = degrees;
@@ -228,8 +228,8 @@ module _ (g : Interference) (moves : List Move) (marks : List Mark) (given : IsG
       ready = ready;
     }
 
-  pub start_orderly : IsOrderly (started g moves marks)
+  pub start_orderly : IsOrderly (started g moves facts)
   start_orderly =
       let b = begun in
-      subst IsOrderly (sym b.same) (orderly (started g moves marks).lists b.shifted
+      subst IsOrderly (sym b.same) (orderly (started g moves facts).lists b.shifted
       (λ x low k. subst (λ (v : Work). IsListed v x) b.same (b.listed x low k)))

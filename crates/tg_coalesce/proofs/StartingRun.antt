@@ -10,12 +10,12 @@ use Rattle.std.proofs.lemmas.List.Elements.{filter_agree}
 use Rattle.tg_graph.specs.Interference.{Interference, interferes}
 use Rattle.tg_graph.specs.Lists.{Lists}
 use Rattle.tg_graph.proofs.Joining.{either_way, not_itself}
-use Rattle.tg_irc.specs.declared.candidates.Mark.{Mark}
+use Rattle.tg_irc.specs.declared.candidates.NodeFacts.{NodeFacts}
 use Rattle.tg_irc.specs.declared.moves.Move.{Move}
 use Rattle.tg_irc.specs.declared.moves.MoveState.TheVariants.{Ready}
 use Rattle.tg_irc.specs.Graphs.{every}
 use Rattle.tg_irc.specs.Policies.{Rule}
-use Rattle.tg_irc.specs.States.{Problem, problem, start, members, mark_at, all_made}
+use Rattle.tg_irc.specs.States.{Problem, problem, start, members, facts_at, all_made}
 use Rattle.tg_irc.proofs.Deciding.{clash, either, every_is, not_true, or_left, or_right, from_false, same_test}
 use Rattle.tg_coalesce.specs.Advancing.{IsGiven}
 use Rattle.tg_coalesce.specs.Groupings.{is_made}
@@ -50,16 +50,16 @@ same true b f g = sym (f refl)
 same false true f g = g refl
 same false false f g = refl
 
-module _ (g : Interference) (moves : List Move) (marks : List Mark) (rule : Rule) (given : IsGiven g moves marks) where
+module _ (g : Interference) (moves : List Move) (facts : List NodeFacts) (rule : Rule) (given : IsGiven g moves facts) where
   abbrev p : Problem
-  p = problem (graph_of g) moves marks rule
+  p = problem (graph_of g) moves facts rule
 
-  own : (x : ℕ) → get_or (range_with_len 0 (length marks)) x x ≡ x
+  own : (x : ℕ) → get_or (range_with_len 0 (length facts)) x x ≡ x
   own x =
-      ⊎_elim (λ (l : x < length marks). place_in (length marks) x x l)
-      (λ (l : length marks ≤ x).
-      get_or_past (range_with_len 0 (length marks)) x x (omega (arith, l, length-range_with_len 0 (length marks))))
-      (cases_lt x (length marks))
+      ⊎_elim (λ (l : x < length facts). place_in (length facts) x x l)
+      (λ (l : length facts ≤ x).
+      get_or_past (range_with_len 0 (length facts)) x x (omega (arith, l, length-range_with_len 0 (length facts))))
+      (cases_lt x (length facts))
 
   all_ready : (i : ℕ) → as_told (get_or (replicate (length moves) Ready) i Ready) ≡ Ready
   all_ready i =
@@ -69,13 +69,13 @@ module _ (g : Interference) (moves : List Move) (marks : List Mark) (rule : Rule
       get_or_past (replicate (length moves) Ready) i Ready (omega (arith, l, length-replicate (length moves) Ready)))
       (cases_lt i (length moves)))
 
-  module _ (l : Lists) (shifted : IsShifted (first_lists g moves marks given) l) where
+  module _ (l : Lists) (shifted : IsShifted (first_lists g moves facts given) l) where
     abbrev w : Work
-    w = with_lists g moves marks given l
+    w = with_lists g moves facts given l
 
     begins : state_of w ≡ start p
     begins = λ i. record {
-      remaining = λ x. and_all (nat_lt x g.nodes) (is_left l x) (shifted_left (first_lists g moves marks given) l shifted x) i;
+      remaining = λ x. and_all (nat_lt x g.nodes) (is_left l x) (shifted_left (first_lists g moves facts given) l shifted x) i;
       pairs = interferes g;
       alias = λ x. own x i;
       states = λ j. all_ready j i;
@@ -88,28 +88,28 @@ module _ (g : Interference) (moves : List Move) (marks : List Mark) (rule : Rule
         ∙ one_same x 0 g.nodes (omega arith) (omega (arith, k))
 
     uses : (x : ℕ) → x < g.nodes →
-        get_or (map (λ (m : Mark). m.uses) marks) x 0 ≡
-        sum_by (λ y. (mark_at p (state_of w) y).uses) (members p (state_of w) x)
+        get_or (map (λ (m : NodeFacts). m.uses) facts) x 0 ≡
+        sum_by (λ y. (facts_at p (state_of w) y).uses) (members p (state_of w) x)
     uses x k =
-        let one = ap (sum_by (λ y. (mark_at p (state_of w) y).uses)) (members_one x k) in
-        let read = get_or-map (λ (m : Mark). m.uses) marks x (record { uses = 0; made = false }) 0
+        let one = ap (sum_by (λ y. (facts_at p (state_of w) y).uses)) (members_one x k) in
+        let read = get_or-map (λ (m : NodeFacts). m.uses) facts x (record { uses = 0; made = false }) 0
         (omega (arith, k, given.sized)) in
         omega (arith, one, read)
 
     made : (x : ℕ) → x < g.nodes → is_made w.classes x ≡ all_made p (state_of w) x
     made x k =
-        let S = λ (y : ℕ). not (get_or (range_with_len 0 (length marks)) y y == x) || (mark_at p (state_of w) y).made in
-        get_or-map (λ (m : Mark). m.made) marks x (record { uses = 0; made = false }) false (omega (arith, k, given.sized))
-        ∙ same (mark_at p (state_of w) x).made (every S g.nodes)
+        let S = λ (y : ℕ). not (get_or (range_with_len 0 (length facts)) y y == x) || (facts_at p (state_of w) y).made in
+        get_or-map (λ (m : NodeFacts). m.made) facts x (record { uses = 0; made = false }) false (omega (arith, k, given.sized))
+        ∙ same (facts_at p (state_of w) x).made (every S g.nodes)
         (λ e. (every_is S g.nodes).1 (λ y m. ⊎_elim
-        (λ (q : y ≡ x). or_right _ _ (ap (λ z. (mark_at p (state_of w) z).made) q ∙ e))
+        (λ (q : y ≡ x). or_right _ _ (ap (λ z. (facts_at p (state_of w) z).made) q ∙ e))
         (λ (d : y ≢ x). or_left _ _ (from_false (ne_eqb _ x (λ q. d (sym (own y) ∙ q)))))
         (cases_eq y x)))
         (λ e. ⊎_elim
-        (λ (q : not (get_or (range_with_len 0 (length marks)) x x == x) ≡ true).
+        (λ (q : not (get_or (range_with_len 0 (length facts)) x x == x) ≡ true).
         absurd (clash (same_test _ x (own x)) (not_true q)))
-        (λ (q : (mark_at p (state_of w) x).made ≡ true). q)
-        (either (not (get_or (range_with_len 0 (length marks)) x x == x)) _ ((every_is S g.nodes).0 e x k)))
+        (λ (q : (facts_at p (state_of w) x).made ≡ true). q)
+        (either (not (get_or (range_with_len 0 (length facts)) x x == x)) _ ((every_is S g.nodes).0 e x k)))
 
     run : IsRunOf p w
     run = record {
@@ -123,7 +123,7 @@ module _ (g : Interference) (moves : List Move) (marks : List Mark) (rule : Rule
       made = λ x k e. made x k;
     }
 
-  pub start_run : IsRunOf p (started g moves marks)
+  pub start_run : IsRunOf p (started g moves facts)
   start_run =
-      let b = begun g moves marks given in
-      subst (IsRunOf p) (sym b.same) (run (started g moves marks).lists b.shifted)
+      let b = begun g moves facts given in
+      subst (IsRunOf p) (sym b.same) (run (started g moves facts).lists b.shifted)

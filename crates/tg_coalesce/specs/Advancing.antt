@@ -4,7 +4,7 @@ use Rattle.std.specs.Prelude.{◌≡◌, ℕ, ◌+◌, ◌<◌, ◌≤◌, ◌^�
 use Rattle.std.specs.Prelude.{Some}
 use Rattle.std.specs.Prelude.{slice_get}
 use Rattle.tg_graph.specs.Interference.{Interference, IsGraph, colours, most_nodes}
-use Rattle.tg_irc.specs.declared.candidates.Mark.{Mark}
+use Rattle.tg_irc.specs.declared.candidates.NodeFacts.{NodeFacts}
 use Rattle.tg_irc.specs.declared.moves.Move.{Move}
 use Rattle.tg_irc.specs.Policies.{Rule, candidate_at}
 use Rattle.tg_irc.specs.Rounds.{IsRound}
@@ -70,28 +70,28 @@ pub record Progresses (rule : Rule) (w v : Work) : Type 0 where
   pub on : WorkGoesOn w v
   pub run : (g : Problem) → g.rule ≡ rule → IsRunOf g w → IsRunOf g v
 
--- what a round is given: a graph, moves between its nodes, and a mark for each node
-pub record IsGiven (g : Interference) (moves : List Move) (marks : List Mark) : Type 0 where
+-- what a round is given: a graph, moves between its nodes, and the facts of each node
+pub record IsGiven (g : Interference) (moves : List Move) (facts : List NodeFacts) : Type 0 where
   pub some : colours ≤ g.nodes
   pub few : g.nodes ≤ most_nodes
   pub graph : IsGraph g
-  pub sized : length marks ≡ g.nodes
+  pub sized : length facts ≡ g.nodes
   pub ends : All (λ m. (m.to < g.nodes) × (m.from < g.nodes)) moves
   pub few_moves : length moves < 2 ^ 32
-  pub few_uses : sum (map (λ m. m.uses) marks) < 2 ^ 32
+  pub few_uses : sum (map (λ m. m.uses) facts) < 2 ^ 32
 
 -- of this the work begins in order, as that of a run that has taken no step
 abbrev pub StartIsOrderly : Type 0
 StartIsOrderly =
-    (g : Interference) (moves : List Move) (marks : List Mark) →
-    IsGiven g moves marks →
-    IsOrderly (started g moves marks)
+    (g : Interference) (moves : List Move) (facts : List NodeFacts) →
+    IsGiven g moves facts →
+    IsOrderly (started g moves facts)
 
 abbrev pub StartIsRun : Type 0
 StartIsRun =
-    (g : Interference) (moves : List Move) (marks : List Mark) (rule : Rule) →
-    IsGiven g moves marks →
-    IsRunOf (problem (graph_of g) moves marks rule) (started g moves marks)
+    (g : Interference) (moves : List Move) (facts : List NodeFacts) (rule : Rule) →
+    IsGiven g moves facts →
+    IsRunOf (problem (graph_of g) moves facts rule) (started g moves facts)
 
 -- what is left in order at the end is a round
 abbrev pub DoneIsRound : Type 0

@@ -2,7 +2,7 @@
 use Rattle.std.specs.Prelude.{◌≡◌, ℕ, ◌<◌, ◌^◌, Bool, false, List, length, map, sum, All}
 use Rattle.std.specs.Prelude.{slice_index_or}
 use Rattle.std.specs.List.{range_with_len}
-use Rattle.tg_irc.specs.declared.candidates.Mark.{Mark}
+use Rattle.tg_irc.specs.declared.candidates.NodeFacts.{NodeFacts}
 use Rattle.tg_coalesce.specs.Lists.{list_at, poured, moved_sum, conjoined, singletons}
 use Rattle.tg_coalesce.specs.Lists.{set_at_all}
 
@@ -15,12 +15,12 @@ pub record Grouping : Type 0 where
   pub made : List Bool
 
 -- each node in a class of its own
-abbrev pub apart : List Mark → Grouping
-apart marks = record {
-  aliases = range_with_len 0 (length marks);
-  members = singletons (length marks);
-  uses = map (λ m. m.uses) marks;
-  made = map (λ m. m.made) marks;
+abbrev pub apart : List NodeFacts → Grouping
+apart facts = record {
+  aliases = range_with_len 0 (length facts);
+  members = singletons (length facts);
+  uses = map (λ m. m.uses) facts;
+  made = map (λ m. m.made) facts;
 }
 
 abbrev pub is_made : Grouping → ℕ → Bool

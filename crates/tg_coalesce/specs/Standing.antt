@@ -15,7 +15,7 @@ use Rattle.tg_irc.specs.declared.moves.MoveState.TheVariants.{Ready, Waiting}
 use Rattle.tg_irc.specs.declared.rounds.Round.{Round}
 use Rattle.tg_irc.specs.Graphs.{Graph, IsGraph, bit}
 use Rattle.tg_irc.specs.States.{Problem, problem, RoundState, start, remains}
-use Rattle.tg_irc.specs.States.{members, mark_at, all_made, is_ready_or_waiting}
+use Rattle.tg_irc.specs.States.{members, facts_at, all_made, is_ready_or_waiting}
 use Rattle.tg_irc.specs.Steps.{can_move, AreTaken, after_all}
 use Rattle.tg_irc.specs.Laws.{AreNodes, is_stacked}
 use Rattle.tg_irc.specs.Degrees.{degree_of}
@@ -141,7 +141,7 @@ pub record IsRunOf (g : Problem) (w : Work) : Type 0 where
       (x : ℕ) →
       x < w.graph.nodes →
       slice_index w.classes.uses x ≡
-      sum_by (λ y. (mark_at g (state_of w) y).uses) (members g (state_of w) x)
+      sum_by (λ y. (facts_at g (state_of w) y).uses) (members g (state_of w) x)
   pub made :
       (x : ℕ) →
       x < w.graph.nodes →

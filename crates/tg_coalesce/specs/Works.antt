@@ -10,7 +10,7 @@ use Rattle.tg_graph.specs.Interference.{Interference, colours, is_register, is_a
 use Rattle.tg_graph.specs.Interference.{degree}
 use Rattle.tg_graph.specs.Lists as lists
 use Rattle.tg_graph.specs.Lists.{Lists, moved}
-use Rattle.tg_irc.specs.declared.candidates.Mark.{Mark}
+use Rattle.tg_irc.specs.declared.candidates.NodeFacts.{NodeFacts}
 use Rattle.tg_irc.specs.declared.moves.Move.{Move}
 use Rattle.tg_irc.specs.declared.moves.MoveState.{MoveState}
 use Rattle.tg_irc.specs.declared.steps.Step.{Step}
@@ -100,18 +100,18 @@ abbrev pub first_degrees : Interference → List ℕ
 first_degrees g = replicate colours 0 ++ map (degree g) (range_with_len colours (g.nodes - colours))
 
 -- everything at the start, where each temporary may still be in a wrong list
-abbrev pub unlisted : Interference → List Move → List Mark → Work
-unlisted g moves marks = record {
+abbrev pub unlisted : Interference → List Move → List NodeFacts → Work
+unlisted g moves facts = record {
   graph = g;
   lists = lists.started g.nodes;
   degrees = first_degrees g;
-  classes = apart marks;
+  classes = apart facts;
   moves = tables.started moves g.nodes;
   stack = [];
   steps = [];
 }
 
-unfoldable pub started : Interference → List Move → List Mark → Work
-started g moves marks =
-    fold (λ w x. relisted x w) (unlisted g moves marks)
+unfoldable pub started : Interference → List Move → List NodeFacts → Work
+started g moves facts =
+    fold (λ w x. relisted x w) (unlisted g moves facts)
     (range_with_len colours (g.nodes - colours))

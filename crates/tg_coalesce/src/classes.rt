@@ -19,7 +19,7 @@ use std::alloc::Global;
 use std::marker::Model;
 use tg_base::Memory;
 use tg_graph::numbers;
-use tg_irc::Mark;
+use tg_irc::NodeFacts;
 
 /// The classes of the nodes that were coalesced so far, each named by the node under which it
 /// stands. A merge takes time by the size of the class that goes, which a round's merges sum to at
@@ -46,16 +46,16 @@ impl Model for Classes {
 
 impl Classes {
     /// Each node in a class of its own.
-    pub(crate) fn new(alloc: Global, marks: &[Mark]) -> Result<Classes, Memory>
-        requires count { length marks.now < 2 ^ 32 }
-        requires few { sum (map (λ m. m.uses) marks.now) < 2 ^ 32 }
-        ensures { IfOk result (λ c. c ≡ apart marks.now) }
+    pub(crate) fn new(alloc: Global, facts: &[NodeFacts]) -> Result<Classes, Memory>
+        requires count { length facts.now < 2 ^ 32 }
+        requires few { sum (map (λ m. m.uses) facts.now) < 2 ^ 32 }
+        ensures { IfOk result (λ c. c ≡ apart facts.now) }
     {
-        let nodes = marks.len() as u32;
+        let nodes = facts.len() as u32;
         Ok(Classes {
             aliases: numbers(alloc, nodes)?,
-            uses: uses_of(alloc, marks)?,
-            made: made_of(alloc, marks)?,
+            uses: uses_of(alloc, facts)?,
+            made: made_of(alloc, facts)?,
             members: singletons(alloc, nodes)?,
         })
     }
@@ -115,22 +115,22 @@ impl Classes {
     }
 }
 
-fn uses_of(alloc: Global, marks: &[Mark]) -> Result<Vec<u32>, Memory>
-    ensures { IfOk result (λ v. v.items ≡ map (λ m. m.uses) marks.now) }
+fn uses_of(alloc: Global, facts: &[NodeFacts]) -> Result<Vec<u32>, Memory>
+    ensures { IfOk result (λ v. v.items ≡ map (λ m. m.uses) facts.now) }
 {
-    let mut uses = Vec::with_capacity(alloc, marks.len())?;
-    for mark in marks {
-        uses.push(mark.uses)?;
+    let mut uses = Vec::with_capacity(alloc, facts.len())?;
+    for node in facts {
+        uses.push(node.uses)?;
     }
     Ok(uses)
 }
 
-fn made_of(alloc: Global, marks: &[Mark]) -> Result<Vec<bool>, Memory>
-    ensures { IfOk result (λ v. v.items ≡ map (λ m. m.made) marks.now) }
+fn made_of(alloc: Global, facts: &[NodeFacts]) -> Result<Vec<bool>, Memory>
+    ensures { IfOk result (λ v. v.items ≡ map (λ m. m.made) facts.now) }
 {
-    let mut made = Vec::with_capacity(alloc, marks.len())?;
-    for mark in marks {
-        made.push(mark.made)?;
+    let mut made = Vec::with_capacity(alloc, facts.len())?;
+    for node in facts {
+        made.push(node.made)?;
     }
     Ok(made)
 }

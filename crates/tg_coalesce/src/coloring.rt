@@ -29,26 +29,26 @@ use crate::states::Coalescer;
 use std::alloc::Global;
 use tg_base::Memory;
 use tg_graph::{Graph, Worklist};
-use tg_irc::{Colours, Mark, Move, Moves, Nodes, Round, SpillPolicy, States, Steps};
+use tg_irc::{Colours, Move, Moves, NodeFacts, Nodes, Round, SpillPolicy, States, Steps};
 
-/// A round of the allocator over a graph and its moves (George and Appel 1996, section 4). `marks`
-/// has a mark for each node, the registers first. After `Memory` the policy may have been asked.
+/// A round of the allocator over a graph and its moves (George and Appel 1996, section 4). `facts`
+/// has the facts of each node, the registers first. After `Memory` the policy may have been asked.
 pub fn color(
     alloc: Global,
     graph: Graph,
     moves: &[Move],
-    marks: &[Mark],
+    facts: &[NodeFacts],
     policy: &mut dyn SpillPolicy,
 ) -> Result<Round, Memory>
-    requires marks { length marks.now ≡ graph.nodes }
+    requires facts { length facts.now ≡ graph.nodes }
     requires ends { All (λ m. (m.to < graph.nodes) × (m.from < graph.nodes)) moves.now }
     requires few_moves { length moves.now < 2 ^ 32 }
-    requires few_uses { sum (map (λ m. m.uses) marks.now) < 2 ^ 32 }
+    requires few_uses { sum (map (λ m. m.uses) facts.now) < 2 ^ 32 }
     ensures round { IfOk result (λ round.
-        IsRound (problem (graph_of graph) moves.now marks.now (rule policy.old)) round) }
+        IsRound (problem (graph_of graph) moves.now facts.now (rule policy.old)) round) }
     ensures same { rule policy.new ≡ rule policy.old }
 {
-    let mut work = Coalescer::new(alloc, graph, moves, marks)?;
+    let mut work = Coalescer::new(alloc, graph, moves, facts)?;
     work.take_steps(alloc, policy)?;
     work.answer(alloc)
 }

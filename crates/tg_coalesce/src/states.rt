@@ -34,7 +34,7 @@ use std::alloc::Global;
 use std::marker::Model;
 use tg_base::Memory;
 use tg_graph::{COLOURS, Graph, Worklist, Worklists};
-use tg_irc::{Mark, Move, MoveState, Step};
+use tg_irc::{Move, MoveState, NodeFacts, Step};
 
 /// What carries out a round (George and Appel 1996, section 4). The graph has the pairs of all
 /// merges; `degrees` counts for each temporary that remains its neighbours that remain; each
@@ -76,13 +76,13 @@ impl Coalescer {
         alloc: Global,
         graph: Graph,
         moves: &[Move],
-        marks: &[Mark],
+        facts: &[NodeFacts],
     ) -> Result<Coalescer, Memory>
-        requires marks { length marks.now ≡ graph.nodes }
+        requires facts { length facts.now ≡ graph.nodes }
         requires ends { All (λ m. (m.to < graph.nodes) × (m.from < graph.nodes)) moves.now }
         requires few_moves { length moves.now < 2 ^ 32 }
-        requires few_uses { sum (map (λ m. m.uses) marks.now) < 2 ^ 32 }
-        ensures value { IfOk result (λ w. w ≡ started graph moves.now marks.now) }
+        requires few_uses { sum (map (λ m. m.uses) facts.now) < 2 ^ 32 }
+        ensures value { IfOk result (λ w. w ≡ started graph moves.now facts.now) }
         ensures low { colours ≤ graph.nodes }
         ensures few { graph.nodes ≤ most_nodes }
         ensures graph { IsGraph graph }
@@ -91,7 +91,7 @@ impl Coalescer {
         let mut work = Coalescer {
             degrees: degrees_of(alloc, &graph)?,
             lists: Worklists::new(alloc, nodes)?,
-            classes: Classes::new(alloc, marks)?,
+            classes: Classes::new(alloc, facts)?,
             moves: MoveTable::new(alloc, moves, nodes)?,
             stack: Vec::new(alloc),
             steps: Vec::new(alloc),

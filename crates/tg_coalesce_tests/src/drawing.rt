@@ -3,14 +3,14 @@ ghost use Rattle.std.specs.Prelude.{◌≡◌, ◌<◌, ◌≤◌, false, IfOk, 
 use std::alloc::Global;
 use tg_base::Memory;
 use tg_graph::{COLOURS, Graph};
-use tg_irc::Mark;
+use tg_irc::NodeFacts;
 
 /// As many nodes, all original, each used twice.
-pub fn originals(alloc: Global, nodes: u32) -> Result<Vec<Mark>, Memory>
+pub fn originals(alloc: Global, nodes: u32) -> Result<Vec<NodeFacts>, Memory>
     requires { nodes < 100 }
     ensures { IfOk result (λ v. v.items ≡ replicate nodes (record { uses = 2; made = false })) }
 {
-    Ok(vec![in alloc; Mark {
+    Ok(vec![in alloc; NodeFacts {
         uses: 2,
         made: false
     }; nodes as usize]?)

@@ -6,14 +6,14 @@ use std::test::Fail;
 use tg_base::Memory;
 use tg_coalesce::color;
 use tg_graph::Graph;
-use tg_irc::{LeastUse, Mark, Move, MoveState, Step};
+use tg_irc::{LeastUse, Move, MoveState, NodeFacts, Step};
 
 #[test]
 fn a_free_move_is_coalesced(rt: HostRuntime) -> Result<(), Fail> {
     let graph = Graph::new(rt.alloc(), 27)?;
-    let marks = originals(rt.alloc(), 27)?;
+    let facts = originals(rt.alloc(), 27)?;
     let moves = [Move { to: 25, from: 26 }];
-    let round = color(rt.alloc(), graph, &moves, &marks, &mut LeastUse)?;
+    let round = color(rt.alloc(), graph, &moves, &facts, &mut LeastUse)?;
     let coalesce = Step::Coalesce {
         index: 0,
         kept: 25,
@@ -38,9 +38,9 @@ fn a_free_move_is_coalesced(rt: HostRuntime) -> Result<(), Fail> {
 fn a_move_between_neighbours_is_constrained(rt: HostRuntime) -> Result<(), Fail> {
     let mut graph = Graph::new(rt.alloc(), 27)?;
     graph.add_edge(25, 26)?;
-    let marks = originals(rt.alloc(), 27)?;
+    let facts = originals(rt.alloc(), 27)?;
     let moves = [Move { to: 25, from: 26 }];
-    let round = color(rt.alloc(), graph, &moves, &marks, &mut LeastUse)?;
+    let round = color(rt.alloc(), graph, &moves, &facts, &mut LeastUse)?;
     let steps = [Step::Constrain(0), Step::Simplify(25), Step::Simplify(26)];
     assert_eq!(rt; round.steps.as_slice(), steps.as_slice());
     assert_eq!(rt;
@@ -57,9 +57,9 @@ fn a_move_between_neighbours_is_constrained(rt: HostRuntime) -> Result<(), Fail>
 #[test]
 fn a_move_from_a_register_is_coalesced(rt: HostRuntime) -> Result<(), Fail> {
     let graph = Graph::new(rt.alloc(), 26)?;
-    let marks = originals(rt.alloc(), 26)?;
+    let facts = originals(rt.alloc(), 26)?;
     let moves = [Move { to: 25, from: 2 }];
-    let round = color(rt.alloc(), graph, &moves, &marks, &mut LeastUse)?;
+    let round = color(rt.alloc(), graph, &moves, &facts, &mut LeastUse)?;
     let coalesce = Step::Coalesce {
         index: 0,
         kept: 2,
@@ -76,8 +76,8 @@ fn a_move_from_a_register_is_coalesced(rt: HostRuntime) -> Result<(), Fail> {
 fn a_crowded_temporary_is_spilled(rt: HostRuntime) -> Result<(), Fail> {
     let mut graph = Graph::new(rt.alloc(), 26)?;
     join_registers(&mut graph, 25, 0, 25)?;
-    let marks = originals(rt.alloc(), 26)?;
-    let round = color(rt.alloc(), graph, &[], &marks, &mut LeastUse)?;
+    let facts = originals(rt.alloc(), 26)?;
+    let round = color(rt.alloc(), graph, &[], &facts, &mut LeastUse)?;
     assert_eq!(rt; round.steps.as_slice(), [Step::Spill(25)].as_slice());
     assert_eq!(rt; &round.colours.as_slice()[25..], [None].as_slice());
     assert_eq!(rt; round.spilled.as_slice(), [25].as_slice());
@@ -90,9 +90,9 @@ fn a_blocked_move_is_frozen(rt: HostRuntime) -> Result<(), Fail> {
     graph.add_edge(25, 26)?;
     join_registers(&mut graph, 26, 0, 2)?;
     join_registers(&mut graph, 26, 3, 25)?;
-    let marks = originals(rt.alloc(), 27)?;
+    let facts = originals(rt.alloc(), 27)?;
     let moves = [Move { to: 25, from: 2 }];
-    let round = color(rt.alloc(), graph, &moves, &marks, &mut LeastUse)?;
+    let round = color(rt.alloc(), graph, &moves, &facts, &mut LeastUse)?;
     let steps = [Step::Freeze(25), Step::Simplify(25), Step::Simplify(26)];
     assert_eq!(rt; round.steps.as_slice(), steps.as_slice());
     assert_eq!(rt; round.states.as_slice(), [MoveState::Frozen].as_slice());
@@ -107,9 +107,9 @@ fn a_blocked_move_is_frozen(rt: HostRuntime) -> Result<(), Fail> {
 fn neither_end_takes_a_colour_of_a_neighbour_of_the_other(rt: HostRuntime) -> Result<(), Fail> {
     let mut graph = Graph::new(rt.alloc(), 27)?;
     graph.add_edge(26, 0)?;
-    let marks = originals(rt.alloc(), 27)?;
+    let facts = originals(rt.alloc(), 27)?;
     let moves = [Move { to: 25, from: 26 }];
-    let round = color(rt.alloc(), graph, &moves, &marks, &mut LeastUse)?;
+    let round = color(rt.alloc(), graph, &moves, &facts, &mut LeastUse)?;
     assert_eq!(rt;
         &round.colours.as_slice()[25..],
         [Some(1), Some(1)].as_slice()
@@ -120,25 +120,25 @@ fn neither_end_takes_a_colour_of_a_neighbour_of_the_other(rt: HostRuntime) -> Re
 #[test]
 fn an_original_is_kept(rt: HostRuntime) -> Result<(), Fail> {
     let graph = Graph::new(rt.alloc(), 27)?;
-    let mut marks = originals(rt.alloc(), 25)?;
-    marks.push(Mark {
+    let mut facts = originals(rt.alloc(), 25)?;
+    facts.push(NodeFacts {
         uses: 2,
         made: true,
     })?;
-    marks.push(Mark {
+    facts.push(NodeFacts {
         uses: 2,
         made: false,
     })?;
     let moves = [Move { to: 25, from: 26 }];
-    let round = color(rt.alloc(), graph, &moves, &marks, &mut LeastUse)?;
+    let round = color(rt.alloc(), graph, &moves, &facts, &mut LeastUse)?;
     assert_eq!(rt; &round.aliases.as_slice()[25..], [26, 26].as_slice());
     Ok(())
 }
 
 /// Two high temporaries and a move that fails its test at the second.
-fn failing(alloc: Global, uses: u32) -> Result<(Graph, Vec<Mark>), Memory>
+fn failing(alloc: Global, uses: u32) -> Result<(Graph, Vec<NodeFacts>), Memory>
     ensures nodes { IfOk result (λ it. it.0.nodes ≡ 27) }
-    ensures marks { IfOk result (λ it. it.1.items
+    ensures facts { IfOk result (λ it. it.1.items
         ≡ replicate 25 (record { uses = 2; made = false })
         ++ record { uses = 2; made = false } ∷ record { uses = uses; made = false } ∷ []) }
 {
@@ -146,20 +146,20 @@ fn failing(alloc: Global, uses: u32) -> Result<(Graph, Vec<Mark>), Memory>
     graph.add_edge(25, 26)?;
     join_registers(&mut graph, 25, 0, 24)?;
     join_registers(&mut graph, 26, 0, 24)?;
-    let mut marks = originals(alloc, 25)?;
-    marks.push(Mark {
+    let mut facts = originals(alloc, 25)?;
+    facts.push(NodeFacts {
         uses: 2,
         made: false,
     })?;
-    marks.push(Mark { uses, made: false })?;
-    Ok((graph, marks))
+    facts.push(NodeFacts { uses, made: false })?;
+    Ok((graph, facts))
 }
 
 #[test]
 fn a_spill_freezes_the_moves_of_its_own(rt: HostRuntime) -> Result<(), Fail> {
-    let (graph, marks) = failing(rt.alloc(), 3)?;
+    let (graph, facts) = failing(rt.alloc(), 3)?;
     let moves = [Move { to: 25, from: 24 }];
-    let round = color(rt.alloc(), graph, &moves, &marks, &mut LeastUse)?;
+    let round = color(rt.alloc(), graph, &moves, &facts, &mut LeastUse)?;
     let steps = [Step::Spill(25), Step::Simplify(26)];
     assert_eq!(rt; round.steps.as_slice(), steps.as_slice());
     assert_eq!(rt; round.states.as_slice(), [MoveState::Frozen].as_slice());
@@ -172,9 +172,9 @@ fn a_spill_freezes_the_moves_of_its_own(rt: HostRuntime) -> Result<(), Fail> {
 
 #[test]
 fn a_spill_lets_a_move_near_it_pass(rt: HostRuntime) -> Result<(), Fail> {
-    let (graph, marks) = failing(rt.alloc(), 1)?;
+    let (graph, facts) = failing(rt.alloc(), 1)?;
     let moves = [Move { to: 25, from: 24 }];
-    let round = color(rt.alloc(), graph, &moves, &marks, &mut LeastUse)?;
+    let round = color(rt.alloc(), graph, &moves, &facts, &mut LeastUse)?;
     let coalesce = Step::Coalesce {
         index: 0,
         kept: 24,

@@ -2,7 +2,7 @@
 use Rattle.std.proofs.Common.{◌+◌, ◌≡◌, ◌≢◌, ◌≤◌, List, [], ◌∷◌, sum_by, refl, ap, arith}
 use Rattle.tg_tree.specs.Tree.{Tx, Call, Txs, no_txs, tx, Ts, Move, Do, Linear, Do', Function}
 use Rattle.tg_tree.specs.Units.{Canonical}
-use Rattle.tg_tree.specs.Sizes.{arguments_length, expression_length, statement_length, element_length, code_length, flat_length, flat_room}
+use Rattle.tg_tree.specs.Sizes.{arguments_length, expression_length, statement_length, element_length, code_length, flat_length, flat_needs}
 use Rattle.tg_flatten_proof.specs.Flattened.{flattened}
 use Rattle.tg_flatten_proof.specs.Laws as carried
 use Rattle.tg_instr.specs.declared.operands.Opnd.{Opnd}
@@ -37,23 +37,23 @@ outs_short [] = omega arith
 outs_short (e ∷ rest) = let h = element_out_short e in let k = outs_short rest in omega (arith, h, k)
 
 -- the frame of a function's flat code, within its room and its length
-frame_in_room : (g : Function (List Linear)) → g.slots + g.temps ≤ flat_room g
-frame_in_room g = omega arith
+frame_in_needs : (g : Function (List Linear)) → g.slots + g.temps ≤ flat_needs g
+frame_in_needs g = omega arith
 
 outs_in_length : (g : Function (List Linear)) → outs g.body ≤ flat_length g
 outs_in_length g = let h = outs_short g.body in omega (arith, h)
 
-pub frames_are_small : carried.LengthStays → carried.RoomStays → InstructionsAreFew → AllocationsAreShort → FramesAreSmall
-frames_are_small length_stays room_stays few short rule f a may h =
+pub frames_are_small : carried.LengthStays → carried.NeedsStay → InstructionsAreFew → AllocationsAreShort → FramesAreSmall
+frames_are_small length_stays needs_stay few short rule f a may h =
     let g = flattened f in
     let long = length_stays f may in
-    let room = room_stays f may in
+    let room = needs_stay f may in
     let drawn = (few g).temps in
     let spilled = (short rule h.code h.frame a h.allocation).slots in
     let slots = h.allocation.has_frame.slots in
     let out = h.allocation.has_frame.out in
     let same : g.slots ≡ f.slots = refl in
-    omega (arith, long, room, drawn, spilled, slots, out, same, frame_in_room g, outs_in_length g, h.chooses.slots, h.chooses.out, h.chooses.temps)
+    omega (arith, long, room, drawn, spilled, slots, out, same, frame_in_needs g, outs_in_length g, h.chooses.slots, h.chooses.out, h.chooses.temps)
 
 -- a move, and any other instruction, in an allocation
 others_short : (one : Instr) → ((to from : Opnd) → one ≢ instr.Move to from) → most_words one ≤ 10

@@ -6,7 +6,7 @@ use Rattle.tg_flatten_proof.specs.Laws as carried
 use Rattle.tg_munch.specs.Lengths.{InstructionsAreFew}
 use Rattle.tg_code_bounds.specs.Conditions.{SmallIsEnough}
 
-pub enough : canon.LengthStays → canon.RoomStays → carried.LengthStays → carried.RoomStays → InstructionsAreFew → SmallIsEnough
+pub enough : canon.LengthStays → canon.NeedsStay → carried.LengthStays → carried.NeedsStay → InstructionsAreFew → SmallIsEnough
 enough canonical_short canonical_small flat_short flat_small few f may h =
     let s = h.short in
     let r = h.small in

@@ -48,8 +48,8 @@ code_short turned label size place (one ∷ rest) =
     let parts = words_append (instruction_lines turned label size place one) (code_lines turned label size (place + 1) rest) in
     omega (arith, h, k, parts, sum_by-cons instr.words_of one rest)
 
-pub lines_are_short : LinesAreShort
-lines_are_short turned f =
+pub emit_is_bounded : LinesAreShort
+emit_is_bounded turned f =
     let label = f.frame.label.0 in
     let size = size_of f.frame in
     let h = entry_short label size in

@@ -16,7 +16,7 @@ use Rattle.tg_types.specs.Programs.{CheckedProgram, IsAccepted}
 use Rattle.tg_escape.specs.Escaping.{escapes_of}
 use Rattle.tg_tree.specs.Tree.{Ts, Function}
 use Rattle.tg_tree.specs.Named.{temporary}
-use Rattle.tg_tree.specs.Sizes.{tree_length, tree_room}
+use Rattle.tg_tree.specs.Sizes.{tree_length, tree_needs}
 use Rattle.tg_tree.specs.declared.fragments.Literal.{Literal}
 use Rattle.tg_runtime.specs.Routines.{runtime}
 use Rattle.tg_runtime.specs.Laws.{AreRoutines, AllAreRoutines, is_own, most_length}
@@ -41,7 +41,7 @@ use Rattle.tg_code_bounds.proofs.Functions.{all_counted, counted, counted_within
 record IsBounded (f : Function Ts) : Type 0 where
   may : MayBeFlattened f
   short : tree_length f ≤ 800000
-  small : tree_room f ≤ 1200000
+  small : tree_needs f ≤ 1200000
 
 routines_bounded : (fs : List (Function Ts)) → AreRoutines fs → AllByRecursion IsBounded fs
 routines_bounded [] h = tt

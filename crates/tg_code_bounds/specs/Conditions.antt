@@ -3,11 +3,11 @@ use Rattle.std.specs.Prelude.{ℕ, ◌≤◌, ◌<◌, ◌+◌, ◌*◌, length}
 use Rattle.tg_tree.specs.Tree.{Ts, Function}
 use Rattle.tg_tree.specs.Sizes.{
   tree_length,
-  tree_room,
+  tree_needs,
   canonical_length,
-  canonical_room,
+  canonical_needs,
   flat_length,
-  flat_room,
+  flat_needs,
 }
 use Rattle.tg_canon.specs.Meaning.{canonical}
 use Rattle.tg_flatten_proof.specs.Flattened.{flattened, MayBeFlattened}
@@ -17,25 +17,25 @@ use Rattle.tg_munch.specs.Bodies.{munched}
 abbrev pub most_length : ℕ
 most_length = 100000000
 
-abbrev pub most_room : ℕ
-most_room = 4000000
+abbrev pub most_needs : ℕ
+most_needs = 4000000
 
 -- Trees, canonical statements and flat code are within that; and the temporaries of the
 -- instructions, with four for each of them, have numbers of 24 bits.
 pub record MeetsConditions (f : Function Ts) : Type 0 where
   pub tree_short : tree_length f ≤ most_length
-  pub tree_small : tree_room f ≤ most_room
+  pub tree_small : tree_needs f ≤ most_needs
   pub canonical_short : canonical_length (canonical f) ≤ most_length
-  pub canonical_small : canonical_room (canonical f) ≤ most_room
+  pub canonical_small : canonical_needs (canonical f) ≤ most_needs
   pub flat_short : flat_length (flattened f) ≤ most_length
-  pub flat_small : flat_room (flattened f) ≤ most_room
+  pub flat_small : flat_needs (flattened f) ≤ most_needs
   pub instructions :
       (munched (flattened f)).drawn.temp + 4 * length (munched (flattened f)).code < 16777216
 
 -- a tree that is no larger than that of any function of an accepted program
 pub record IsSmallTree (f : Function Ts) : Type 0 where
   pub short : tree_length f ≤ 800000
-  pub small : tree_room f ≤ 1200000
+  pub small : tree_needs f ≤ 1200000
 
 abbrev pub SmallIsEnough : Type 0
 SmallIsEnough = (f : Function Ts) → MayBeFlattened f → IsSmallTree f → MeetsConditions f

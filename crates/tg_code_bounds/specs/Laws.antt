@@ -8,23 +8,23 @@ use Rattle.tg_syntax.specs.Tree.{Exp}
 use Rattle.tg_syntax.specs.Functions.{Measures, program_functions, program_size}
 use Rattle.tg_types.specs.Programs.{CheckedProgram, IsAccepted}
 use Rattle.tg_tree.specs.Tree.{Ts, Function}
-use Rattle.tg_tree.specs.Sizes.{tree_length, tree_room}
+use Rattle.tg_tree.specs.Sizes.{tree_length, tree_needs}
 use Rattle.tg_tree.specs.declared.fragments.Literal.{Literal}
 use Rattle.tg_translate.specs.Translate.{translated}
 use Rattle.tg_translate_laws.specs.Laws.{
   FunctionIsWithin,
   paid,
   node_length,
-  node_room,
+  node_needs,
   parameter_length,
-  parameter_room,
+  parameter_needs,
   function_length,
-  function_room,
+  function_needs,
   findings_in,
 }
 use Rattle.tg_translate_laws.specs.Programs.{with_runtime}
 use Rattle.tg_flatten_proof.specs.Flattened.{MayBeFlattened}
-use Rattle.tg_flatten_proof.specs.Laws.{added_length, added_room}
+use Rattle.tg_flatten_proof.specs.Laws.{added_length, added_needs}
 use Rattle.tg_instr.specs.declared.codes.Allocated.{Allocated}
 use Rattle.tg_instr.specs.Lengths as instr
 use Rattle.tg_munch.specs.Lengths.{kept_count}
@@ -73,7 +73,7 @@ abbrev pub besides_words : ℕ
 besides_words = length_words * added_length + 13 * kept_count + entry_words
 
 abbrev pub besides_bytes : ℕ
-besides_bytes = 4 * (added_room + 2 * added_length + kept_count)
+besides_bytes = 4 * (added_needs + 2 * added_length + kept_count)
 
 abbrev pub CodeIsShort : Type 0
 CodeIsShort =
@@ -84,7 +84,7 @@ CodeIsShort =
 abbrev pub FramesAreSmall : Type 0
 FramesAreSmall =
     (rule : Rule) (f : Function Ts) (a : Allocation) → MayBeFlattened f → IsAllocationOf rule f a →
-    size_of a.done.frame ≤ 4 * (tree_room f + 2 * tree_length f) + besides_bytes
+    size_of a.done.frame ≤ 4 * (tree_needs f + 2 * tree_length f) + besides_bytes
 
 -- And by the measures of its text, where functions are nested 32 deep at most: what a node of its
 -- body pays for, what a parameter does, and what each function has besides.
@@ -98,13 +98,13 @@ abbrev pub function_words : ℕ
 function_words = length_words * function_length + besides_words
 
 abbrev pub node_bytes : ℕ
-node_bytes = 4 * (node_room + 2 * node_length)
+node_bytes = 4 * (node_needs + 2 * node_length)
 
 abbrev pub parameter_bytes : ℕ
-parameter_bytes = 4 * (parameter_room + 2 * parameter_length)
+parameter_bytes = 4 * (parameter_needs + 2 * parameter_length)
 
 abbrev pub function_bytes : ℕ
-function_bytes = 4 * (function_room + 2 * function_length) + besides_bytes
+function_bytes = 4 * (function_needs + 2 * function_length) + besides_bytes
 
 pub record IsPaid (m : Measures) (code : Allocated) : Type 0 where
   pub short :

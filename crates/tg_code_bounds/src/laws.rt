@@ -9,11 +9,11 @@ ghost use Rattle.tg_code_bounds.specs.Laws.{
   ProgramFramesAreSmall,
 };
 
-use tg_flatten_proof::sizes_stay;
-use tg_munch::code_is_short;
-use tg_regalloc::{allocations_are_short, allocations_grow_little};
+use tg_flatten_proof::flatten_is_bounded;
+use tg_munch::munch_is_bounded;
+use tg_regalloc::{allocations_are_short, regalloc_is_bounded};
 use tg_runtime::routines_are_closed;
-use tg_translate_laws::{bodies_are_closed, frames_are_small, temporaries_are_drawn};
+use tg_translate_laws::{bodies_are_closed, temporaries_are_drawn, translate_is_bounded};
 use tg_types::checked_has_type;
 
 /// The law of the number of functions: twice as many, with their parameters, are at most the nodes
@@ -25,7 +25,7 @@ pub fn functions_are_few()
 
 /// The law of the lines of a function: whichever way its branches are written, they are at most the
 /// words that its code over registers is counted at, and four more for its entry.
-pub fn lines_are_short()
+pub fn emit_is_bounded()
     ensures { LinesAreShort }
 {}
 
@@ -34,30 +34,30 @@ pub fn lines_are_short()
 /// tree's room and twice its length, and 13 more. So where functions are nested 32 deep at most,
 /// the code is at most 1,740 words for each node of the function's body, 72 for each of its
 /// parameters, and 361 more, and the frame 1,992 bytes, 84 and 212.
-pub fn functions_are_short()
+pub fn functions_are_bounded()
     ensures code { CodeIsShort }
     ensures frames { FramesAreSmall }
     ensures paid { FunctionsArePaid }
 {
-    lines_are_short();
-    sizes_stay();
-    code_is_short();
+    emit_is_bounded();
+    flatten_is_bounded();
+    munch_is_bounded();
     allocations_are_short();
-    allocations_grow_little();
+    regalloc_is_bounded();
 }
 
 /// The laws of a program that the checker accepts, and of the runtime's functions behind it,
 /// whatever is spilled: together they are at most 1,900 words of code for each node, and 1,000,000
 /// more, which its segment holds; and the frame of each is below 2^29 bytes.
-pub fn programs_fit()
+pub fn programs_are_bounded()
     ensures code { ProgramCodeFits }
     ensures frames { ProgramFramesAreSmall }
 {
-    functions_are_short();
+    functions_are_bounded();
     checked_has_type();
     bodies_are_closed();
     temporaries_are_drawn();
-    frames_are_small();
+    translate_is_bounded();
     routines_are_closed();
 }
 
@@ -68,7 +68,7 @@ pub fn programs_fit()
 pub fn small_is_enough()
     ensures enough { SmallIsEnough }
 {
-    tg_canon::sizes_stay();
-    sizes_stay();
-    code_is_short();
+    tg_canon::canon_is_bounded();
+    flatten_is_bounded();
+    munch_is_bounded();
 }

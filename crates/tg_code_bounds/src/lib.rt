@@ -8,5 +8,6 @@
 mod laws;
 
 pub use laws::{
-    functions_are_few, functions_are_short, lines_are_short, programs_fit, small_is_enough,
+    emit_is_bounded, functions_are_bounded, functions_are_few, programs_are_bounded,
+    small_is_enough,
 };

@@ -10,7 +10,7 @@ use Rattle.clap.specs.declared.builder.command.Command.{Command}
 use Rattle.clap.specs.declared.builder.command.Command.TheViews.{out-Command as fields_of}
 use Rattle.clap.specs.declared.parser.matches.ArgMatches.{ArgMatches}
 use Rattle.clap.proofs.CallerLemmas.{required_in_chain}
-use Rattle.tg_command.specs.Simple.{IsArgument, IsGiven, IsValued, flag, option, positional}
+use Rattle.tg_command.specs.Simple.{IsArgument, IsGiven, IsValued, flag_rule, option, positional}
 
 -- the names of the arguments
 abbrev names : List Text
@@ -44,7 +44,7 @@ fits rule a h named no_help no_version =
 
 module _ (a b d e f w : Arg) (is_a : IsArgument (positional (codes "mode")) a) (is_b : IsArgument (positional (codes "file")) b)
     (is_d : IsArgument (option (codes "heap")) d) (is_e : IsArgument (option (codes "stack")) e) (is_f : IsArgument (option (codes "steps")) f)
-    (is_w : IsArgument (flag (codes "watch")) w) where
+    (is_w : IsArgument (flag_rule (codes "watch")) w) where
   abbrev pub chain : List Arg
   chain = a ∷ b ∷ d ∷ e ∷ f ∷ w ∷ []
 

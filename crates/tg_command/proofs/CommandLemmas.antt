@@ -5,7 +5,7 @@ use Rattle.std.specs.Option.{unwrap_or}
 use Rattle.tg_command.specs.Counts.{GivesCount, GivesNumber}
 use Rattle.tg_command.specs.declared.counts.Limits.{Limits}
 use Rattle.tg_command.specs.Flagged.{flags_fit}
-use Rattle.tg_command.specs.Modes.{name_of}
+use Rattle.tg_command.specs.Modes.{mode_name}
 use Rattle.tg_command.specs.declared.CommandFault.{CommandFault}
 use Rattle.tg_command.specs.declared.CommandFault.TheVariants.{Usage, Memory}
 use Rattle.tg_command.specs.Commands.{Ask, Asked, Blames, IsUsageFault, flags, heap, mode, number, refused, stack, steps}
@@ -39,7 +39,7 @@ mode_named (first ∷ rest) =
     if first == 99 then Check else if first == 98 then Build else if first == 114 then Run else if first == 101 then Exec
     else if first == 97 then Alloc else if first == 102 then Format else Gen
 
-mode_named-name_of : (m : Mode) → mode_named (name_of m) ≡ m
+mode_named-name_of : (m : Mode) → mode_named (mode_name m) ≡ m
 unfolding mode_named
 mode_named-name_of Check = refl
 mode_named-name_of Build = refl
@@ -49,7 +49,7 @@ mode_named-name_of Alloc = refl
 mode_named-name_of Gen = refl
 mode_named-name_of Format = refl
 
-pub name_once : (a b : Mode) → name_of a ≡ name_of b → a ≡ b
+pub name_once : (a b : Mode) → mode_name a ≡ mode_name b → a ≡ b
 name_once a b e = sym (mode_named-name_of a) ∙ ap mode_named e ∙ mode_named-name_of b
 
 some_once : {X : Type 0} (x y : X) → Some x ≡ Some y → x ≡ y

@@ -3,7 +3,7 @@ use Rattle.std.specs.Prelude.{◌≡◌, ℕ, List, Some, true, false, codes, st
 use Rattle.tg_command.specs.Counts.{GivesCount, GivesNumber, IsWithin, function_limits, heap_limits}
 use Rattle.tg_command.specs.Counts.{stack_limits, step_limits}
 use Rattle.tg_command.specs.Flagged.{GivesFlags, flags_fit, flags_of}
-use Rattle.tg_command.specs.Modes.{name_of}
+use Rattle.tg_command.specs.Modes.{mode_name}
 use Rattle.tg_command.specs.Simple.{IsTaken, value_of}
 use Rattle.tg_command.specs.declared.Command.{Command}
 use Rattle.tg_command.specs.declared.CommandFault.{CommandFault}
@@ -47,7 +47,7 @@ pub record KeepsLimits (a : Asked) : Type 0 where
 -- the words ask for this
 pub record Ask (words : List (List ℕ)) (a : Asked) : Type 0 where
   pub taken : IsTaken words
-  pub mode : value_of (codes "mode") words ≡ Some (name_of a.mode)
+  pub mode : value_of (codes "mode") words ≡ Some (mode_name a.mode)
   pub file : value_of (codes "file") words ≡ Some a.file
   pub number : GivesNumber a.mode a.file a.number
   pub heap : GivesCount heap_limits (value_of (codes "heap") words) a.heap
@@ -59,10 +59,10 @@ pub record Ask (words : List (List ℕ)) (a : Asked) : Type 0 where
 -- `gen` FILE too, is no number within its limits, or the mode doesn't take the flags
 pub data IsUsageFault (words : List (List ℕ)) : Type 0 where
   refused : (IsTaken words → ⊥) → IsUsageFault words
-  mode : ((m : Mode) → value_of (codes "mode") words ≡ Some (name_of m) → ⊥) → IsUsageFault words
+  mode : ((m : Mode) → value_of (codes "mode") words ≡ Some (mode_name m) → ⊥) → IsUsageFault words
   number :
       (m : Mode) (file : List ℕ) →
-      value_of (codes "mode") words ≡ Some (name_of m) →
+      value_of (codes "mode") words ≡ Some (mode_name m) →
       value_of (codes "file") words ≡ Some file →
       ((n : ℕ) → GivesNumber m file n → ⊥) →
       IsUsageFault words
@@ -77,7 +77,7 @@ pub data IsUsageFault (words : List (List ℕ)) : Type 0 where
       IsUsageFault words
   flags :
       (m : Mode) →
-      value_of (codes "mode") words ≡ Some (name_of m) →
+      value_of (codes "mode") words ≡ Some (mode_name m) →
       flags_fit m (flags_of words) ≡ false →
       IsUsageFault words
 

@@ -5,11 +5,11 @@ use Rattle.tg_command.specs.declared.modes.Mode.TheVariants.{Check, Build, Run, 
 use Rattle.tg_command.specs.declared.modes.Mode.TheVariants.{Format}
 
 -- the name of a mode
-abbrev pub name_of : Mode → List ℕ
-name_of Check = codes "check"
-name_of Build = codes "build"
-name_of Run = codes "run"
-name_of Exec = codes "exec"
-name_of Alloc = codes "alloc"
-name_of Gen = codes "gen"
-name_of Format = codes "format"
+abbrev pub mode_name : Mode → List ℕ
+mode_name Check = codes "check"
+mode_name Build = codes "build"
+mode_name Run = codes "run"
+mode_name Exec = codes "exec"
+mode_name Alloc = codes "alloc"
+mode_name Gen = codes "gen"
+mode_name Format = codes "format"

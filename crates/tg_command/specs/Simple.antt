@@ -23,15 +23,15 @@ abbrev pub without_flags : App → App
 without_flags = on_top (λ s. record s { disable_help_flag = true; disable_version_flag = true })
 
 -- a flag, which has no value of its own
-abbrev pub flag : Text → Rule
-flag name = record (new_rule name) { long = Some name; action = Some SetTrue }
+abbrev pub flag_rule : Text → Rule
+flag_rule name = record (new_rule name) { long = Some name; action = Some SetTrue }
 
 abbrev pub simple_command : App
 simple_command = with_rule (with_rule (with_rule (with_rule (with_rule (with_rule
     (without_flags (new_app (codes "tiger")))
     (positional (codes "mode"))) (positional (codes "file")))
     (option (codes "heap"))) (option (codes "stack"))) (option (codes "steps")))
-    (flag (codes "watch"))
+    (flag_rule (codes "watch"))
 
 -- The simple command takes the words, of which the first is the program's name: by `clap`'s
 -- `fault_of`, which lists the kinds of error of the first step of the parse that fails, no step

@@ -1,5 +1,5 @@
 ghost use Rattle.std.specs.Prelude.{◌≡◌, IfNone, IfSome};
-ghost use Rattle.tg_command.specs.Modes.{name_of};
+ghost use Rattle.tg_command.specs.Modes.{mode_name};
 
 /// What the program does with the file.
 #[derive(Clone, Copy, Debug, PartialEq, Eq)]
@@ -20,10 +20,11 @@ pub enum Mode {
     Format,
 }
 
-/// The mode of this name, in its one spelling. Here and in `name_of` stand the names of the modes.
+/// The mode of this name, in its one spelling. Here and in `mode_name` stand the names of the
+/// modes.
 pub(crate) fn named(name: &str) -> Option<Mode>
-    ensures some { IfSome result (λ mode. name.now ≡ name_of mode) }
-    ensures none { IfNone result ((mode : Mode) → name.now ≡ name_of mode → ⊥) }
+    ensures some { IfSome result (λ mode. name.now ≡ mode_name mode) }
+    ensures none { IfNone result ((mode : Mode) → name.now ≡ mode_name mode → ⊥) }
 {
     match name {
         "check" => Some(Mode::Check),

@@ -41,7 +41,7 @@ fn option<'a>(alloc: Global, name: &'a str) -> Arg<'a>
 
 // A flag.
 fn flag<'a>(alloc: Global, name: &'a str) -> Arg<'a>
-    ensures { IsArgument (specs.flag name.entry.now) result }
+    ensures { IsArgument (specs.flag_rule name.entry.now) result }
 {
     Arg::new(alloc, name).long(name).action(ArgAction::SetTrue)
 }

@@ -10,12 +10,12 @@ ghost use Rattle.tg_compile.specs.Passes.{
 };
 
 use tg_canon::canonical_statements;
-use tg_code_bounds::programs_fit;
+use tg_code_bounds::programs_are_bounded;
 use tg_munch::code_names_its_own;
 use tg_regalloc::allocations_keep_tests;
 use tg_runtime::routines_are_closed;
 use tg_trace::{blocks_are_well_formed, code_is_well_formed};
-use tg_translate_laws::{bodies_are_closed, frames_are_small, temporaries_are_drawn};
+use tg_translate_laws::{bodies_are_closed, temporaries_are_drawn, translate_is_bounded};
 use tg_types::Checked;
 
 /// Each function of a checked program, and of the runtime, is well formed.
@@ -27,7 +27,7 @@ pub(crate) fn functions_are_well_formed(checked: &Checked)
     let _ = &checked.notes;
     bodies_are_closed();
     temporaries_are_drawn();
-    frames_are_small();
+    translate_is_bounded();
     routines_are_closed();
 }
 
@@ -69,5 +69,5 @@ pub(crate) fn compiled_is_small(checked: &Checked)
 {
     // As in `functions_are_well_formed`.
     let _ = &checked.notes;
-    programs_fit();
+    programs_are_bounded();
 }

@@ -26,7 +26,7 @@ use tg_emit::{emit, text};
 use tg_escape::escapes;
 use tg_instr::Allocated;
 use tg_irc::SpillPolicy;
-use tg_regalloc::{Allocation, Homes, Rounds};
+use tg_regalloc::{Allocation, Locations, Rounds};
 use tg_runtime::runtime;
 use tg_translate::translate;
 use tg_translate_laws::programs_are_linked;
@@ -36,7 +36,7 @@ use tg_types::Checked;
 /// What an allocation tells besides its code.
 #[derive(Drop)]
 struct Placement {
-    registers: Homes,
+    registers: Locations,
     rounds: Rounds,
     all_in_frame: bool,
     slots: u32,

@@ -23,7 +23,7 @@ use Rattle.tg_regalloc_proof.specs.Keeping.{AreHeld, Surroundings}
 use Rattle.tg_regalloc.specs.declared.allocations.Allocation.{Allocation}
 use Rattle.tg_regalloc.specs.Conditions.{is_fixed}
 use Rattle.tg_regalloc.specs.Growth.{most_steps}
-use Rattle.tg_regalloc_proof.specs.Laws.{Allocates, AllocationKeeps, functions_over}
+use Rattle.tg_regalloc_proof.specs.Laws.{Allocates, RegallocIsCorrect, functions_over}
 use Rattle.tg_code_bounds.specs.Allocating.{IsAllocationOf}
 use Rattle.tg_emit.specs.Lines.{size_of}
 use Rattle.tg_compile.specs.Passes.{CodeNamesItsOwn}
@@ -88,7 +88,7 @@ are_held codes label f e =
     let t = found_there label (map function_over codes) f e in
     subst (λ l. 4 * (f.slots + f.out) ≤ sizes_of codes l) (sym t.1) (held_at codes label f e)
 
-pub allocation_is_kept : CodeNamesItsOwn → AllocationKeeps → AllocationIsKept
+pub allocation_is_kept : CodeNamesItsOwn → RegallocIsCorrect → AllocationIsKept
 allocation_is_kept own keep p c input heap stack =
     let e : Surroundings = record {
       literals = p.trees.literals;

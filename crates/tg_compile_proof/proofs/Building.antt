@@ -12,11 +12,11 @@ use Rattle.tg_types.specs.Programs.{CheckedProgram, IsAccepted}
 use Rattle.tg_literal_bounds.specs.Laws.{TreesAreOfWords}
 use Rattle.tg_irc.specs.Policies.{Rule as SpillRule}
 use Rattle.tg_regalloc.specs.declared.allocations.Allocation.{Allocation}
-use Rattle.tg_compile_proof.specs.Laws.{CompiledIsAsMeant}
+use Rattle.tg_compile_proof.specs.Laws.{CompileIsCorrect}
 use Rattle.tg_correct.specs.Sources.{HasTree}
 use Rattle.tg_compile_proof.specs.Builds.{CompilesTo}
 use Rattle.tg_correct.specs.Assemblies.{IsAsMeant}
-use Rattle.tg_compile_proof.specs.TextLaws.{BuiltIsAsMeant}
+use Rattle.tg_compile_proof.specs.TextLaws.{BuildIsCorrect}
 
 -- a text's tree is typed under the conditions that the check asks for
 pub names_within : (text : List ℕ) (names : List (List ℕ)) (tokens : List Spanned) (program : Exp) →
@@ -41,7 +41,7 @@ is_accepted rule text allocations assembly c = record {
   accepted = c.accepted;
 }
 
-compiled_as_meant : TreesAreOfWords → CompiledIsAsMeant →
+compiled_as_meant : TreesAreOfWords → CompileIsCorrect →
     (rule : SpillRule) (text : List ℕ) (allocations : List Allocation) (assembly : List ℕ) →
     CompilesTo rule text allocations assembly → IsAsMeant text assembly
 compiled_as_meant words meant rule text allocations assembly c =
@@ -60,6 +60,6 @@ compiled_as_meant words meant rule text allocations assembly c =
       does = is.2;
     }
 
-pub build_is_correct : TreesAreOfWords → CompiledIsAsMeant → BuiltIsAsMeant
+pub build_is_correct : TreesAreOfWords → CompileIsCorrect → BuildIsCorrect
 build_is_correct words meant rule text assembly b =
     compiled_as_meant words meant rule text b.allocations assembly b.compiles

@@ -18,7 +18,7 @@ use Rattle.tg_trace.specs.Carried.{in_blocks}
 use Rattle.tg_trace.specs.Traced.{laid}
 use Rattle.tg_flatten_proof.specs.Flattened.{flattened}
 use Rattle.tg_emit.specs.Ranges.{LiteralFits}
-use Rattle.tg_munch_proof.specs.Chosen.{chosen, MayBeChosen, HasRoom, ChosenKeepWords}
+use Rattle.tg_munch_proof.specs.Chosen.{chosen, MayBeChosen, HasRoom, MunchKeepsWords}
 use Rattle.tg_compile_proof.specs.Lowering.{MayBeLowered, FlatCodeMayBeChosen}
 use Rattle.tg_emit_proof.specs.Emission.{FitRegions}
 use Rattle.tg_emit_proof.specs.LinesRun as lines
@@ -121,12 +121,12 @@ module _ (may : FlatCodeMayBeChosen) (p : Compilation) (c : IsCompiled p)
       let h = fit.heap_most in let s = fit.stack_most in
       record { sizes = all_sized; statics = statics_end; heap = omega (arith, h, s); stack = omega arith }
 
-  kept : ChosenKeepWords → (input : List ℕ) (heap stack : ℕ) → AreBytes input → FitRegions heap stack →
+  kept : MunchKeepsWords → (input : List ℕ) (heap stack : ℕ) → AreBytes input → FitRegions heap stack →
       KeepsChoice p input heap stack
   kept keep input heap stack bytes fit =
       keep (flat_code p) (frames p) (stack_top - stack) heap 32 input all_chosen
       (λ l there. bytes_at p.literals c.typed.literals l (subst (λ ls. Contains ls l) (sym c.literals) there)) bytes
       (has_room heap stack fit)
 
-pub choice_is_kept : FlatCodeMayBeChosen → ChosenKeepWords → ChoiceIsKept
+pub choice_is_kept : FlatCodeMayBeChosen → MunchKeepsWords → ChoiceIsKept
 choice_is_kept may keep p c words input heap stack bytes fit = kept may p c words keep input heap stack bytes fit

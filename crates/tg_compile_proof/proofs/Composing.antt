@@ -2,7 +2,7 @@
 use Rattle.std.proofs.Common.{ℕ, ◌-◌, ap, ◌∙◌}
 use Rattle.std.specs.Prelude.{All}
 use Rattle.std.proofs.lemmas.List.Elements.{All-contains}
-use Rattle.tg_state.specs.State.{start, stack_top}
+use Rattle.tg_state.specs.State.{initial_machine, stack_top}
 use Rattle.tg_semantics.specs.Laws.{FormsAgree}
 use Rattle.tg_semantics.specs.Passing.{evaluate_passing}
 use Rattle.tg_semantics.specs.MachineEnds.{program_run, NoEndingIsFull, OnlyStuckIsStuck}
@@ -13,20 +13,20 @@ use Rattle.tg_isa.specs.ImageRuns.{MachineStaysOver}
 use Rattle.tg_tree.specs.Tree.{Ts, Function}
 use Rattle.tg_tree.specs.Units.{Trees}
 use Rattle.tg_tree.specs.Laws.{TreesStayOver}
-use Rattle.tg_flatten_proof.specs.Laws.{TreesArePreserved}
+use Rattle.tg_flatten_proof.specs.Laws.{FlattenIsCorrect}
 use Rattle.tg_flatten_proof.specs.Flattened.{MayBeFlattened}
 use Rattle.tg_emit_laws.specs.Images.{ProgramHasImage}
 use Rattle.tg_compile.specs.Compiling.{fragments_of}
 use Rattle.tg_compile.specs.Passes.{IsWellFormed}
-use Rattle.tg_emit_proof.specs.Emission.{FitRegions, EmissionKeeps, emitted_image}
+use Rattle.tg_emit_proof.specs.Emission.{FitRegions, EmitIsCorrect, emitted_image}
 use Rattle.tg_correct.specs.Laws.{PassesAgree, AgreementIsMeant}
 use Rattle.tg_correct.specs.Images.{AreSizes}
 use Rattle.tg_compile_proof.specs.Forms.{Compilation, IsCompiled, registers, frames, tree_form, flat_form}
 use Rattle.tg_compile_proof.specs.Forms.{instruction_form, register_form, machine_form}
 use Rattle.tg_compile_proof.specs.Laws.{CompiledMayRun, ChoiceIsKept, AllocationIsKept, CompiledAgrees}
-use Rattle.tg_compile_proof.specs.Laws.{CompiledIsAsMeant, compilation_of, IsTranslated, ProgramsAreTranslated}
+use Rattle.tg_compile_proof.specs.Laws.{CompileIsCorrect, compilation_of, IsTranslated, ProgramsAreTranslated}
 
-pub compiled_agrees : CompiledMayRun → TreesArePreserved → EmissionKeeps → TreesStayOver → MachineStaysOver →
+pub compiled_agrees : CompiledMayRun → FlattenIsCorrect → EmitIsCorrect → TreesStayOver → MachineStaysOver →
     PassesAgree →
     ChoiceIsKept → AllocationIsKept → CompiledAgrees
 compiled_agrees runs flatten emit trees_stay machine_stays passes chosen allocated p c source input heap stack bytes
@@ -38,7 +38,7 @@ compiled_agrees runs flatten emit trees_stay machine_stays passes chosen allocat
     (instruction_form p input heap stack) (register_form p input heap stack) (machine_form p input heap stack)
     full unstuck
     (trees_stay Trees p.trees (frames p) floor heap 32 input)
-    (machine_stays (start image.code image.statics image.entry heap stack) input)
+    (machine_stays (initial_machine image.code image.statics image.entry heap stack) input)
     (record {
       translated = follows;
       flattened = flatten p.trees (frames p) floor heap 32 input c.may_be_flat;
@@ -56,7 +56,7 @@ pub compile_is_correct :
     IsNeverStuck → ProgramsAreTranslated →
     ((program : CheckedProgram) → IsAccepted program →
     All IsWellFormed (fragments_of program.notes program.body).functions) →
-    CompiledIsAsMeant
+    CompileIsCorrect
 compile_is_correct agrees text meant forms full only never carried formed rule program allocations assembly accepted
     compiles
     of_words = (

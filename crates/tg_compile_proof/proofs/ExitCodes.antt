@@ -9,7 +9,7 @@ use Rattle.tg_syntax.specs.Tree.{Exp}
 use Rattle.tg_simulation.specs.Bytes.{AreBytes}
 use Rattle.tg_simulation.specs.Outcomes.{End, ended, out_of_fuel, stuck}
 use Rattle.tg_semantics.specs.Values.{Value, Object, Ending, by_exit, by_heap, SourceWorld, add_heap, put_object}
-use Rattle.tg_semantics.specs.Environments.{outermost}
+use Rattle.tg_semantics.specs.Environments.{outermost_entries}
 use Rattle.tg_semantics.specs.Evaluation.{Job, meaning, program}
 use Rattle.tg_semantics.specs.Direct.{RunState, Result, gives, breaks, is_over, Direct, after, after_body, returned, fuelled}
 use Rattle.tg_semantics.specs.Direct.{found, changed, direct, begin, outcome, evaluate}
@@ -138,10 +138,10 @@ module _ (heap stack : ℕ) (small : heap < 2 ^ 32) where
   exit_is_word : (names : List (List ℕ)) (body : Exp) (input : List ℕ) (fuel code : ℕ) → IsFitExp body → AreBytes input →
       (evaluate names body input heap stack fuel).end ≡ ended (by_exit code) → code < 2 ^ 32
   exit_is_word names body input fuel code f bytes e =
-      code_small (program Direct (direct heap stack) body (outermost names) fuel (begin input fuel)) code
+      code_small (program Direct (direct heap stack) body (outermost_entries names) fuel (begin input fuel)) code
       (program_kept heap small Direct (direct heap stack) Keeps direct_keeps (λ k. meaning Direct (direct heap stack) fuel k)
       (λ k j s i. fuelled_small s.fuel s (meaning Direct (direct heap stack) fuel k) (meaning_keeps fuel k j) i)
-      body (outermost names) f (outermost_fit 0 names) (begin input fuel)
+      body (outermost_entries names) f (outermost_fit 0 names) (begin input fuel)
       (record { variables = tt; objects = tt; input = each_of_all IsByte input bytes })) e
 
 -- strings that together are short

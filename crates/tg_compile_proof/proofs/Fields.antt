@@ -17,21 +17,22 @@ use Rattle.tg_syntax.specs.Tree.{Assign, If, When, While, For, Let, Seq, LValue,
 use Rattle.tg_syntax.specs.Tree.{init, Decs, no_decs, types, variable, functions, FunDecs, no_functions, function}
 use Rattle.tg_syntax.specs.Measures.{form_size, type_size, size, place_size, exps_size, inits_size, decs_size, functions_size, inner}
 use Rattle.tg_syntax.specs.Measures.{inner_place, inner_exps, inner_inits, inner_decs, inner_functions}
-use Rattle.tg_symbols.specs.Tables.{named}
+use Rattle.tg_symbols.specs.Tables.{looked_up}
 use Rattle.tg_types.specs.declared.faults.TypeRule.{TypeRule}
 use Rattle.tg_types.specs.declared.notes.Means.{Means}
 use Rattle.tg_types.specs.declared.notes.Means.TheVariants as means
 use Rattle.tg_types.specs.declared.notes.Note.{Note}
 use Rattle.tg_types.specs.Types.{Ty, int_type, string_type, nil_type, none_type, record_type, Shape, record_shape, array_shape, same}
-use Rattle.tg_types.specs.Types.{array_type, joined}
+use Rattle.tg_types.specs.Types.{array_type, joined_type}
 use Rattle.tg_types.specs.Checks.{Noted, CheckResult, fine, fault, Check, give, refuse, keep, present, note, shape_at, add_shape, ◌>>=◌}
-use Rattle.tg_types.specs.Scopes.{Signature, Binding, variable_at, function_at, standard_one, Scope, name_of, at_of, bound, binding, in_a_loop}
-use Rattle.tg_types.specs.Scopes.{in_no_loop, outermost, signature}
+use Rattle.tg_semantics.specs.Environments.{name_of}
+use Rattle.tg_types.specs.Scopes.{Signature, Binding, variable_at, function_at, standard_one, Scope, at_of, bound, binding, in_a_loop}
+use Rattle.tg_types.specs.Scopes.{in_no_loop, outermost_scope, signature}
 use Rattle.tg_types.specs.Groups.{no_repeats, type_named, declare_types, function_names, headers, with_functions, with_params, known_form}
 use Rattle.tg_types.specs.Groups.{known_fields, known_forms, chains_end, add_form, add_forms, with_group, param_types, result_type, names_of}
 use Rattle.tg_types.specs.Groups.{known_type}
 use Rattle.tg_types.specs.Typing.{typed, typed_place, typed_last, expect_all, expect_fields, declare, bodies, expect, expect_none, needs_value}
-use Rattle.tg_types.specs.Typing.{variable_of, function_of, assignable, fields_in, fields_of, element_in, element_of, placed, select}
+use Rattle.tg_types.specs.Typing.{variable_of, function_of, assignable, fields_in, fields_of, element_type_in, element_of, placed, select}
 use Rattle.tg_types.specs.Typing.{ordered, equated, left_side, equal_sides, right_side, own_type, body_fits, start_of, place_start}
 use Rattle.tg_types.specs.Accepted.{finding_of, within_limits}
 use Rattle.tg_types.specs.Answered.{Accepts, meaning_at}
@@ -73,11 +74,11 @@ module _ (n : ℕ) where
     shapes : AllByRecursion ShapeIsFew g.shapes
     notes : AllByRecursion NoteIsFew g.notes
 
-  shape_in : (at : ℕ) (ss : List (ℕ × Shape)) (s : Shape) → AllByRecursion ShapeIsFew ss → named at ss ≡ Some s → HasFew s
+  shape_in : (at : ℕ) (ss : List (ℕ × Shape)) (s : Shape) → AllByRecursion ShapeIsFew ss → looked_up at ss ≡ Some s → HasFew s
   shape_in at [] s h e = cc
   shape_in at (one ∷ ss) s h e = by (one.0 == at) h.0 (shape_in at ss s h.1) e
     where
-      by : (b : Bool) → HasFew one.1 → (named at ss ≡ Some s → HasFew s) → (if b then Some one.1 else named at ss) ≡ Some s → HasFew s
+      by : (b : Bool) → HasFew one.1 → (looked_up at ss ≡ Some s → HasFew s) → (if b then Some one.1 else looked_up at ss) ≡ Some s → HasFew s
       by true few rest e = let is : one.1 ≡ s = cc in subst (λ x. HasFew x) is few
       by false few rest e = rest e
 
@@ -198,7 +199,7 @@ module _ (n : ℕ) where
   fields_keep none_type at = refuses _ _
   fields_keep (array_type byte) at = refuses _ _
 
-  element_in_keeps : (o : Option Shape) (at : ℕ) → Keeps Any (element_in o at)
+  element_in_keeps : (o : Option Shape) (at : ℕ) → Keeps Any (element_type_in o at)
   element_in_keeps None at = refuses _ _
   element_in_keeps (Some (record_shape fs)) at = refuses _ _
   element_in_keeps (Some (array_shape t)) at = plainly t
@@ -309,11 +310,11 @@ module _ (n : ℕ) where
   params_keep : (scope : Scope) (earlier : List Ident) (ps : List Param) → Keeps Any (param_types scope earlier ps)
   params_keep scope earlier [] = plainly []
   params_keep scope earlier (p ∷ ps) =
-      next (keeps _ _ _) λ _ _. next (presents _ _ (named (name_of p.kind) scope.types)) λ t _.
+      next (keeps _ _ _) λ _ _. next (presents _ _ (looked_up (name_of p.kind) scope.types)) λ t _.
       next (params_keep scope (p.name ∷ earlier) ps) λ ts _. plainly (t ∷ ts)
 
   any_type : (x : Ident) (scope : Scope) → Keeps Any (type_named x scope)
-  any_type x scope = record { goes = λ g h a few e. (tt, ((presents _ _ (named (name_of x) scope.types)).goes g h a few e).1) }
+  any_type x scope = record { goes = λ g h a few e. (tt, ((presents _ _ (looked_up (name_of x) scope.types)).goes g h a few e).1) }
 
   result_keeps : (scope : Scope) (r : Option Ident) → Keeps Any (result_type scope r)
   result_keeps scope None = plainly none_type
@@ -354,7 +355,7 @@ module _ (n : ℕ) where
     walk (If s c a b) scope l =
         next (walk c scope (omega (arith, l))) λ t _. next (expect_keeps int_type t (start_of c)) λ _ _.
         next (walk a scope (omega (arith, l))) λ u _. next (walk b scope (omega (arith, l))) λ v _.
-        next (keeps _ _ _) λ _ _. plainly (joined u v)
+        next (keeps _ _ _) λ _ _. plainly (joined_type u v)
     walk (When s c a) scope l =
         next (walk c scope (omega (arith, l))) λ t _. next (expect_keeps int_type t (start_of c)) λ _ _.
         next (walk a scope (omega (arith, l))) λ u _. next (none_keeps u (start_of a)) λ _ _. plainly none_type
@@ -426,14 +427,14 @@ module _ (n : ℕ) where
   by_limits few sorted None a h = recursion_from_All NoteIsFew sorted (All-permutation NoteIsFew few sorted a.0 (All-from_recursion NoteIsFew few h))
   by_limits few sorted (Some f) a h = absurd a
 
-  by_checks : (names : List (List ℕ)) (body : Exp) (sorted : List Note) (c : CheckResult Ty) → typed body (outermost names) begin ≡ c →
+  by_checks : (names : List (List ℕ)) (body : Exp) (sorted : List Note) (c : CheckResult Ty) → typed body (outermost_scope names) begin ≡ c →
       Accepts (finding_of body c) sorted → size body + inner body ≤ n → AllByRecursion NoteIsFew sorted
   by_checks names body sorted (fault rule at) is a l = absurd a
   by_checks names body sorted (fine t noted) is a l =
       by_limits noted.notes sorted (limit_fault body) a
-      ((walk body (outermost names) l).goes begin noted t (record { shapes = tt; notes = tt }) is).1.notes
+      ((walk body (outermost_scope names) l).goes begin noted t (record { shapes = tt; notes = tt }) is).1.notes
 
   pub fields_are_below : (p : CheckedProgram) → IsAccepted p → size p.body + inner p.body ≤ n → (at : ℕ) →
       field_number (meaning_at at p.notes) ≤ n
   fields_are_below p a l at =
-      meaning_few at p.notes (by_checks p.names p.body p.notes (typed p.body (outermost p.names) begin) refl a.accepted l)
+      meaning_few at p.notes (by_checks p.names p.body p.notes (typed p.body (outermost_scope p.names) begin) refl a.accepted l)

@@ -14,11 +14,12 @@ use Rattle.tg_trace.specs.Laws as trace
 use Rattle.tg_trace.specs.Laws.{BlocksAreFlat, BlocksAreWhole, CodeIsFlat, CodeIsWellMarked}
 use Rattle.tg_trace.specs.Cutting.{blocks_of}
 use Rattle.tg_flatten_proof.specs.Flattened.{flattened, flattened_code}
-use Rattle.tg_flatten_proof.specs.Laws.{TreesArePreserved}
+use Rattle.tg_flatten_proof.specs.Laws.{FlattenIsCorrect}
 use Rattle.tg_flatten_proof.specs.Laws as flattening
 use Rattle.tg_munch_proof.specs.Chosen as choosing
-use Rattle.tg_munch_proof.specs.Chosen.{ChosenKeepPrograms, ChosenKeepWords, MayBeChosen, unit_words, kept_words}
-use Rattle.tg_compile_proof.specs.Lowering.{MayBeLowered, MayRun, FlatCodeMayBeChosen, TreesKeepPrograms, TreesKeepWords}
+use Rattle.tg_munch_proof.specs.Chosen.{MunchIsCorrect, MunchKeepsWords, MayBeChosen}
+use Rattle.tg_correct.specs.Laws.{unit_words, kept_words}
+use Rattle.tg_compile_proof.specs.Lowering.{MayBeLowered, MayRun, FlatCodeMayBeChosen, LoweringIsCorrect, LoweringKeepsWords}
 
 -- tests of names: constants that are words, and temporaries below a number
 abbrev has_word : Named → Bool
@@ -81,19 +82,19 @@ each_flattened P (f ∷ fs) literals h g (zero, lt, e) = subst P e (h f (0, omeg
 each_flattened P (f ∷ fs) literals h g (suc k, lt, e) =
     each_flattened P fs literals (λ i c. h i (suc c.0, let l = c.1 in omega (arith, l), c.2)) g (k, omega (arith, lt), e)
 
-module _ (may : FlatCodeMayBeChosen) (preserved : TreesArePreserved) where
+module _ (may : FlatCodeMayBeChosen) (preserved : FlattenIsCorrect) where
   all_may : (code : Code Ts) (size : ℕ → ℕ) (floor room : ℕ) (input : List ℕ) → MayRun code size floor room input →
       (g : Function (List Linear)) → Contains (flattened_code code).functions g → MayBeChosen g
   all_may code size floor room input h =
       each_flattened MayBeChosen code.functions code.literals (λ f c. may f (h.functions f c))
 
-  pub programs_follow : ChosenKeepPrograms → TreesKeepPrograms
+  pub programs_follow : MunchIsCorrect → LoweringIsCorrect
   programs_follow keep code size floor room body input h =
       passes_compose 1 flattening.added_work 1 choosing.added_work _ _ _
       (preserved code size floor room body input (λ f c. (h.functions f c).flattened))
       (keep (flattened_code code) size floor room body input (all_may code size floor room input h) h.literals h.bytes h.fits)
 
-  pub words_follow : ChosenKeepWords → TreesKeepWords
+  pub words_follow : MunchKeepsWords → LoweringKeepsWords
   words_follow keep code size floor room body input h =
       passes_compose 1 flattening.added_work unit_words kept_words _ _ _
       (preserved code size floor room body input (λ f c. (h.functions f c).flattened))

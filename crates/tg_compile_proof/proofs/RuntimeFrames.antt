@@ -6,7 +6,7 @@ use Rattle.tg_types.specs.Programs.{CheckedProgram}
 use Rattle.tg_tree.specs.Tree.{Ts, Function}
 use Rattle.tg_tree.specs.Named as name
 use Rattle.tg_tree.specs.Named.{Named, named_ts, function_labels}
-use Rattle.tg_tree.specs.Sizes.{tree_length, tree_room}
+use Rattle.tg_tree.specs.Sizes.{tree_length, tree_needs}
 use Rattle.tg_tree.specs.FrameSizes.{IsNested, innermost, calling}
 use Rattle.tg_flatten_proof.specs.Flattened.{MayBeFlattened}
 use Rattle.tg_instr.proofs.Tests.{all_at}
@@ -68,7 +68,7 @@ module _ (above : LabelsAreAbove) (routines : AllAreRoutines) (small : FramesAre
       let size = size_is p c there.0 there.1 in
       let bound = small rule t.function t.allocation (subst MayBeFlattened (sym is) (c.may_be_flat f there)) t.is in
       let short = subst (λ (g : Function Ts). tree_length g ≤ 300) (sym is) r.short in
-      let room = subst (λ (g : Function Ts). tree_room g ≤ 300) (sym is) r.small in
+      let room = subst (λ (g : Function Ts). tree_needs g ≤ 300) (sym is) r.small in
       let low : frames p t.function.label ≤ 4096 = omega (arith, size, bound, short, room) in
       subst (λ (g : Function Ts). frames p g.label ≤ 4096) is low
 

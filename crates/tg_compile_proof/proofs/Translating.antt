@@ -6,14 +6,14 @@ use Rattle.tg_state.specs.State.{most_bytes}
 use Rattle.tg_escape.specs.Links.{links_of}
 use Rattle.tg_tree.specs.Memory.{statics_of}
 use Rattle.tg_translate_laws.specs.Laws.{ProgramsAreLinked}
-use Rattle.tg_translate_proof.specs.Laws.{MeaningIsKept, trees_of}
+use Rattle.tg_translate_proof.specs.Laws.{TranslateIsCorrect, trees_of}
 use Rattle.tg_stack_bounds.specs.Weights.{AcceptedTreesAreLight, ProgramFramesAreLight}
 use Rattle.tg_compile_proof.specs.Forms.{Compilation, frames}
 use Rattle.tg_compile_proof.specs.Laws.{compilation_of, FramesAreSizesOfTrees, RuntimeFramesFit, FragmentsHaveWords}
 use Rattle.tg_compile_proof.specs.Laws.{ProgramsAreTranslated}
 use Rattle.tg_compile_proof.proofs.Sizes.{sizes_are_allowed, statics_are}
 
-pub programs_are_translated : MeaningIsKept → AcceptedTreesAreLight → ProgramFramesAreLight → ProgramsAreLinked → FramesAreSizesOfTrees →
+pub programs_are_translated : TranslateIsCorrect → AcceptedTreesAreLight → ProgramFramesAreLight → ProgramsAreLinked → FramesAreSizesOfTrees →
     RuntimeFramesFit → FragmentsHaveWords → ProgramsAreTranslated
 programs_are_translated kept light weigh linked sizes fits words rule program allocations literals accepted of_words c =
     let p : Compilation = compilation_of rule program allocations literals in

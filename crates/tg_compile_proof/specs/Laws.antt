@@ -125,8 +125,8 @@ FragmentsHaveWords =
 
 -- An accepted program whose ints are words is compiled to a text whose image does what the program
 -- means.
-abbrev pub CompiledIsAsMeant : Type 0
-CompiledIsAsMeant =
+abbrev pub CompileIsCorrect : Type 0
+CompileIsCorrect =
     (rule : Rule) (program : CheckedProgram) (allocations : List Allocation) (text : List ℕ) →
     IsAccepted program →
     Compiles rule program.notes program.body allocations text →

@@ -16,7 +16,8 @@ use Rattle.tg_instr.specs.Running.{everywhere, code_run}
 use Rattle.tg_munch_proof.specs.Words.{IsWord}
 use Rattle.tg_munch_proof.specs.Chosen as choosing
 use Rattle.tg_munch_proof.specs.Places.{each_one}
-use Rattle.tg_munch_proof.specs.Chosen.{chosen_code, unit_words, kept_words, MayBeChosen}
+use Rattle.tg_correct.specs.Laws.{unit_words, kept_words}
+use Rattle.tg_munch_proof.specs.Chosen.{chosen_code, MayBeChosen}
 use Rattle.tg_munch_proof.specs.Chosen.{HasRoom}
 
 -- a function of trees that the passes take: it may be flattened, its constants are words, and its
@@ -48,8 +49,8 @@ added_work = flattening.added_work + choosing.added_work
 
 -- Instructions do what the trees did, with at least as much fuel, the same output, input left and
 -- end, and hardly more work.
-abbrev pub TreesKeepPrograms : Type 0
-TreesKeepPrograms =
+abbrev pub LoweringIsCorrect : Type 0
+LoweringIsCorrect =
     (code : Code Ts) (size : ℕ → ℕ) (floor room body : ℕ) (input : List ℕ) →
     MayRun code size floor room input →
     Preserves 1 added_work
@@ -61,8 +62,8 @@ abbrev pub added_words : ℕ
 added_words = unit_words * flattening.added_work + kept_words
 
 -- Counted in words, they do so many times the work.
-abbrev pub TreesKeepWords : Type 0
-TreesKeepWords =
+abbrev pub LoweringKeepsWords : Type 0
+LoweringKeepsWords =
     (code : Code Ts) (size : ℕ → ℕ) (floor room body : ℕ) (input : List ℕ) →
     MayRun code size floor room input →
     Preserves unit_words added_words

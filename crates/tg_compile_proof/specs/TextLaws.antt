@@ -18,8 +18,8 @@ use Rattle.tg_correct.specs.Sources.{IsSourceOf}
 
 -- The headline: whatever the policy, an assembly text that a source is built to has an image that
 -- does what the source means.
-abbrev pub BuiltIsAsMeant : Type 0
-BuiltIsAsMeant =
+abbrev pub BuildIsCorrect : Type 0
+BuildIsCorrect =
     (rule : SpillRule) (text assembly : List ℕ) →
     Builds rule text assembly → IsAsMeant text assembly
 

@@ -2,7 +2,7 @@ ghost use Rattle.tg_compile_proof.specs.Laws.{
   AllocationIsKept,
   ChoiceIsKept,
   CompiledAgrees,
-  CompiledIsAsMeant,
+  CompileIsCorrect,
   CompiledMayRun,
   FragmentsHaveWords,
   FramesAreSizes,
@@ -12,17 +12,17 @@ ghost use Rattle.tg_compile_proof.specs.Laws.{
 };
 ghost use Rattle.tg_compile_proof.specs.Lowering.{
   FlatCodeMayBeChosen,
-  TreesKeepPrograms,
-  TreesKeepWords,
+  LoweringIsCorrect,
+  LoweringKeepsWords,
 };
 ghost use Rattle.tg_compile_proof.specs.TextLaws.{
-  BuiltIsAsMeant,
+  BuildIsCorrect,
   EndedIsMeant,
   ExitsAreWords,
   RunningIsMeant,
 };
 
-use tg_code_bounds::functions_are_short;
+use tg_code_bounds::functions_are_bounded;
 use tg_correct::{ends_tell, image_agrees, passes_agree};
 use tg_emit_laws::program_has_image;
 use tg_emit_proof::emit_is_correct;
@@ -36,8 +36,8 @@ use tg_runtime::routines_are_closed;
 use tg_semantics::{forms_agree, programs_as_sources};
 use tg_stack_bounds::{frames_are_light, trees_are_light};
 use tg_translate_laws::{
-    bodies_are_closed, constants_are_words, frames_are_small, programs_are_linked,
-    temporaries_are_drawn,
+    bodies_are_closed, constants_are_words, programs_are_linked, temporaries_are_drawn,
+    translate_is_bounded,
 };
 use tg_translate_proof::translate_is_correct;
 use tg_tree::trees_run;
@@ -50,8 +50,8 @@ use tg_types::{checked_has_type, never_stuck};
 /// the words that come of it.
 pub fn lowering_is_correct()
     ensures may { FlatCodeMayBeChosen }
-    ensures programs { TreesKeepPrograms }
-    ensures words { TreesKeepWords }
+    ensures programs { LoweringIsCorrect }
+    ensures words { LoweringKeepsWords }
 {
     flatten_is_correct();
     tg_canon::canonical_statements();
@@ -76,7 +76,7 @@ pub fn runtime_frames_fit()
 {
     programs_are_linked();
     routines_are_closed();
-    functions_are_short();
+    functions_are_bounded();
 }
 
 /// The law of constants: those of an accepted program's trees, and of the runtime's, are words.
@@ -137,7 +137,7 @@ pub fn programs_are_translated()
 /// The headline: an accepted program whose ints are words is compiled to a text whose image does
 /// what the program means.
 pub fn compile_is_correct()
-    ensures { CompiledIsAsMeant }
+    ensures { CompileIsCorrect }
 {
     programs_are_translated();
     compiled_agrees();
@@ -148,14 +148,14 @@ pub fn compile_is_correct()
     never_stuck();
     bodies_are_closed();
     temporaries_are_drawn();
-    frames_are_small();
+    translate_is_bounded();
     routines_are_closed();
 }
 
 /// The headline: an assembly text that a source is built to has an image that does what the source
 /// means. It does nothing.
 pub fn build_is_correct()
-    ensures { BuiltIsAsMeant }
+    ensures { BuildIsCorrect }
 {
     trees_are_of_words();
     compile_is_correct();

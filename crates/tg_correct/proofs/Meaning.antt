@@ -3,7 +3,7 @@ use Rattle.std.proofs.Common.{◌≡◌, ◌≤◌, ◌<◌, ◌*◌, ℕ, List,
 use Rattle.std.proofs.Common.{refl, sym, ap, ◌∙◌, subst}
 use Rattle.tg_state.specs.declared.ends.RunEnd.{RunEnd}
 use Rattle.tg_state.specs.declared.ends.RunEnd.TheVariants.{StackFull}
-use Rattle.tg_state.specs.State.{MachineState, start}
+use Rattle.tg_state.specs.State.{MachineState, initial_machine}
 use Rattle.tg_simulation.specs.Ran as ran
 use Rattle.tg_simulation.specs.Ran.{Ran, Stop, WantsFuel, stops, writes, works}
 use Rattle.tg_simulation.specs.Outcomes.{End, ended, out_of_fuel, stuck, Outcome, map_end}
@@ -175,4 +175,4 @@ agreement_is_meant runs works_so_much forms names program image input heap stack
     (λ m. runs_to image input heap stack m)
     (λ n. forms names program input heap stack n)
     (meant runs works_so_much stack (λ n. evaluate_passing names program input heap stack n)
-    (start image.code image.statics image.entry heap stack) input agrees full)
+    (initial_machine image.code image.statics image.entry heap stack) input agrees full)

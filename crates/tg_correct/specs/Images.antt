@@ -3,7 +3,7 @@
 use Rattle.std.specs.Prelude.{ℕ, ◌+◌, ◌*◌, ◌%◌, ◌≡◌, ◌≢◌, ◌≤◌, ◌<◌, ◌⊎◌, List, Some}
 use Rattle.tg_state.specs.declared.ends.RunEnd.{RunEnd}
 use Rattle.tg_state.specs.declared.ends.RunEnd.TheVariants.{StackFull}
-use Rattle.tg_state.specs.State.{start, most_room}
+use Rattle.tg_state.specs.State.{initial_machine, most_room}
 use Rattle.tg_syntax.specs.Tree.{Exp}
 use Rattle.tg_simulation.specs.Outcomes.{ended, out_of_fuel, Outcome}
 use Rattle.tg_simulation.specs.Bytes.{AreBytes, IsPrefix, least_frame}
@@ -24,7 +24,8 @@ pub record AreSizes (heap stack : ℕ) : Type 0 where
 -- an image on an input, with so many bytes of heap and of stack, after at most so many steps
 abbrev pub runs_to : Assembled → (input : List ℕ) → (heap stack steps : ℕ) → Progress
 runs_to image input heap stack steps =
-    run steps (begun (start image.code image.statics image.entry heap stack) (answers input))
+    run steps
+    (begun (initial_machine image.code image.statics image.entry heap stack) (answers input))
 
 -- what was written is the whole output of the program, and the input that is left is what it
 -- leaves

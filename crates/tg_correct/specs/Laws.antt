@@ -1,6 +1,6 @@
 -- What the passes promise of one program, each with its constants, and what comes of it together.
 use Rattle.std.specs.Prelude.{ℕ, List}
-use Rattle.tg_state.specs.State.{start}
+use Rattle.tg_state.specs.State.{initial_machine}
 use Rattle.tg_syntax.specs.Tree.{Exp}
 use Rattle.tg_simulation.specs.Runs.{Run}
 use Rattle.tg_simulation.specs.Ran.{Ran, StaysOver}
@@ -67,7 +67,7 @@ AgreementIsMeant =
     (heap stack : ℕ) →
     let source = program_run names program input heap stack in
     let machine =
-    machine_run (start image.code image.statics image.entry heap stack) input in
+    machine_run (initial_machine image.code image.statics image.entry heap stack) input in
     by_fuel.Agrees most_work most_besides source machine →
     FillsStack stack source machine →
     RunsAsMeant stack

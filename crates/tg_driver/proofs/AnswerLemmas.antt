@@ -10,7 +10,7 @@ use Rattle.tg_machine.specs.Machines.{Simulated, loaded}
 use Rattle.tg_machine.specs.Ran.{IsSimulation}
 use Rattle.tg_base.specs.declared.outside.ShelfFault.{ShelfFault}
 use Rattle.tg_base.specs.declared.outside.ShelfFault.TheVariants.{Failed, Memory}
-use Rattle.tg_base.specs.Files.{IsFrontOf}
+use Rattle.tg_base.specs.Files.{IsFilePrefix}
 use Rattle.tg_isa.specs.declared.images.Image.{Image}
 use Rattle.tg_asm_text.specs.Assembly.{assembled}
 use Rattle.tg_asm.specs.Images.{image_of}
@@ -42,7 +42,7 @@ use Rattle.tg_driver.specs.Answered as answered
 
 -- the answer is due to the front of a file, or the file wasn't read
 pub of_text : {H : Type 0} (shelf : Shelved H) (name : List ℕ) (most : ℕ) (due : List ℕ → Answer → Type 0) (text : List ℕ) (answer : Answer) →
-    IsFrontOf (shelf.files shelf.before) name most text → OrMemory (Unit {0}) (due text) answer → OrMemory (Unit {0}) (OfFile shelf name most due) answer
+    IsFilePrefix (shelf.files shelf.before) name most text → OrMemory (Unit {0}) (due text) answer → OrMemory (Unit {0}) (OfFile shelf name most due) answer
 of_text shelf name most due text OutOfMemory front h = tt
 of_text shelf name most due text _ front h = read text front h
 

@@ -2,7 +2,7 @@
 use Rattle.std.proofs.Common.{ℕ, ◌≡◌, ◌≤◌, ◌⊎◌, inl, inr, List, [], ◌++◌, Option, Some, None, take, append-nil, refl, sym, subst, arith}
 use Rattle.std.specs.Io.KnownBytes.{Appends}
 use Rattle.tg_base.specs.Causes.{Rose}
-use Rattle.tg_base.specs.Files.{Files, IsFrontOf}
+use Rattle.tg_base.specs.Files.{Files, IsFilePrefix}
 use Rattle.tg_state.specs.declared.ends.RunEnd.{RunEnd}
 use Rattle.tg_state.specs.declared.ends.RunEnd.TheVariants.{Exit, Break, Overflow, HeapFull, StackFull, StepLimit, BadAddress, Unaligned, BadWord}
 use Rattle.tg_state.specs.declared.ends.RunEnd.TheVariants.{BadService, ReadFault, WriteFault}
@@ -36,12 +36,12 @@ use Rattle.tg_driver.proofs.CanonicalTexts.{of_formatted}
 
 -- the front of a file that the shelf holds
 front_is : (files : Files) (name : List ℕ) (most : ℕ) (text file : List ℕ) (at : List ℕ → Option (List ℕ)) → files ≡ Some at →
-    at name ≡ Some file → IsFrontOf files name most text → text ≡ take most file
+    at name ≡ Some file → IsFilePrefix files name most text → text ≡ take most file
 front_is files name most text file at tells holds front =
-    let P : Files → Type 0 = λ f. IsFrontOf f name most text in
+    let P : Files → Type 0 = λ f. IsFilePrefix f name most text in
     held at (subst P tells front) holds
   where
-    held : (at : List ℕ → Option (List ℕ)) → IsFrontOf (Some at) name most text → at name ≡ Some file → text ≡ take most file
+    held : (at : List ℕ → Option (List ℕ)) → IsFilePrefix (Some at) name most text → at name ≡ Some file → text ≡ take most file
     held at front holds = rw holds at front
 
 -- the answer to the text of the file, where that can be read

@@ -3,7 +3,7 @@ use Rattle.std.proofs.Common.{ℕ, ◌≡◌, List, [], ◌++◌, Option, Some, 
 use Rattle.std.specs.Io.KnownBytes.{Appends}
 use Rattle.tg_state.specs.declared.ends.RunEnd.{RunEnd}
 use Rattle.tg_state.specs.declared.ends.RunEnd.TheVariants.{ReadFault, WriteFault}
-use Rattle.tg_state.specs.State.{start}
+use Rattle.tg_state.specs.State.{initial_machine}
 use Rattle.tg_isa.specs.declared.images.Image.{Image}
 use Rattle.tg_isa.specs.Runs.{Execution, run, begun, answers}
 use Rattle.tg_machine.specs.Ran.{Stops, still, ended, read_failed, write_failed, Tells}
@@ -39,7 +39,7 @@ exact_run s image heap stack steps end bytes h tells f =
     let r = h.ran in
     let T : Option (List ℕ) → Type 0 = λ o. Tells o r.input_before in
     let same : r.input_before ≡ answers bytes = subst T tells r.told in
-    let S : List (Option ℕ) → Type 0 = λ i. Stops steps (begun (start image.code image.statics image.entry heap stack) i) end r.last r.front in
+    let S : List (Option ℕ) → Type 0 = λ i. Stops steps (begun (initial_machine image.code image.statics image.entry heap stack) i) end r.last r.front in
     let c = comes steps _ end r.last r.front (λ d. f.all_read (ap Finished d)) (λ d. f.all_written (ap Finished d)) (subst S same r.stops) in
     let W : List ℕ → Type 0 = λ w. Appends (s.out.told s.out.before) (s.out.told s.out.after) w in
     let R : Execution → Type 0 = λ w. Tells (s.input.told s.input.after) w.input in
@@ -67,7 +67,7 @@ ends_as_told s image heap stack steps end read written h bytes tells =
     let r = h.ran in
     let T : Option (List ℕ) → Type 0 = λ o. Tells o r.input_before in
     let same : r.input_before ≡ answers bytes = subst T tells r.told in
-    let S : List (Option ℕ) → Type 0 = λ i. Stops steps (begun (start image.code image.statics image.entry heap stack) i) end r.last r.front in
+    let S : List (Option ℕ) → Type 0 = λ i. Stops steps (begun (initial_machine image.code image.statics image.entry heap stack) i) end r.last r.front in
     (comes steps _ end r.last r.front read written (subst S same r.stops)).end_is
 
 pub ends_faultless : {I O : Type 0} (s : Streams I O) (image : Image) (heap stack steps : ℕ) (end : RunEnd) →
@@ -91,6 +91,6 @@ exact_reports s reporters reports image heap stack steps end bytes read written 
     let r = h.fetched.watched.simulation in
     let T : Option (List ℕ) → Type 0 = λ o. Tells o r.input_before in
     let same : r.input_before ≡ answers bytes = subst T tells r.told in
-    let first = start image.code image.statics image.entry heap stack in
+    let first = initial_machine image.code image.statics image.entry heap stack in
     let seen = h.fetched.watched.seen_is ∙ fetched steps _ end r.last r.front r.stops read written ∙ ap (λ i. fetches steps (begun first i)) same in
     h.reports_are ∙ ap (λ l. reports_text reporters l (length image.code)) seen

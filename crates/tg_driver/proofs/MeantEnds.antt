@@ -7,7 +7,7 @@ use Rattle.std.specs.Io.KnownBytes.{Appends}
 use Rattle.tg_base.specs.Causes.{Rose}
 use Rattle.tg_state.specs.declared.ends.RunEnd.{RunEnd}
 use Rattle.tg_state.specs.declared.ends.RunEnd.TheVariants.{ReadFault, WriteFault}
-use Rattle.tg_state.specs.State.{start}
+use Rattle.tg_state.specs.State.{initial_machine}
 use Rattle.tg_simulation.specs.Bytes.{AreBytes}
 use Rattle.tg_simulation.specs.Outcomes as over
 use Rattle.tg_semantics.specs.Values.{Ending, normal, by_nil, by_index, by_division, by_chr}
@@ -50,7 +50,7 @@ module _ (ends : EndedIsMeant) (goes_on : RunningIsMeant) where
   -- a run of the machine whose reads and writes all passed
   by_stop : (text assembly : List ℕ) (m : IsAsMeant text assembly) (bytes : List ℕ) (heap stack steps : ℕ) (e : RunEnd)
       (last : Execution) (front : List ℕ) → AreBytes bytes → AreSizes heap stack → (e ≡ ReadFault → ⊥) → (e ≡ WriteFault → ⊥) →
-      Stops steps (begun (start m.image.code m.image.statics m.image.entry heap stack) (answers bytes)) e last front →
+      Stops steps (begun (initial_machine m.image.code m.image.statics m.image.entry heap stack) (answers bytes)) e last front →
       EndIsMeant (λ turns. evaluate m.names m.program bytes heap stack turns) steps e last
   by_stop text assembly m bytes heap stack steps e last front are sizes r s (still q p f) =
       let P : RunEnd → Type 0 = λ x. EndIsMeant (λ turns. evaluate m.names m.program bytes heap stack turns) steps x last in
@@ -68,8 +68,9 @@ module _ (ends : EndedIsMeant) (goes_on : RunningIsMeant) where
       let r = h.ran in
       let T : Option (List ℕ) → Type 0 = λ o. Tells o r.input_before in
       let same : r.input_before ≡ answers bytes = subst T tells r.told in
-      let S : List (Option ℕ) → Type 0 = λ i. Stops steps (begun (start image.code image.statics image.entry heap stack) i) end r.last r.front in
-      let Q : Assembled → Type 0 = λ (i : Assembled). Stops steps (begun (start i.code i.statics i.entry heap stack) (answers bytes)) end r.last r.front in
+      let S : List (Option ℕ) → Type 0 = λ i. Stops steps (begun (initial_machine image.code image.statics image.entry heap stack) i) end r.last r.front in
+      let Q : Assembled → Type 0 =
+          λ (i : Assembled). Stops steps (begun (initial_machine i.code i.statics i.entry heap stack) (answers bytes)) end r.last r.front in
       let stops = subst Q (one_image assembly (image_of image) m.image assembles m.assembles) (subst S same r.stops) in
       let W : List ℕ → Type 0 = λ w. Appends (s.out.told s.out.before) (s.out.told s.out.after) w in
       let none = no_front steps _ end r.last r.front read written r.stops in

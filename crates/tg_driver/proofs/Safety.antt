@@ -4,10 +4,10 @@ use Rattle.std.proofs.Common.{ℕ, ◌≡◌, ◌≤◌, ◌+◌, ◌⊎◌, inl
 use Rattle.std.proofs.lemmas.Bool.Decides.{nat_tests}
 use Rattle.std.specs.Io.KnownBytes.{Appends}
 use Rattle.tg_base.specs.Causes.{Rose}
-use Rattle.tg_base.specs.Files.{IsFrontOf}
-use Rattle.tg_state.specs.State.{start}
+use Rattle.tg_base.specs.Files.{IsFilePrefix}
+use Rattle.tg_state.specs.State.{initial_machine}
 use Rattle.tg_state.specs.Services.{Writes}
-use Rattle.tg_base.specs.Writes.{TakesFront}
+use Rattle.tg_base.specs.Writes.{TakesPrefix}
 use Rattle.tg_state.specs.declared.ends.RunEnd.{RunEnd}
 use Rattle.tg_state.specs.declared.ends.RunEnd.TheVariants.{Exit, Break, ReadFault, WriteFault}
 use Rattle.tg_isa.specs.declared.images.Image.{Image}
@@ -48,7 +48,7 @@ use Rattle.tg_watch.proofs.Pieces.{front_later}
 
 -- a sink that took a text took a front of it
 takes_front : {T A : Type 0} (sink : Stream T) (due : List ℕ) (whole failed result : A) → Takes sink due whole failed result →
-    TakesFront (sink.told sink.before) (sink.told sink.after) due
+    TakesPrefix (sink.told sink.before) (sink.told sink.after) due
 takes_front sink due whole failed result (nothing none is stays) = ([], due, refl, none_taken sink [] refl stays)
 takes_front sink due whole failed result (all some is a) = (due, [], sym (append-nil due), a)
 takes_front sink due whole failed result (part is some f front) = front
@@ -88,7 +88,7 @@ module _ (n : ℕ) (w : Execution) (end : RunEnd) where
 
 -- a run in a mode, and what its output took
 run_reached : {I O : Type 0} (s : Streams I O) (image : Image) (heap stack steps : ℕ) (end : RunEnd) (h : HasRun s image heap stack steps end) →
-    Reached steps (begun (start image.code image.statics image.entry heap stack) h.ran.input_before) end (h.ran.last.output ++ h.ran.front)
+    Reached steps (begun (initial_machine image.code image.statics image.entry heap stack) h.ran.input_before) end (h.ran.last.output ++ h.ran.front)
 run_reached s image heap stack steps end h = reached steps _ end h.ran.last h.ran.front h.ran.stops
 
 output_of : {I O : Type 0} (s : Streams I O) (mode : Mode) (a : Asked) (text : List ℕ) (image : Image) (end : RunEnd) →
@@ -110,31 +110,31 @@ output_of s mode a text image end is h =
 after_summary : {O : Type 0} (out : Stream O) (between : O) (functions source count : ℕ) (end : RunEnd) (answer : Answer) (front rest : List ℕ) →
     ((end ≡ WriteFault → ⊥) → rest ≡ []) → Appends (out.told out.before) (out.told between) front →
     Summed (stream_of out.told out.faults between out.after) functions source count end answer →
-    TakesFront (out.told out.before) (out.told out.after) ((front ++ rest) ++ summary functions source count (end_status end))
+    TakesPrefix (out.told out.before) (out.told out.after) ((front ++ rest) ++ summary functions source count (end_status end))
 after_summary {O} out between functions source count end answer front rest whole written (cut is stays answered) =
     let line = summary functions source count (end_status end) in
-    let P : O → Type 0 = λ o. TakesFront (out.told out.before) (out.told o) ((front ++ rest) ++ line) in
+    let P : O → Type 0 = λ o. TakesPrefix (out.told out.before) (out.told o) ((front ++ rest) ++ line) in
     subst P (sym stays) (front, rest ++ line, append_assoc front rest line, written)
 after_summary {O} out between functions source count end answer front rest whole written (summed other takes) =
     let line = summary functions source count (end_status end) in
     let later = stream_of out.told out.faults between out.after in
-    let P : List ℕ → Type 0 = λ l. TakesFront (out.told out.before) (out.told out.after) (l ++ line) in
+    let P : List ℕ → Type 0 = λ l. TakesPrefix (out.told out.before) (out.told out.after) (l ++ line) in
     subst P (sym (ap (λ r. front ++ r) (whole other) ∙ append-nil front))
     (front_later _ _ _ front line written (takes_front later line (Finished end) Unwritten answer takes))
 
 -- what a mode wrote by an answer
 record Wrote {H I O : Type 0} (rule : SpillRule) (mode : Mode) (shelf : Shelved H) (s : Streams I O) (a : Asked) : Type 0 where
   text : List ℕ
-  reads : ReadsFile mode → IsFrontOf (shelf.files shelf.before) a.file (most_of mode) text
+  reads : ReadsFile mode → IsFilePrefix (shelf.files shelf.before) a.file (most_of mode) text
   generates : mode ≡ Gen → text ≡ generated a.number
   written : List ℕ
   has_to : HasToWrite rule (s.input.told s.input.before) mode a text written
-  takes : TakesFront (s.out.told s.out.before) (s.out.told s.out.after) written
+  takes : TakesPrefix (s.out.told s.out.before) (s.out.told s.out.after) written
 
 -- an answer to a file that started is due to its text
 of_file : {H : Type 0} (shelf : Shelved H) (name : List ℕ) (most : ℕ) (due : List ℕ → Answer → Type 0) (answer : Answer) {G : Type 0} →
     HasStarted answer → OfFile shelf name most due answer →
-    ((text : List ℕ) → IsFrontOf (shelf.files shelf.before) name most text → due text answer → G) → G
+    ((text : List ℕ) → IsFilePrefix (shelf.files shelf.before) name most text → due text answer → G) → G
 of_file shelf name most due answer started (unreadable is u) then = absurd (subst HasStarted is started)
 of_file shelf name most due answer started (read text front h) then = then text front h
 
@@ -142,7 +142,7 @@ module _ {H I O : Type 0} (rule : SpillRule) (shelf : Shelved H) (s : Streams I 
   -- a text of a source
   wrote_text : (mode : Mode) (writes : TextRelation) (answer : Answer) (text : List ℕ) → (mode ≡ Gen → ⊥) →
       ((written : List ℕ) → writes text written → HasToWrite rule (s.input.told s.input.before) mode a text written) →
-      IsFrontOf (shelf.files shelf.before) a.file (most_of mode) text → HasStarted answer → IsWritten s.out writes text answer → Wrote rule mode shelf s a
+      IsFilePrefix (shelf.files shelf.before) a.file (most_of mode) text → HasStarted answer → IsWritten s.out writes text answer → Wrote rule mode shelf s a
   wrote_text mode writes Written text other has front started h = record {
     text = text;
     reads = λ _. front;
@@ -165,7 +165,7 @@ module _ {H I O : Type 0} (rule : SpillRule) (shelf : Shelved H) (s : Streams I 
   -- a run of an image
   wrote_run : (mode : Mode) (text : List ℕ) (image : Image) (end : RunEnd) → (mode ≡ Gen → ⊥) →
       ((written : List ℕ) → IsOutput (s.input.told s.input.before) mode a text written → HasToWrite rule (s.input.told s.input.before) mode a text written) →
-      IsFrontOf (shelf.files shelf.before) a.file (most_of mode) text → IsImageOf mode text image → HasRun s image a.heap a.stack a.steps end →
+      IsFilePrefix (shelf.files shelf.before) a.file (most_of mode) text → IsImageOf mode text image → HasRun s image a.heap a.stack a.steps end →
       Wrote rule mode shelf s a
   wrote_run mode text image end other has front is h = record {
     text = text;
@@ -176,7 +176,7 @@ module _ {H I O : Type 0} (rule : SpillRule) (shelf : Shelved H) (s : Streams I 
     takes = (h.ran.last.output ++ h.ran.front, (run_reached s image a.heap a.stack a.steps end h).rest, refl, h.ran.writes);
   }
 
-  wrote_meant : (answer : Answer) (text : List ℕ) → IsFrontOf (shelf.files shelf.before) a.file 262145 text → HasStarted answer →
+  wrote_meant : (answer : Answer) (text : List ℕ) → IsFilePrefix (shelf.files shelf.before) a.file 262145 text → HasStarted answer →
       IsRun (HasRun s) a text answer → Wrote rule Run shelf s a
   wrote_meant (Finished end) text front started h =
       wrote_run Run text h.ran.image end (λ is. absurd (cc)) (λ written o. o) front
@@ -184,7 +184,7 @@ module _ {H I O : Type 0} (rule : SpillRule) (shelf : Shelved H) (s : Streams I 
   wrote_meant (Faulty f) text front started h = absurd started
   wrote_meant _ text front started h = absurd h
 
-  wrote_executed : (answer : Answer) (text : List ℕ) → IsFrontOf (shelf.files shelf.before) a.file 67108865 text → HasStarted answer →
+  wrote_executed : (answer : Answer) (text : List ℕ) → IsFilePrefix (shelf.files shelf.before) a.file 67108865 text → HasStarted answer →
       IsExecuted (HasRun s) a text answer → Wrote rule Exec shelf s a
   wrote_executed (Finished end) text front started h = wrote_run Exec text h.image end (λ is. absurd (cc)) (λ written o. o) front h.assembles h.run
   wrote_executed TooLong text front started h = absurd started
@@ -235,7 +235,7 @@ module _ {H I O : Type 0} (rule : SpillRule) (shelf : Shelved H) (s : Streams I 
   wrote Gen answer started h = wrote_summary answer h.3
   wrote Format answer started h = of_file shelf a.file 262145 _ answer started h.2 (λ text front due. formatted answer text front started due)
     where
-      formatted : (answer : Answer) (text : List ℕ) → IsFrontOf (shelf.files shelf.before) a.file 262145 text → HasStarted answer →
+      formatted : (answer : Answer) (text : List ℕ) → IsFilePrefix (shelf.files shelf.before) a.file 262145 text → HasStarted answer →
           IsFormatted s.out text answer → Wrote rule Format shelf s a
       formatted Written text front started h = wrote_text Format Formats Written text (λ is. absurd (cc)) (λ written is. is) front started h
       formatted Unwritten text front started h = wrote_text Format Formats Unwritten text (λ is. absurd (cc)) (λ written is. is) front started h

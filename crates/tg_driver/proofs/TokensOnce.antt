@@ -14,7 +14,7 @@ use Rattle.tg_syntax.specs.declared.tokens.Token.TheVariants as kind
 use Rattle.tg_syntax.specs.declared.tokens.Spanned.{Spanned}
 use Rattle.tg_syntax.specs.Spellings.{Spells}
 use Rattle.tg_syntax.specs.Lexing.{Lexes, ends, blank, comment, token, spanned}
-use Rattle.tg_lexer.specs.Numbering.{named, all_named, idents, ident_text}
+use Rattle.tg_lexer.specs.Numbering.{with_name, all_named, idents, ident_text}
 use Rattle.tg_lexer.proofs.Interning.{slice_get-more}
 use Rattle.tg_lexer.proofs.Onces.{lexes_once}
 use Rattle.tg_correct.specs.Sources.{HasTokens}
@@ -37,7 +37,7 @@ get-shift (x ∷ names) more n =
 in_more : (t : List ℕ) (names more : List (List ℕ)) → IsIn t names → IsIn t (names ++ more)
 in_more t names more h = record { at = h.at; is = slice_get-more names more h.at t h.is }
 
-in_named : (t s : List ℕ) (names : List (List ℕ)) → IsIn t names → IsIn t (named names s)
+in_named : (t s : List ℕ) (names : List (List ℕ)) → IsIn t names → IsIn t (with_name names s)
 in_named t s names h = by (is_among s names)
   where
     by : (b : Bool) → IsIn t (cond b names (names ++ s ∷ []))
@@ -50,7 +50,7 @@ among_in t names e =
     let same : t ≡ a.1 = (bytes_eq-Decides t a.1).0 a.4 in
     record { at = a.0; is = slice_get-get_or names a.0 a.1 a.2 ∙ ap Some (a.3 ∙ sym same) }
 
-is_named : (t : List ℕ) (names : List (List ℕ)) → IsIn t (named names t)
+is_named : (t : List ℕ) (names : List (List ℕ)) → IsIn t (with_name names t)
 is_named t names = by (is_among t names) refl
   where
     by : (b : Bool) → is_among t names ≡ b → IsIn t (cond b names (names ++ t ∷ []))
@@ -59,20 +59,20 @@ is_named t names = by (is_among t names) refl
 
 in_all : (texts : List (List ℕ)) (t : List ℕ) (names : List (List ℕ)) → IsIn t names → IsIn t (all_named names texts)
 in_all [] t names h = h
-in_all (s ∷ texts) t names h = in_all texts t (named names s) (in_named t s names h)
+in_all (s ∷ texts) t names h = in_all texts t (with_name names s) (in_named t s names h)
 
 all_in : (texts : List (List ℕ)) (t : List ℕ) (names : List (List ℕ)) (n : ℕ) → slice_get texts n ≡ Some t → IsIn t (all_named names texts)
 all_in [] t names n e = absurd (cc)
 all_in (s ∷ texts) t names zero e =
     let same : s ≡ t = cc in
-    in_all texts t (named names s) (subst (λ x. IsIn x (named names s)) same (is_named s names))
-all_in (s ∷ texts) t names (suc n) e = all_in texts t (named names s) n e
+    in_all texts t (with_name names s) (subst (λ x. IsIn x (with_name names s)) same (is_named s names))
+all_in (s ∷ texts) t names (suc n) e = all_in texts t (with_name names s) n e
 
 -- no text is named twice
 none_distinct : AreDistinct []
 none_distinct = record { apart = λ i j d low high. absurd (omega arith) }
 
-named_distinct : (t : List ℕ) (names : List (List ℕ)) → AreDistinct names → AreDistinct (named names t)
+named_distinct : (t : List ℕ) (names : List (List ℕ)) → AreDistinct names → AreDistinct (with_name names t)
 named_distinct t names h = by (is_among t names) refl
   where
     other : is_among t names ≡ false → (k : ℕ) (d : List ℕ) → k < length names → get_or names k d ≢ t
@@ -84,7 +84,7 @@ named_distinct t names h = by (is_among t names) refl
 
 all_distinct : (texts names : List (List ℕ)) → AreDistinct names → AreDistinct (all_named names texts)
 all_distinct [] names h = h
-all_distinct (t ∷ texts) names h = all_distinct texts (named names t) (named_distinct t names h)
+all_distinct (t ∷ texts) names h = all_distinct texts (with_name names t) (named_distinct t names h)
 
 -- the same token with the numbers of another list of names
 pub record Respelled (more : List (List ℕ)) (bytes : List ℕ) (one : Token) : Type 0 where

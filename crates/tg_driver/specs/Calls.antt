@@ -3,7 +3,7 @@ use Rattle.std.specs.Prelude.{ℕ, ◌≡◌, ◌<◌, List, [], length, Option}
 use Rattle.std.specs.Io.KnownBytes.{Appends}
 use Rattle.tg_base.specs.Causes.{Rose}
 use Rattle.tg_base.specs.Files.{Files}
-use Rattle.tg_base.specs.Writes.{TakesFront}
+use Rattle.tg_base.specs.Writes.{TakesPrefix}
 use Rattle.tg_irc.specs.Policies.{Rule as SpillRule}
 use Rattle.tg_watch.specs.Watching.{Report}
 
@@ -89,5 +89,5 @@ pub data Takes {T A : Type 0}
       result ≡ failed →
       0 < length due →
       HasFailed sink →
-      TakesFront (sink.told sink.before) (sink.told sink.after) due →
+      TakesPrefix (sink.told sink.before) (sink.told sink.after) due →
       Takes sink due whole failed result

@@ -7,7 +7,7 @@ use Rattle.tg_state.specs.declared.ends.RunEnd.TheVariants.{StackFull, StepLimit
 use Rattle.tg_state.specs.declared.ends.RunEnd.TheVariants.{Unaligned, BadWord, BadService}
 use Rattle.tg_state.specs.declared.ends.RunEnd.TheVariants.{ReadFault, WriteFault}
 use Rattle.tg_base.specs.Words.{unsigned}
-use Rattle.tg_watch.specs.Words.{word_text}
+use Rattle.tg_watch.specs.Words.{word_in_hex}
 
 -- by the code of `break`: what a compiled program tests for, and any other
 abbrev pub break_status : (code : ℕ) → ℕ
@@ -51,9 +51,9 @@ end_line HeapFull = ended (codes "heap full")
 end_line StackFull = ended (codes "stack full")
 end_line StepLimit = ended (codes "step limit")
 end_line Overflow = ended (codes "overflow")
-end_line (BadAddress a) = ended (codes "bad address " ++ word_text a)
-end_line (Unaligned a) = ended (codes "unaligned " ++ word_text a)
-end_line (BadWord w) = ended (codes "bad word " ++ word_text w)
-end_line (BadService n) = ended (codes "bad service " ++ word_text n)
+end_line (BadAddress a) = ended (codes "bad address " ++ word_in_hex a)
+end_line (Unaligned a) = ended (codes "unaligned " ++ word_in_hex a)
+end_line (BadWord w) = ended (codes "bad word " ++ word_in_hex w)
+end_line (BadService n) = ended (codes "bad service " ++ word_in_hex n)
 end_line ReadFault = ended (codes "read or write failed")
 end_line WriteFault = ended (codes "read or write failed")

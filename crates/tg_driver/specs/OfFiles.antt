@@ -2,7 +2,7 @@
 use Rattle.std.specs.Prelude.{ℕ, ◌≡◌, List}
 use Rattle.tg_base.specs.declared.outside.ShelfFault.{ShelfFault}
 use Rattle.tg_base.specs.declared.outside.ShelfFault.TheVariants.{Failed, Memory}
-use Rattle.tg_base.specs.Files.{IsFrontOf}
+use Rattle.tg_base.specs.Files.{IsFilePrefix}
 use Rattle.tg_driver.specs.declared.answers.Answer.{Answer}
 use Rattle.tg_driver.specs.declared.answers.Answer.TheVariants.{Unreadable, OutOfMemory, Written}
 use Rattle.tg_driver.specs.declared.answers.Answer.TheVariants.{Unwritten, Finished}
@@ -15,7 +15,7 @@ pub data OfFile {H : Type 0} (shelf : Shelved H) (name : List ℕ) (most : ℕ)
   unreadable : answer ≡ Unreadable → IsUnread shelf name → OfFile shelf name most due answer
   read :
       (text : List ℕ) →
-      IsFrontOf (shelf.files shelf.before) name most text →
+      IsFilePrefix (shelf.files shelf.before) name most text →
       due text answer →
       OfFile shelf name most due answer
 

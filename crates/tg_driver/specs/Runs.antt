@@ -3,7 +3,7 @@ use Rattle.std.specs.Prelude.{ℕ, ◌≡◌, List}
 use Rattle.std.specs.Io.KnownBytes.{Appends}
 use Rattle.tg_state.specs.declared.ends.RunEnd.{RunEnd}
 use Rattle.tg_state.specs.declared.ends.RunEnd.TheVariants.{StepLimit}
-use Rattle.tg_state.specs.State.{start}
+use Rattle.tg_state.specs.State.{initial_machine}
 use Rattle.tg_isa.specs.declared.images.Image.{Image}
 use Rattle.tg_isa.specs.Runs.{Execution, Progress, Running, Ended, run, begun, answers}
 use Rattle.tg_machine.specs.Machines.{Simulated, loaded}
@@ -44,7 +44,8 @@ world_in (Ended e w) = w
 -- what comes of an image with these sizes and steps on an input of these bytes
 abbrev pub outcome_on : Image → (heap stack steps : ℕ) (bytes : List ℕ) → Progress
 outcome_on image heap stack steps bytes =
-    run steps (begun (start image.code image.statics image.entry heap stack) (answers bytes))
+    run steps
+    (begun (initial_machine image.code image.statics image.entry heap stack) (answers bytes))
 
 -- the run ended as it does on these bytes, wrote what it writes there, and left what it leaves
 pub record IsExact {I O : Type 0} (s : Streams I O)

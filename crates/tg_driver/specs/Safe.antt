@@ -2,9 +2,9 @@
 use Rattle.std.specs.Prelude.{ℕ, ◌≡◌, ◌≤◌, ◌⊎◌, List, [], ◌++◌, length, Option, Some, Ok}
 use Rattle.tg_state.specs.declared.ends.RunEnd.{RunEnd}
 use Rattle.tg_state.specs.declared.ends.RunEnd.TheVariants.{Exit, ReadFault, WriteFault}
-use Rattle.tg_base.specs.Files.{IsFrontOf}
-use Rattle.tg_state.specs.State.{start}
-use Rattle.tg_base.specs.Writes.{TakesFront}
+use Rattle.tg_base.specs.Files.{IsFilePrefix}
+use Rattle.tg_state.specs.State.{initial_machine}
+use Rattle.tg_base.specs.Writes.{TakesPrefix}
 use Rattle.tg_isa.specs.declared.images.Image.{Image}
 use Rattle.tg_asm_text.specs.Assembly.{assembled}
 use Rattle.tg_isa.specs.Runs.{run, begun}
@@ -63,7 +63,7 @@ pub record IsOutput (told : Option (List ℕ)) (mode : Mode) (asked : Asked)
   pub made : ℕ
   pub within : made ≤ asked.steps
   pub written_is :
-      let first = start image.code image.statics image.entry asked.heap asked.stack in
+      let first = initial_machine image.code image.statics image.entry asked.heap asked.stack in
       written ≡ (world_in (run made (begun first input))).output
 
 -- what `gen` writes: what the image writes on no input, and the summary
@@ -93,13 +93,13 @@ pub record WritesFront {H I O E : Type 0} (c : Call H I O E) : Type 0 where
   pub text : List ℕ
   pub reads :
       ReadsFile asked.mode →
-      IsFrontOf (c.shelf.files c.shelf.before) asked.file (most_of asked.mode) text
+      IsFilePrefix (c.shelf.files c.shelf.before) asked.file (most_of asked.mode) text
   pub generates : asked.mode ≡ Gen → text ≡ generated asked.number
   pub written : List ℕ
   pub has_to :
       HasToWrite c.rule (c.streams.input.told c.streams.input.before) asked.mode asked text written
   pub takes :
-      TakesFront
+      TakesPrefix
       (c.streams.out.told c.streams.out.before) (c.streams.out.told c.streams.out.after) written
 
 -- a read or a write that ended the run has the count of its stream as its cause

@@ -1,7 +1,7 @@
 -- Runs that are watched, and what is told of them.
 use Rattle.std.specs.Prelude.{ℕ, ◌≡◌, List, [], length, map, if◌then◌else◌, All}
 use Rattle.tg_state.specs.declared.ends.RunEnd.{RunEnd}
-use Rattle.tg_state.specs.State.{start}
+use Rattle.tg_state.specs.State.{initial_machine}
 use Rattle.tg_isa.specs.declared.images.Image.{Image}
 use Rattle.tg_isa.specs.Runs.{begun, answers}
 use Rattle.tg_machine.specs.declared.fetches.Seen.{Seen}
@@ -48,7 +48,7 @@ run_in s reporters reports image heap stack steps end h =
 abbrev pub reports_on :
     List Report → Image → (heap stack steps : ℕ) (bytes : List ℕ) → List ℕ
 reports_on reporters image heap stack steps bytes =
-    let first = start image.code image.statics image.entry heap stack in
+    let first = initial_machine image.code image.statics image.entry heap stack in
     reports_text reporters (fetches steps (begun first (answers bytes))) (length image.code)
 
 -- the machine ran so, and these watchers saw it: they stand for its fetches

@@ -6,12 +6,12 @@ ghost use Rattle.tg_driver.specs.Endings.{
   end_line,
   end_status,
 };
-ghost use Rattle.tg_watch.specs.Words.{word_text};
+ghost use Rattle.tg_watch.specs.Words.{word_in_hex};
 ghost use Rattle.tg_driver.specs.Plainly.{IsPlain, IsOwnBreak};
 
 use tg_base::{Failed, Sink, write_all};
 use tg_state::RunEnd;
-use tg_watch::word_text;
+use tg_watch::word_in_hex;
 
 /// The exit status of an end of the machine.
 pub(crate) fn end_status(end: RunEnd) -> u8
@@ -112,10 +112,10 @@ fn write_break<E: Sink>(err: &mut E, code: u32) -> Result<(), Failed>
 /// Writes a line that ends with a word.
 fn write_word<E: Sink>(err: &mut E, text: &[u8], word: u32) -> Result<(), Failed>
     ensures line { TakesAll (E.taken err.old) (E.taken err.new) result
-        (text.now ++ (word_text word ++ 10 ∷ [])) }
+        (text.now ++ (word_in_hex word ++ 10 ∷ [])) }
     ensures cause { HasCause (E.faults err.old) (E.faults err.new) result }
 {
-    write_three(err, text, &word_text(word), b"\n")
+    write_three(err, text, &word_in_hex(word), b"\n")
 }
 
 /// Writes three pieces, one after another.

@@ -1,7 +1,7 @@
 -- The text of lines (SPIM manual, assembler syntax).
 use Rattle.std.specs.Prelude.{ℕ, List, [], ◌∷◌, ◌++◌, Bool, true, false, codes}
 use Rattle.std.specs.Fmt.{decimal}
-use Rattle.tg_isa.specs.Names.{name_of}
+use Rattle.tg_isa.specs.Names.{register_name}
 use Rattle.tg_asm_text.specs.Writing.{line_of}
 use Rattle.tg_emit.specs.declared.assembly.Line.{Line}
 use Rattle.tg_emit.specs.declared.assembly.Line.TheVariants.{Label, One, La, Statics}
@@ -19,7 +19,7 @@ bytes_text (b ∷ bytes) = codes "\t.byte " ++ decimal b ++ further_numbers byte
 abbrev pub line_text : Line → List ℕ
 line_text (Label name) = name ++ codes ":"
 line_text (One one target) = codes "\t" ++ line_of one target
-line_text (La register target) = codes "\tla " ++ name_of register ++ codes ", " ++ target
+line_text (La register target) = codes "\tla " ++ register_name register ++ codes ", " ++ target
 line_text (Statics bytes) = bytes_text bytes
 
 -- whether a line stands in the statics: bytes, and a label that stands before them

@@ -4,14 +4,14 @@ use Rattle.std.specs.Prelude.{IsTrue, ◌==◌, ◌||◌, ◌≢◌, codes, if�
 use Rattle.std.specs.Fmt.{decimal}
 use Rattle.std.proofs.lemmas.Fmt.{decimal_by_steps, decimal_injective}
 use Rattle.std.proofs.lemmas.Bool.Decides.{nat_tests}
-use Rattle.tg_asm_text.specs.Lines.{front, back, is_between, begins_label, is_past_label}
+use Rattle.tg_asm_text.specs.Lines.{front, back, is_in_range, begins_label, is_past_label}
 use Rattle.tg_asm_text.specs.Operands.{is_label}
 use Rattle.tg_asm_text.proofs.WordCuts.{none_of, begins, none_append, none_cons, first_not, rest_not, front_until, back_until}
 use Rattle.tg_emit.specs.Names.{function_name, mark_name, behind_name, literal_name}
 
 -- decimal digits
 abbrev is_past_digits : ℕ → Bool
-is_past_digits c = not (is_between 48 57 c)
+is_past_digits c = not (is_in_range 48 57 c)
 
 digit_within : (d : ℕ) → d < 10 → is_past_digits (48 + d) ≡ false
 digit_within d h = grind (arith, nat_tests)

@@ -4,7 +4,7 @@ use Rattle.std.specs.Prelude.{codes}
 use Rattle.std.specs.Fmt.{decimal}
 use Rattle.std.proofs.lemmas.Fmt.{decimal_digit}
 use Rattle.tg_state.specs.State.{padded}
-use Rattle.tg_isa.specs.Names.{name_of}
+use Rattle.tg_isa.specs.Names.{register_name}
 use Rattle.tg_asm_text.specs.Writing.{further}
 use Rattle.tg_asm_text.specs.Texts as texts
 use Rattle.tg_tree.specs.declared.fragments.Literal.{Literal}
@@ -28,7 +28,7 @@ line_same : (line : Line) → line_text line ≡ texts.written_line (written_lin
 line_same (Label name) = refl
 line_same (One one target) = refl
 line_same (La register target) =
-    let name = name_of register in
+    let name = register_name register in
     ap (λ t. 9 ∷ 108 ∷ 97 ∷ 32 ∷ t) (append_assoc name (44 ∷ 32 ∷ []) target ∙ ap (λ t. name ++ (44 ∷ 32 ∷ t)) (sym (append-nil target)))
 line_same (Statics bytes) = bytes_same bytes
 

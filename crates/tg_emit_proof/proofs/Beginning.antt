@@ -8,7 +8,7 @@ use Rattle.std.proofs.lemmas.List.Elements.{All-set, All-replicate}
 use Rattle.std.specs.Prelude.{Err, if◌then◌else◌, nat_lt}
 use Rattle.std.specs.List.{Contains}
 use Rattle.tg_state.specs.declared.ends.RunEnd.TheVariants.{Exit, StackFull}
-use Rattle.tg_state.specs.State.{MachineState, register, start, floor, stack_top, most_bytes, load_word}
+use Rattle.tg_state.specs.State.{MachineState, register, initial_machine, floor, stack_top, most_bytes, load_word}
 use Rattle.tg_state.specs.State.{padded, word_at}
 use Rattle.tg_simulation.specs.Runs.{Run}
 use Rattle.tg_simulation.specs.Ran.{Ran, Ended}
@@ -41,7 +41,7 @@ use Rattle.tg_emit_proof.proofs.Instructions.{emitted_code_goes_on}
 
 module _ (g : Setting) where
   abbrev s0 : MachineState
-  s0 = start [] (statics_of g.literals) 0 g.room g.stack
+  s0 = initial_machine [] (statics_of g.literals) 0 g.room g.stack
 
   abbrev outside : Activation
   outside = record { base = stack_top; size = 0 }

@@ -1,7 +1,7 @@
 -- The first half, and both halves together.
 use Rattle.std.proofs.Common.{ℕ, ◌≡◌, ◌≢◌, ◌+◌, List, ap, sym, ◌∙◌, subst}
 use Rattle.tg_state.specs.declared.ends.RunEnd.{RunEnd}
-use Rattle.tg_state.specs.State.{start}
+use Rattle.tg_state.specs.State.{initial_machine}
 use Rattle.tg_simulation.specs.Runs.{Run}
 use Rattle.tg_simulation.specs.Ran.{Ran, Ended, Wrong, IsOver, StaysOver, OnlyGoesOn}
 use Rattle.tg_simulation.specs.Preserving.{DoesTheSame, Preserves}
@@ -15,7 +15,7 @@ use Rattle.tg_emit_proof.specs.LinesRun.{lines_run}
 use Rattle.tg_emit_proof.specs.Laws.{returns_in, HasImage, LinesRunOnTheMachine, PlacesAreReturns}
 use Rattle.tg_emit_proof.specs.Setting.{entry_steps}
 use Rattle.tg_emit_proof.specs.Emission.{MayRun, lines_of, registers_run, emitted_image, assembled_run}
-use Rattle.tg_emit_proof.specs.Emission.{EmissionKeepsRuns, EmissionKeeps, RunsAgree, EmissionAgrees}
+use Rattle.tg_emit_proof.specs.Emission.{EmissionKeepsRuns, EmitIsCorrect, RunsAgree, EmissionAgrees}
 use Rattle.tg_emit_proof.proofs.Known.{setting, known}
 use Rattle.tg_emit_proof.proofs.Statics.{statics_are}
 use Rattle.tg_emit_proof.proofs.Beginning.{emitted_runs_keep}
@@ -37,7 +37,7 @@ module _ (code : ProgramIsCode) (sound : ProgramIsSound) (on_machine : LinesRunO
     short = may.program.code_fits;
   }
 
-  pub both_halves : EmissionKeeps
+  pub both_halves : EmitIsCorrect
   both_halves fs ls input heap stack may sizes bytes =
       let has = has_image fs ls may in
       let places_are = places (lines_of fs) has.short in
@@ -75,13 +75,13 @@ module _ (a b : ℕ) (c d : Run Ran) (preserved : Preserves a b c d) (over : Sta
   pub runs_agree : RunsAgree a b c d
   runs_agree = record { there = λ n. preserved.there n (right n); only = ends_so; front = fronts }
 
-pub emission_agrees : EmissionKeeps → ProgramHasImage → MachineStaysOver → MachineGoesOn → EmissionAgrees
+pub emission_agrees : EmitIsCorrect → ProgramHasImage → MachineStaysOver → MachineGoesOn → EmissionAgrees
 emission_agrees keeps text over on fs ls may = (
   emitted_image fs ls,
   text fs ls may.program may.typed,
   λ input heap stack sizes bytes right.
       let image : Assembled = emitted_image fs ls in
-      let begun = start image.code image.statics image.entry heap stack in
+      let begun = initial_machine image.code image.statics image.entry heap stack in
       runs_agree 1 (entry_steps + 1) (registers_run fs ls input heap stack) (assembled_run image input heap stack)
       (keeps fs ls input heap stack may sizes bytes) (over begun input) (on begun input) right,
 )

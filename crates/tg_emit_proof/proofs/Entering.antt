@@ -17,7 +17,7 @@ use Rattle.tg_simulation.specs.Ran.{stops}
 use Rattle.tg_simulation.specs.Simulating.{Comes}
 use Rattle.tg_simulation.proofs.Simulations.{comes_on}
 use Rattle.tg_isa.specs.declared.mips.Mips.TheVariants as row
-use Rattle.tg_isa.specs.Effects.{put, address}
+use Rattle.tg_isa.specs.Effects.{put, effective_address}
 use Rattle.tg_isa.proofs.Anywhere.{load_word_seen}
 use Rattle.tg_emit.specs.declared.assembly.Line.{Line}
 use Rattle.tg_emit.specs.Lines.{alone, in_at, lowered}
@@ -97,7 +97,7 @@ module _ (g : Setting) (size : ℕ) (s : MachineState) (input : List ℕ) (count
           (ap (λ v. sub v (register t 1)) sp ∙ (ap (sub (register s 29)) at ∙ less))))
 
   -- where the probe is
-  probed : load_word (lower s size) (address (lower s size) 29 0) ≡ load_word s (register s 29 - size)
+  probed : load_word (lower s size) (effective_address (lower s size) 29 0) ≡ load_word s (register s 29 - size)
   probed =
       let sp = moved_stack (nat_le size 32768) s size (register s 29 - size) count in
       let e : add (register s 29 - size) (extended 0) ≡ register s 29 - size = omega (arith, fits) in

@@ -11,7 +11,7 @@ use Rattle.tg_state.specs.Services as machine
 use Rattle.tg_simulation.specs.Simulating.{Comes}
 use Rattle.tg_simulation.proofs.Simulations.{comes_on}
 use Rattle.tg_isa.specs.declared.mips.Mips.TheVariants as row
-use Rattle.tg_isa.specs.Effects.{effect, put, stored, address}
+use Rattle.tg_isa.specs.Effects.{effect, put, stored, effective_address}
 use Rattle.tg_isa.proofs.Anywhere.{load_word_seen}
 use Rattle.tg_emit.specs.declared.assembly.Line.{Line}
 use Rattle.tg_emit.specs.Lines.{alone, in_at, above_stack, load_at, store_at}
@@ -123,7 +123,7 @@ module _ (g : Setting) where
       by false e = let l : 32768 ≤ n % 65536 = grind (arith, nat_tests, e) in omega (arith, h, k, l)
 
   pub far_address : (s : MachineState) (n : ℕ) → length s.registers ≡ 32 → n < 2 ^ 29 → register s 29 + n < 2 ^ 32 →
-      address (with_at s n) 1 (n % 65536) ≡ register s 29 + n
+      effective_address (with_at s n) 1 (n % 65536) ≡ register s 29 + n
   far_address s n c h k =
       let some : 1 < length s.registers = omega (arith, c) in
       let set_length : length (slice_set s.registers 1 (upper n)) ≡ length s.registers =

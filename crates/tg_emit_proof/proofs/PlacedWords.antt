@@ -7,7 +7,7 @@ use Rattle.std.proofs.lemmas.Grind.{common_steps}
 use Rattle.std.proofs.Math.Seq.{get_or-append_seam}
 use Rattle.std.specs.Prelude.{if◌then◌else◌, slice_index, codes}
 use Rattle.std.specs.Str.{bytes_eq}
-use Rattle.tg_state.specs.State.{statics_base, start}
+use Rattle.tg_state.specs.State.{statics_base, initial_machine}
 use Rattle.tg_simulation.specs.Ran.{Wrong}
 use Rattle.tg_isa.specs.declared.mips.Mips.{Mips}
 use Rattle.tg_isa.specs.declared.mips.Mips.TheVariants as row
@@ -230,20 +230,20 @@ module _ (lines : List Line) (ls : List Literal) (has : HasImage lines ls) where
   -- the machine's run of the image is the lines' run
   pub lines_run_there : StaticsAre lines ls → (input : List ℕ) (heap stack n : ℕ) →
       (lines_run (returns_in lines) lines ls input heap stack n).stop ≢ Wrong →
-      machine_run (start image.code image.statics image.entry heap stack) input n
+      machine_run (initial_machine image.code image.statics image.entry heap stack) input n
       ≡ lines_run (returns_in lines) lines ls input heap stack n
   lines_run_there statics input heap stack n right =
-      ap (λ bytes. machine_run (start image.code bytes image.entry heap stack) input n) statics.bytes
+      ap (λ bytes. machine_run (initial_machine image.code bytes image.entry heap stack) input n) statics.bytes
       ∙ by (behind (codes "main") lines) refl right
     where
       by : (o : Option Place) → behind (codes "main") lines ≡ o →
-          (going_from (returns_in lines) lines ls o (start [] (statics_of ls) 0 heap stack) input n).stop ≢ Wrong →
-          machine_run (start image.code (statics_of ls) image.entry heap stack) input n
-          ≡ going_from (returns_in lines) lines ls o (start [] (statics_of ls) 0 heap stack) input n
+          (going_from (returns_in lines) lines ls o (initial_machine [] (statics_of ls) 0 heap stack) input n).stop ≢ Wrong →
+          machine_run (initial_machine image.code (statics_of ls) image.entry heap stack) input n
+          ≡ going_from (returns_in lines) lines ls o (initial_machine [] (statics_of ls) 0 heap stack) input n
       by None e r = absurd (r refl)
       by (Some p) e r =
           let l = (all_stands statics).labels (codes "main") p e in
-          ap (λ place. machine_run (on image.code place (start [] (statics_of ls) 0 heap stack)) input n)
+          ap (λ place. machine_run (on image.code place (initial_machine [] (statics_of ls) 0 heap stack)) input n)
           (ap found_address l.1)
           ∙ runs image.code labels (returns_in lines) lines ls (all_stands statics) n p (place_at l.0)
-          (start [] (statics_of ls) 0 heap stack) input l.2 r
+          (initial_machine [] (statics_of ls) 0 heap stack) input l.2 r

@@ -11,7 +11,7 @@ use Rattle.tg_simulation.specs.Ran.{Wrong, stops}
 use Rattle.tg_simulation.specs.Simulating.{Comes}
 use Rattle.tg_simulation.proofs.Simulations.{simulates_wrong}
 use Rattle.tg_isa.specs.declared.mips.Mips.TheVariants as row
-use Rattle.tg_isa.specs.Effects.{effect, put, stored, address}
+use Rattle.tg_isa.specs.Effects.{effect, put, stored, effective_address}
 use Rattle.tg_tree.specs.Memory.{Cell, Closed, Unset, Has, Kept, slot}
 use Rattle.tg_tree.specs.Memory as memory
 use Rattle.tg_tree.specs.Actions.{World, charged, wrong}
@@ -59,7 +59,7 @@ module _ (g : Setting) (one : Instr) (k : At g one) where
         fits = omega (arith, l, sp, sized, h, u, t);
       }
 
-  near_address : (j : ℕ) → nat_lt (offset j) 32768 ≡ true → IsSlot j → address k.state 29 (offset j)
+  near_address : (j : ℕ) → nat_lt (offset j) 32768 ≡ true → IsSlot j → effective_address k.state 29 (offset j)
       ≡ slot k.activation.base j
   near_address j near i =
       let e : add (register k.state 29) (extended (offset j)) ≡ add (register k.state 29) (offset j) = rw near refl in

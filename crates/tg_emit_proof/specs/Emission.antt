@@ -4,7 +4,7 @@ use Rattle.std.specs.Prelude.{ℕ, ◌+◌, ◌-◌, ◌%◌, ◌==◌, ◌≡�
 use Rattle.std.specs.Prelude.{IsTrue, if◌then◌else◌}
 use Rattle.std.specs.List.{list_all}
 use Rattle.tg_state.specs.declared.ends.RunEnd.{RunEnd}
-use Rattle.tg_state.specs.State.{start, stack_top, most_room}
+use Rattle.tg_state.specs.State.{initial_machine, stack_top, most_room}
 use Rattle.tg_simulation.specs.Bytes.{AreBytes, IsPrefix}
 use Rattle.tg_simulation.specs.Runs.{Run}
 use Rattle.tg_simulation.specs.Ran.{Ran, Ended, Wrong}
@@ -75,7 +75,7 @@ emitted_image fs ls = image_of (readings_of (program_written fs ls))
 
 abbrev pub assembled_run : Assembled → (input : List ℕ) → (heap stack : ℕ) → Run Ran
 assembled_run image input heap stack =
-    machine_run (start image.code image.statics image.entry heap stack) input
+    machine_run (initial_machine image.code image.statics image.entry heap stack) input
 
 -- The first half: for any words that its calls may put into $ra.
 abbrev pub EmissionKeepsRuns : Type 0
@@ -89,8 +89,8 @@ EmissionKeepsRuns =
     (lines_run returns (lines_of fs) ls input heap stack)
 
 -- Both halves, for the words behind the calls of the image.
-abbrev pub EmissionKeeps : Type 0
-EmissionKeeps =
+abbrev pub EmitIsCorrect : Type 0
+EmitIsCorrect =
     (fs : List Allocated) (ls : List Literal) (input : List ℕ) (heap stack : ℕ) →
     MayRun fs ls → FitRegions heap stack → AreBytes input →
     Preserves 1 (entry_steps + 1)

@@ -2,7 +2,7 @@
 -- words behind the calls there, and these are such as a run of lines asks for.
 use Rattle.std.specs.Prelude.{ℕ, ◌+◌, ◌*◌, ◌^◌, ◌==◌, ◌≡◌, ◌≢◌, ◌<◌, List, [], ◌∷◌, ◌++◌, map}
 use Rattle.std.specs.Prelude.{codes, All, if◌then◌else◌}
-use Rattle.tg_state.specs.State.{code_base, most_words, start}
+use Rattle.tg_state.specs.State.{code_base, most_words, initial_machine}
 use Rattle.tg_simulation.specs.Ran.{Wrong}
 use Rattle.tg_isa.specs.declared.mips.Mips.TheVariants.{Jal}
 use Rattle.tg_asm_text.specs.declared.keywords.Segment.TheVariants.{Code}
@@ -54,7 +54,7 @@ LinesRunOnTheMachine =
     HasImage lines ls →
     (lines_run (returns_in lines) lines ls input heap stack n).stop ≢ Wrong →
     let image : Assembled = image_of (texts.readings_of (written lines ls)) in
-    machine_run (start image.code image.statics image.entry heap stack) input n
+    machine_run (initial_machine image.code image.statics image.entry heap stack) input n
     ≡ lines_run (returns_in lines) lines ls input heap stack n
 
 -- The places behind calls differ, and none is 0.

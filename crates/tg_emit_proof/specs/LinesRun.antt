@@ -7,7 +7,8 @@ use Rattle.std.specs.Str.{bytes_eq}
 use Rattle.tg_state.specs.declared.ends.RunEnd.{RunEnd}
 use Rattle.tg_state.specs.declared.ends.RunEnd.TheVariants.{Exit}
 use Rattle.tg_base.specs.Words.{less}
-use Rattle.tg_state.specs.State.{MachineState, register, set_register, start, padded, statics_base}
+use Rattle.tg_state.specs.State.{MachineState, register, set_register, initial_machine, padded}
+use Rattle.tg_state.specs.State.{statics_base}
 use Rattle.tg_state.specs.Services as step
 use Rattle.tg_state.specs.Services.{Step, answered}
 use Rattle.tg_simulation.specs.Runs.{Run}
@@ -161,4 +162,4 @@ module _ (returns : Returns) (lines : List Line) (literals : List Literal) where
   abbrev pub lines_run : (input : List ℕ) → (heap stack : ℕ) → Run Ran
   lines_run input heap stack =
       going_from (behind (codes "main") lines)
-      (start [] (statics_of literals) 0 heap stack) input
+      (initial_machine [] (statics_of literals) 0 heap stack) input

@@ -1,4 +1,4 @@
-ghost use Rattle.tg_emit_proof.specs.Emission.{EmissionAgrees, EmissionKeeps, EmissionKeepsRuns};
+ghost use Rattle.tg_emit_proof.specs.Emission.{EmissionAgrees, EmitIsCorrect, EmissionKeepsRuns};
 ghost use Rattle.tg_emit_proof.specs.Laws.{LinesRunOnTheMachine, PlacesAreReturns};
 
 use tg_emit_laws::program_has_image;
@@ -25,7 +25,7 @@ pub fn emission_keeps_runs()
 
 /// The law of emission: the machine's run of the image does what the functions over registers do.
 pub fn emit_is_correct()
-    ensures { EmissionKeeps }
+    ensures { EmitIsCorrect }
 {
     emission_keeps_runs();
     program_has_image();

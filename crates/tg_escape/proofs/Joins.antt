@@ -1,6 +1,6 @@
 -- The uses of a text stand before those that come after it.
 use Rattle.std.proofs.Common.{◌≡◌, ℕ, List, [], ◌∷◌, ◌++◌, length, Option, Some, None, refl, sym, ap, ◌∙◌, append_assoc}
-use Rattle.tg_symbols.specs.Tables.{named}
+use Rattle.tg_symbols.specs.Tables.{looked_up}
 use Rattle.tg_syntax.specs.Tree.{Nil, Break, Int, Text, Read, Call, Neg, Binary, Make, Fill, Assign, If, When, While, For, Let, Seq, LValue, Simple}
 use Rattle.tg_syntax.specs.Tree.{Field, Index, Exps, no_exps, exp, Inits, no_inits, init, Decs, no_decs, types, variable, functions, FunDecs}
 use Rattle.tg_syntax.specs.Tree.{no_functions, function}
@@ -31,7 +31,7 @@ mutual
   uses_join (Text _ _) n s after = refl
   uses_join (Read _ v) n s after = place_joins v n s after
   uses_join (Call _ f args) n s after =
-      two (used n (named f.name.0 s)) (exps_uses args n s) (use_joins n (named f.name.0 s)) (exps_join args n s) after
+      two (used n (looked_up f.name.0 s)) (exps_uses args n s) (use_joins n (looked_up f.name.0 s)) (exps_join args n s) after
   uses_join (Neg _ a) n s after = uses_join a n s after
   uses_join (Binary _ _ _ a b) n s after = two (uses a n s) (uses b n s) (uses_join a n s) (uses_join b n s) after
   uses_join (Make _ _ inits) n s after = inits_join inits n s after
@@ -50,7 +50,7 @@ mutual
   uses_join (Seq _ es) n s after = exps_join es n s after
 
   place_joins : (v : LValue) (n : List ℕ) (s : Seen) → Joins (place_uses v n s)
-  place_joins (Simple x) n s after = use_joins n (named x.name.0 s) after
+  place_joins (Simple x) n s after = use_joins n (looked_up x.name.0 s) after
   place_joins (Field v _) n s after = place_joins v n s after
   place_joins (Index v e) n s after = two (place_uses v n s) (uses e n s) (place_joins v n s) (uses_join e n s) after
 

@@ -3,7 +3,7 @@
 -- parameters and the variables of its loops are declared in it too. The program's body lies in no
 -- function: a text's level is the number of functions that it lies in.
 use Rattle.std.specs.Prelude.{ℕ, List, [], ◌∷◌, ◌++◌, length, Option, Some, None}
-use Rattle.tg_symbols.specs.Tables.{named}
+use Rattle.tg_symbols.specs.Tables.{looked_up}
 use Rattle.tg_syntax.specs.declared.tokens.Ident.{Ident}
 use Rattle.tg_syntax.specs.declared.trees.Param.{Param}
 use Rattle.tg_syntax.specs.Tree.{Exp, Nil, Break, Int, Text, Read, Call, Neg, Binary, Make, Fill}
@@ -65,7 +65,7 @@ abbrev mutual
   uses (Text _ _) within seen after = after
   uses (Read _ v) within seen after = place_uses v within seen after
   uses (Call _ f args) within seen after =
-      used within (named f.name.0 seen) (exps_uses args within seen after)
+      used within (looked_up f.name.0 seen) (exps_uses args within seen after)
   uses (Neg _ a) within seen after = uses a within seen after
   uses (Binary _ _ _ a b) within seen after = uses a within seen (uses b within seen after)
   uses (Make _ _ inits) within seen after = inits_uses inits within seen after
@@ -84,7 +84,7 @@ abbrev mutual
   uses (Seq _ es) within seen after = exps_uses es within seen after
 
   pub place_uses : LValue → (within : List ℕ) → Seen → List Use → List Use
-  place_uses (Simple x) within seen after = used within (named x.name.0 seen) after
+  place_uses (Simple x) within seen after = used within (looked_up x.name.0 seen) after
   place_uses (Field v _) within seen after = place_uses v within seen after
   place_uses (Index v e) within seen after =
       place_uses v within seen (uses e within seen after)

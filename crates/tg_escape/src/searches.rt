@@ -1,10 +1,10 @@
 ghost use Rattle.std.specs.Prelude.{◌≡◌, length, OnOk, IfOk};
 ghost use Rattle.std.specs.FinSet.{from_list};
-ghost use Rattle.tg_syntax.specs.Plain.{plain, plain_place, plain_exps, plain_inits, plain_dec};
+ghost use Rattle.tg_syntax.specs.Plain.{plain, plain_lvalue, plain_exps, plain_inits, plain_dec};
 ghost use Rattle.tg_syntax.specs.Plain.{plain_functions};
 ghost use Rattle.tg_syntax.specs.Lists.{decs_of};
 ghost use Rattle.tg_syntax.specs.Tree.{no_decs};
-ghost use Rattle.tg_symbols.specs.Tables.{named};
+ghost use Rattle.tg_symbols.specs.Tables.{looked_up};
 ghost use Rattle.tg_escape.specs.Uses as uses;
 ghost use Rattle.tg_escape.specs.Escaping.{escapes_of};
 ghost use Rattle.tg_escape.specs.Links.{links_of};
@@ -101,7 +101,7 @@ fn in_turn(search: &mut Search, x: Ident, body: &Exp) -> Result<(), Memory>
 #[cycle(uses)]
 fn in_place(search: &mut Search, place: &Var) -> Result<(), Memory>
     ensures { OnOk result
-        (FindsUses search.old search.new (uses.place_uses (plain_place place.now))) }
+        (FindsUses search.old search.new (uses.place_uses (plain_lvalue place.now))) }
 {
     match place {
         Var::Simple(x) => use_of(search, *x),
@@ -192,7 +192,7 @@ fn in_function(search: &mut Search, function: &FunDec) -> Result<(), Memory>
 // A use of a name.
 fn use_of(search: &mut Search, x: Ident) -> Result<(), Memory>
     ensures { OnOk result (FindsUses search.old search.new
-        (λ within seen. uses.used within (named x.name.0 seen))) }
+        (λ within seen. uses.used within (looked_up x.name.0 seen))) }
 {
     let Some(declaration) = search.table.get(x.name.0) else {
         return Ok(());

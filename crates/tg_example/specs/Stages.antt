@@ -27,7 +27,7 @@ use Rattle.tg_asm_text.specs.Placement.{image_of}
 use Rattle.tg_asm_text.specs.Assembly.{Assembled}
 use Rattle.tg_isa.specs.ImageRuns.{machine_run}
 use Rattle.tg_asm_text.specs.Texts as texts
-use Rattle.tg_state.specs.State.{start}
+use Rattle.tg_state.specs.State.{initial_machine}
 use Rattle.tg_instr.specs.declared.instr.Instr.{Instr}
 use Rattle.tg_instr.specs.Lengths.{words_of}
 use Rattle.tg_instr.specs.Running.{everywhere, code_run}
@@ -159,4 +159,4 @@ module _ (program : Exp) (found : Findings) where
 
   abbrev pub as_image : (fuel : ℕ) → Ran
   as_image fuel =
-      machine_run (start image.code image.statics image.entry 64 2048) [] fuel
+      machine_run (initial_machine image.code image.statics image.entry 64 2048) [] fuel

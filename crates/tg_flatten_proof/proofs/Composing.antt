@@ -12,10 +12,10 @@ use Rattle.tg_trace.specs.Block.{Block}
 use Rattle.tg_trace.specs.Laws as trace
 use Rattle.tg_trace.specs.Laws.{BlocksAreWhole}
 use Rattle.tg_trace.specs.Heads.{BlocksAreEntered}
-use Rattle.tg_trace.specs.Carried.{in_blocks, code_in_blocks, IsCanonicalFunction, BlocksKeepPrograms}
-use Rattle.tg_trace.specs.Traced.{MayBeLaid, TracesKeepPrograms}
+use Rattle.tg_trace.specs.Carried.{in_blocks, code_in_blocks, IsCanonicalFunction, BlocksAreCorrect}
+use Rattle.tg_trace.specs.Traced.{MayBeLaid, TracesAreCorrect}
 use Rattle.tg_flatten_proof.specs.Flattened.{MayBeFlattened}
-use Rattle.tg_flatten_proof.specs.Laws.{TreesArePreserved, LengthStays, RoomStays}
+use Rattle.tg_flatten_proof.specs.Laws.{FlattenIsCorrect, LengthStays, NeedsStay}
 
 -- what holds of each function, and of what it becomes
 all_of : {A : Type 0} (P : A → Type 0) (xs : List A) → ((x : A) → Contains xs x → P x) → AllByRecursion P xs
@@ -31,7 +31,7 @@ abbrev HasLayableBlocks : Function (List Block) → Type 0
 HasLayableBlocks f = MayBeLaid f.body
 
 pub trees_preserved :
-    canon.ProgramsArePreserved → GivesCanonical → GivesClosed → BlocksKeepPrograms → BlocksAreWhole → BlocksAreEntered → TracesKeepPrograms → TreesArePreserved
+    canon.CanonIsCorrect → GivesCanonical → GivesClosed → BlocksAreCorrect → BlocksAreWhole → BlocksAreEntered → TracesAreCorrect → FlattenIsCorrect
 trees_preserved linearize gives_canonical gives_closed cut whole entered lay code size floor room body input may =
     let statements = canonical_code code in
     let blocks = code_in_blocks statements in
@@ -52,8 +52,8 @@ lengths_stay linearize lay f may =
     let k = lay (linearized f.body f.temps).it in
     omega (arith, h, k)
 
-pub rooms_stay : canon.RoomStays → trace.RoomStays → RoomStays
-rooms_stay linearize lay f may =
+pub needs_stay : canon.NeedsStay → trace.NeedsStay → NeedsStay
+needs_stay linearize lay f may =
     let h = linearize f may.temps in
     let k = lay (linearized f.body f.temps).it in
     omega (arith, h, k)

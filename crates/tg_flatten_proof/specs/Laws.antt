@@ -6,7 +6,7 @@ use Rattle.tg_tree.specs.Tree.{Ts, Function, Code}
 use Rattle.tg_tree.specs.Units.{Trees}
 use Rattle.tg_tree.specs.Running.{tree_run}
 use Rattle.tg_tree.specs.Flat.{flat_run}
-use Rattle.tg_tree.specs.Sizes.{tree_length, tree_room, flat_length, flat_room}
+use Rattle.tg_tree.specs.Sizes.{tree_length, tree_needs, flat_length, flat_needs}
 use Rattle.tg_canon.specs.Meaning as canon
 use Rattle.tg_trace.specs.Laws as lengths
 use Rattle.tg_trace.specs.Carried as cutting
@@ -23,16 +23,16 @@ added_length = canon.added_length + lengths.added_length
 
 -- words of room that a function has besides its tree's; and what all passes may add together, of
 -- which this is a part
-abbrev pub added_room : ℕ
-added_room = canon.added_room
+abbrev pub added_needs : ℕ
+added_needs = canon.added_needs
 
-abbrev pub most_added_room : ℕ
-most_added_room = 256
+abbrev pub most_added_needs : ℕ
+most_added_needs = 256
 
 -- Flat code does what the trees did: each run of them that doesn't go wrong is one of the code,
 -- with at least as much fuel, the same output, input left and end, and hardly more work.
-abbrev pub TreesArePreserved : Type 0
-TreesArePreserved =
+abbrev pub FlattenIsCorrect : Type 0
+FlattenIsCorrect =
     (code : Code Ts) (size : ℕ → ℕ) (floor room body : ℕ) (input : List ℕ) →
     ((f : Function Ts) → Contains code.functions f → MayBeFlattened f) →
     Preserves 1 added_work
@@ -46,11 +46,11 @@ LengthStays =
     MayBeFlattened f →
     flat_length (flattened f) ≤ tree_length f + added_length
 
-abbrev pub RoomStays : Type 0
-RoomStays =
+abbrev pub NeedsStay : Type 0
+NeedsStay =
     (f : Function Ts) →
     MayBeFlattened f →
-    flat_room (flattened f) ≤ tree_room f + added_room
+    flat_needs (flattened f) ≤ tree_needs f + added_needs
 
-abbrev pub RoomIsLeft : Type 0
-RoomIsLeft = added_room ≤ most_added_room
+abbrev pub NeedsAreLeft : Type 0
+NeedsAreLeft = added_needs ≤ most_added_needs

@@ -1,8 +1,8 @@
 ghost use Rattle.tg_flatten_proof.specs.Laws.{
   LengthStays,
-  RoomIsLeft,
-  RoomStays,
-  TreesArePreserved,
+  NeedsAreLeft,
+  NeedsStay,
+  FlattenIsCorrect,
 };
 ghost use Rattle.tg_flatten_proof.specs.Programs.{AddingEndsAlike, CountingEndsAlike};
 
@@ -12,7 +12,7 @@ use tg_trace::{blocks_are_correct, blocks_are_well_formed, traces_are_correct};
 /// code whose runs are those of the trees that don't go wrong, with at least as much fuel, the same
 /// output, input left and end, and at most a unit of work more.
 pub fn flatten_is_correct()
-    ensures { TreesArePreserved }
+    ensures { FlattenIsCorrect }
 {
     tg_canon::canon_is_correct();
     tg_canon::canonical_statements();
@@ -23,13 +23,13 @@ pub fn flatten_is_correct()
 
 /// The laws of sizes: the flat code of a function is at most two units longer than its tree, and
 /// has no more room, of the 256 words that all passes may add.
-pub fn sizes_stay()
+pub fn flatten_is_bounded()
     ensures length { LengthStays }
-    ensures room { RoomStays }
-    ensures left { RoomIsLeft }
+    ensures needs { NeedsStay }
+    ensures left { NeedsAreLeft }
 {
-    tg_canon::sizes_stay();
-    tg_trace::sizes_stay();
+    tg_canon::canon_is_bounded();
+    tg_trace::trace_is_bounded();
 }
 
 /// Programs of three functions, computed: they come to one end as trees, as canonical statements,

@@ -6,4 +6,4 @@
 
 mod laws;
 
-pub use laws::{flatten_is_correct, programs_end_alike, sizes_stay};
+pub use laws::{flatten_is_bounded, flatten_is_correct, programs_end_alike};

@@ -11,7 +11,7 @@ use Rattle.tg_tree.specs.Tree.{Not, Both, Either, Ts, Move, Store, StoreByte, Do
 use Rattle.tg_tree.specs.Operators.{operate, holds}
 use Rattle.tg_tree.specs.Memory.{load, load_byte, store, store_byte, literal_address}
 use Rattle.tg_tree.specs.Shapes.{is_flat, are_flat, is_flat_condition}
-use Rattle.tg_tree.specs.Units.{Trees, lifted_units, joined_units, shift_units, operator_units}
+use Rattle.tg_tree.specs.Units.{Trees, hoisted_units, joined_units, shift_units, operator_units}
 use Rattle.tg_tree.specs.Actions.{World, Temps, set_temp, Activation, Around, Acts, Go, Next, Out, Back, charged, with_word, with_given, with_memory, leaving}
 use Rattle.tg_tree.specs.Actions.{give, service}
 use Rattle.tg_tree.specs.Meaning.{Enter, Point, value, values, test, run, run_all}
@@ -89,13 +89,13 @@ module _ (a b : ℕ) where
   renamed_flat_condition (Either c d) = rw (renamed_flat_condition c, renamed_flat_condition d) refl
 
   binary_same : (op : Bin) (y : Tx) →
-      operator_units op (renamed_tx a b y) + lifted_units Trees (is_flat (renamed_tx a b y)) ≡ operator_units op y + lifted_units Trees (is_flat y)
+      operator_units op (renamed_tx a b y) + hoisted_units Trees (is_flat (renamed_tx a b y)) ≡ operator_units op y + hoisted_units Trees (is_flat y)
   binary_same op y =
-      ap (λ k. k + lifted_units Trees (is_flat (renamed_tx a b y))) (operator_same op y (renamed_tx a b y) (renamed_shift y)) ∙
-      ap (λ q. operator_units op y + lifted_units Trees q) (renamed_flat y)
+      ap (λ k. k + hoisted_units Trees (is_flat (renamed_tx a b y))) (operator_same op y (renamed_tx a b y) (renamed_shift y)) ∙
+      ap (λ q. operator_units op y + hoisted_units Trees q) (renamed_flat y)
 
-  side_same : (k : ℕ) (y : Tx) → k + lifted_units Trees (is_flat (renamed_tx a b y)) ≡ k + lifted_units Trees (is_flat y)
-  side_same k y = ap (λ q. k + lifted_units Trees q) (renamed_flat y)
+  side_same : (k : ℕ) (y : Tx) → k + hoisted_units Trees (is_flat (renamed_tx a b y)) ≡ k + hoisted_units Trees (is_flat y)
+  side_same k y = ap (λ q. k + hoisted_units Trees q) (renamed_flat y)
 
   -- both hold the same word
   abbrev Agree : Temps → Type 0
@@ -212,7 +212,7 @@ module _ (a b : ℕ) where
       same_values (tx x xs) p q o o' ho go go' hg w t g =
           let k = either_false (assigns_tx a x) (assigns_txs a xs) p in
           let l = either_false (assigns_tx b x) (assigns_txs b xs) q in
-          paid _ _ _ _ (ap (λ z. 4 + lifted_units Trees z) (renamed_all_flat xs))
+          paid _ _ _ _ (ap (λ z. 4 + hoisted_units Trees z) (renamed_all_flat xs))
           (same_value x k.0 l.0 o o' ho (λ v w1 t1. vals xs (around act o back) (λ vs w2 t2. go (v ∷ vs) w2 t2) w1 t1)
           (λ v w1 t1. vals (renamed_txs a b xs) (around act o' back) (λ vs w2 t2. go' (v ∷ vs) w2 t2) w1 t1)
           (λ v w1 t1 g1. same_values xs k.1 l.1 o o' ho (λ vs w2 t2. go (v ∷ vs) w2 t2) (λ vs w2 t2. go' (v ∷ vs) w2 t2)

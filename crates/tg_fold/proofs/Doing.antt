@@ -16,7 +16,7 @@ use Rattle.tg_tree.specs.Tree.{Not, Both, Either, Ts, Move, Store, StoreByte, Do
 use Rattle.tg_tree.specs.Operators.{Given, word, stops_by, operate, holds}
 use Rattle.tg_tree.specs.Memory.{Memory, load, load_byte, store, store_byte, literal_address}
 use Rattle.tg_tree.specs.Shapes.{is_flat, are_flat, is_flat_condition}
-use Rattle.tg_tree.specs.Units.{Trees, lifted_units, joined_units, operator_units}
+use Rattle.tg_tree.specs.Units.{Trees, hoisted_units, joined_units, operator_units}
 use Rattle.tg_tree.specs.Actions.{World, Temps, set_temp, Activation, Around, Acts, Go, Next, Out, Back, charged, with_word, with_given, with_memory, leaving}
 use Rattle.tg_tree.specs.Actions.{give, service, with_text, text_from, read_byte}
 use Rattle.tg_tree.specs.Meaning.{Enter, Point, value, values, test, run, run_all}
@@ -25,7 +25,7 @@ use Rattle.tg_fold.specs.Folding.{given_word, word_of, constant_or, operated, Te
 use Rattle.tg_fold.specs.Folding.{both_of, either_of, chosen, passed_on, folded_tx, folded_txs, tested, folded, each_folded}
 use Rattle.tg_fold.proofs.Sides.{AreSides, two, others, sides}
 use Rattle.tg_fold.proofs.Paying.{Sim, pays, pays_more, pays_all, works_less, works_none_more, pays_alone, charged_add}
-use Rattle.tg_fold.proofs.Shrinking.{TestShrinks, lifted_less, joined_less, operator_less, folded_tx_shrinks, folded_txs_shrink, tested_shrinks}
+use Rattle.tg_fold.proofs.Shrinking.{TestShrinks, hoisted_less, joined_less, operator_less, folded_tx_shrinks, folded_txs_shrink, tested_shrinks}
 use Rattle.tg_fold.proofs.Copying.{around, loop_at}
 
 -- Where both sides run: as far as so much fuel, with a heap's room, literals, what calls do and what comes of going on with loops on each
@@ -159,12 +159,12 @@ module _ (z : Scene) where
           on : (g : Given) → operate op u v ≡ g →
               Sim r n c (val' (constant_or (given_word g) (Binary op (Const u) (Const v))) e go w t)
           on (word m) f =
-              let h1 : Sim r n c (charged (operator_units op (Const v) + lifted_units Trees true) (charged 2 (charged 2 (go m w t)))) =
-              subst (λ g. Sim r n c (charged (operator_units op (Const v) + lifted_units Trees true)
+              let h1 : Sim r n c (charged (operator_units op (Const v) + hoisted_units Trees true) (charged 2 (charged 2 (go m w t)))) =
+              subst (λ g. Sim r n c (charged (operator_units op (Const v) + hoisted_units Trees true)
               (charged 2 (charged 2 (with_given g w (λ q. go q w t))))))
               f h in
-              works_none_more r n (operator_units op (Const v) + lifted_units Trees true) c (charged 2 (go m w t))
-              (works_less_inner r (operator_units op (Const v) + lifted_units Trees true) c (go m w t) h1)
+              works_none_more r n (operator_units op (Const v) + hoisted_units Trees true) c (charged 2 (go m w t))
+              (works_less_inner r (operator_units op (Const v) + hoisted_units Trees true) c (go m w t) h1)
             where
               works_less_inner : (r j : ℕ) (c d : Run Ran) → Sim r n c (charged j (charged 2 (charged 2 d))) → Sim r n c (charged j (charged 2 d))
               works_less_inner r j c d h =
@@ -309,18 +309,18 @@ module _ (z : Scene) where
 
     -- units of a node
     binary_pays : (op : Bin) (y : Tx) →
-        operator_units op (folded_tx y) + lifted_units Trees (is_flat (folded_tx y)) ≤ operator_units op y + lifted_units Trees (is_flat y)
+        operator_units op (folded_tx y) + hoisted_units Trees (is_flat (folded_tx y)) ≤ operator_units op y + hoisted_units Trees (is_flat y)
     binary_pays op y =
         let h = folded_tx_shrinks y in
         let k = operator_less op y (folded_tx y) h.shift in
-        let l = lifted_less (is_flat y) (is_flat (folded_tx y)) h.flat in
+        let l = hoisted_less (is_flat y) (is_flat (folded_tx y)) h.flat in
         omega arith
 
-    side_pays : (k : ℕ) (y : Tx) → k + lifted_units Trees (is_flat (folded_tx y)) ≤ k + lifted_units Trees (is_flat y)
-    side_pays k y = let l = lifted_less (is_flat y) (is_flat (folded_tx y)) (folded_tx_shrinks y).flat in omega arith
+    side_pays : (k : ℕ) (y : Tx) → k + hoisted_units Trees (is_flat (folded_tx y)) ≤ k + hoisted_units Trees (is_flat y)
+    side_pays k y = let l = hoisted_less (is_flat y) (is_flat (folded_tx y)) (folded_tx_shrinks y).flat in omega arith
 
-    argument_pays : (xs : Txs) → 4 + lifted_units Trees (are_flat (folded_txs xs)) ≤ 4 + lifted_units Trees (are_flat xs)
-    argument_pays xs = let l = lifted_less (are_flat xs) (are_flat (folded_txs xs)) (folded_txs_shrink xs).flat in omega arith
+    argument_pays : (xs : Txs) → 4 + hoisted_units Trees (are_flat (folded_txs xs)) ≤ 4 + hoisted_units Trees (are_flat xs)
+    argument_pays xs = let l = hoisted_less (are_flat xs) (are_flat (folded_txs xs)) (folded_txs_shrink xs).flat in omega arith
 
     less_credit : (c d : Run Ran) → Sim (r + 0) n c d → Sim r n c d
     less_credit c d h = let e : r + 0 ≡ r = omega arith in subst (λ k. Sim k n c d) e h
@@ -343,7 +343,7 @@ module _ (z : Scene) where
       value_sim FrameAddress o o' ho go go' hg w t = pays r n 1 1 _ _ (omega arith) (hg a.base w t)
       value_sim (Binary op x y) o o' ho go go' hg w t =
           operated_sim r op (folded_tx x) (folded_tx y) (val (Binary op x y) (around a o b) go w t) (around a o' b') go' w t
-          (pays r n (operator_units op y + lifted_units Trees (is_flat y)) (operator_units op (folded_tx y) + lifted_units Trees (is_flat (folded_tx y)))
+          (pays r n (operator_units op y + hoisted_units Trees (is_flat y)) (operator_units op (folded_tx y) + hoisted_units Trees (is_flat (folded_tx y)))
           _ _ (binary_pays op y)
           (sides_sim (val x) (val y) (val' (folded_tx x)) (val' (folded_tx y)) (value_sim x) (value_sim y) o o' ho
           (λ u v w1 t1. with_given (operate op u v) w1 (λ q. go q w1 t1)) (λ u v w1 t1. with_given (operate op u v) w1 (λ q. go' q w1 t1))
@@ -374,14 +374,14 @@ module _ (z : Scene) where
       values_sim : (xs : Txs) → ValueSim (vals xs) (vals' (folded_txs xs))
       values_sim no_txs o o' ho go go' hg w t = hg [] w t
       values_sim (tx x xs) o o' ho go go' hg w t =
-          pays r n (4 + lifted_units Trees (are_flat xs)) (4 + lifted_units Trees (are_flat (folded_txs xs))) _ _ (argument_pays xs)
+          pays r n (4 + hoisted_units Trees (are_flat xs)) (4 + hoisted_units Trees (are_flat (folded_txs xs))) _ _ (argument_pays xs)
           (value_sim x o o' ho (λ v w1 t1. vals xs (around a o b) (λ vs w2 t2. go (v ∷ vs) w2 t2) w1 t1)
           (λ v w1 t1. vals' (folded_txs xs) (around a o' b') (λ vs w2 t2. go' (v ∷ vs) w2 t2) w1 t1)
           (λ v w1 t1. values_sim xs o o' ho (λ vs w2 t2. go (v ∷ vs) w2 t2) (λ vs w2 t2. go' (v ∷ vs) w2 t2) (λ vs w2 t2. hg (v ∷ vs) w2 t2) w1 t1) w t)
 
       test_sim : (c : Cond) → ValueSim (tests c) (tested_runs (tested c))
       test_sim (Compare rel x y) = compared_sim rel (folded_tx x) (folded_tx y) (tests (Compare rel x y)) (λ o o' ho go go' hg w t.
-          pays r n (4 + lifted_units Trees (is_flat y)) (4 + lifted_units Trees (is_flat (folded_tx y))) _ _ (side_pays 4 y)
+          pays r n (4 + hoisted_units Trees (is_flat y)) (4 + hoisted_units Trees (is_flat (folded_tx y))) _ _ (side_pays 4 y)
           (sides_sim (val x) (val y) (val' (folded_tx x)) (val' (folded_tx y)) (value_sim x) (value_sim y) o o' ho
           (λ u v w1 t1. go (holds rel u v) w1 t1) (λ u v w1 t1. go' (holds rel u v) w1 t1)
           (λ u v w1 t1. hg (holds rel u v) w1 t1) w t))
@@ -394,13 +394,13 @@ module _ (z : Scene) where
           pays r n 2 2 _ _ (omega arith)
           (value_sim x o o' ho (λ v w1 t1. next w1 (set_temp i v t1)) (λ v w1 t1. next' w1 (set_temp i v t1)) (λ v w1 t1. hn w1 (set_temp i v t1)) w t)
       run_sim (Store x y) o o' ho next next' hn w t =
-          pays r n (1 + lifted_units Trees (is_flat y)) (1 + lifted_units Trees (is_flat (folded_tx y))) _ _ (side_pays 1 y)
+          pays r n (1 + hoisted_units Trees (is_flat y)) (1 + hoisted_units Trees (is_flat (folded_tx y))) _ _ (side_pays 1 y)
           (sides_sim (val x) (val y) (val' (folded_tx x)) (val' (folded_tx y)) (value_sim x) (value_sim y) o o' ho
           (λ u v w1 t1. with_memory (store w1.memory u v) w1 (λ w2. next w2 t1))
           (λ u v w1 t1. with_memory (store w1.memory u v) w1 (λ w2. next' w2 t1))
           (λ u v w1 t1. memory_sim r n (store w1.memory u v) w1 _ _ (λ w2. hn w2 t1)) w t)
       run_sim (StoreByte x y) o o' ho next next' hn w t =
-          pays r n (1 + lifted_units Trees (is_flat y)) (1 + lifted_units Trees (is_flat (folded_tx y))) _ _ (side_pays 1 y)
+          pays r n (1 + hoisted_units Trees (is_flat y)) (1 + hoisted_units Trees (is_flat (folded_tx y))) _ _ (side_pays 1 y)
           (sides_sim (val x) (val y) (val' (folded_tx x)) (val' (folded_tx y)) (value_sim x) (value_sim y) o o' ho
           (λ u v w1 t1. with_memory (store_byte w1.memory u v) w1 (λ w2. next w2 t1))
           (λ u v w1 t1. with_memory (store_byte w1.memory u v) w1 (λ w2. next' w2 t1))

@@ -8,9 +8,9 @@ use Rattle.tg_tree.specs.Tree.{Tx, Const, Address, Temp, FrameAddress, Binary, L
 use Rattle.tg_tree.specs.Tree.{Not, Both, Either, Ts, Move, Store, StoreByte, Do, If, Loop, Break, Fault, Seq, Return, Stms, no_stms, stm}
 use Rattle.tg_tree.specs.Operators.{Given, word, stops_by, operate}
 use Rattle.tg_tree.specs.Shapes.{is_flat, are_flat, is_flat_condition}
-use Rattle.tg_tree.specs.Units.{Trees, lifted_units, joined_units, shift_units, operator_units}
+use Rattle.tg_tree.specs.Units.{Trees, hoisted_units, joined_units, shift_units, operator_units}
 use Rattle.tg_tree.specs.Sizes.{expression_length, arguments_length, condition_length, statement_length, statements_length, in_trees}
-use Rattle.tg_tree.specs.Sizes.{expression_room, arguments_room, condition_room, statement_room, statements_room}
+use Rattle.tg_tree.specs.Sizes.{expression_needs, arguments_needs, condition_needs, statement_needs, statements_needs}
 use Rattle.tg_fold.specs.Copies.{copy, takes_copy, renamed, renamed_stms, renamed_tx, renamed_txs, renamed_cond}
 use Rattle.tg_fold.specs.Folding.{given_word, word_of, constant_or, operated, Tested, Known, Open, compared_by, compared, negated}
 use Rattle.tg_fold.specs.Folding.{both_of, either_of, chosen, passed, passed_on, folded_tx, folded_txs, tested, folded, each_folded}
@@ -18,10 +18,10 @@ use Rattle.tg_fold.proofs.Sides.{AreSides, two, others, sides}
 
 -- Units.
 
-pub lifted_less : (a b : Bool) → (a ≡ true → b ≡ true) → lifted_units Trees b ≤ lifted_units Trees a
-lifted_less true b h = subst (λ q. lifted_units Trees q ≤ 0) (sym (h refl)) (omega arith)
-lifted_less false true h = omega arith
-lifted_less false false h = omega arith
+pub hoisted_less : (a b : Bool) → (a ≡ true → b ≡ true) → hoisted_units Trees b ≤ hoisted_units Trees a
+hoisted_less true b h = subst (λ q. hoisted_units Trees q ≤ 0) (sym (h refl)) (omega arith)
+hoisted_less false true h = omega arith
+hoisted_less false false h = omega arith
 
 pub joined_less : (a b : Bool) → (a ≡ true → b ≡ true) → joined_units Trees b ≤ joined_units Trees a
 joined_less true b h = subst (λ q. joined_units Trees q ≤ 14) (sym (h refl)) (omega arith)
@@ -73,27 +73,27 @@ flat_pair a b c d f g e = let h = and_both a b e in and_true c d (f h.0) (g h.1)
 
 pub record TxShrinks (x x' : Tx) : Type 0 where
   pub length : expression_length Trees x' ≤ expression_length Trees x
-  pub room : expression_room in_trees x' ≤ expression_room in_trees x
+  pub room : expression_needs in_trees x' ≤ expression_needs in_trees x
   pub flat : is_flat x ≡ true → is_flat x' ≡ true
   pub shift : shift_units x' ≤ shift_units x
 
 pub record TxsShrink (xs xs' : Txs) : Type 0 where
   pub length : arguments_length Trees xs' ≤ arguments_length Trees xs
-  pub room : arguments_room in_trees xs' ≤ arguments_room in_trees xs
+  pub room : arguments_needs in_trees xs' ≤ arguments_needs in_trees xs
   pub flat : are_flat xs ≡ true → are_flat xs' ≡ true
 
 pub record CondShrinks (c c' : Cond) : Type 0 where
   pub length : condition_length Trees c' ≤ condition_length Trees c
-  pub room : condition_room in_trees c' ≤ condition_room in_trees c
+  pub room : condition_needs in_trees c' ≤ condition_needs in_trees c
   pub flat : is_flat_condition c ≡ true → is_flat_condition c' ≡ true
 
 pub record TsShrinks (s s' : Ts) : Type 0 where
   pub length : statement_length Trees s' ≤ statement_length Trees s
-  pub room : statement_room in_trees s' ≤ statement_room in_trees s
+  pub room : statement_needs in_trees s' ≤ statement_needs in_trees s
 
 pub record StmsShrink (ss ss' : Stms) : Type 0 where
   pub length : statements_length Trees ss' ≤ statements_length Trees ss
-  pub room : statements_room in_trees ss' ≤ statements_room in_trees ss
+  pub room : statements_needs in_trees ss' ≤ statements_needs in_trees ss
 
 tx_same : (x : Tx) → TxShrinks x x
 tx_same x = record { length = omega arith; room = omega arith; flat = λ e. e; shift = omega arith }
@@ -114,7 +114,7 @@ binary_shrinks op x y x' y' h k = record {
   length =
       let a = h.length in
       let b = k.length in
-      let c = lifted_less (is_flat y) (is_flat y') k.flat in
+      let c = hoisted_less (is_flat y) (is_flat y') k.flat in
       let d = operator_less op y y' k.shift in
       omega arith;
   room = let a = h.room in let b = k.room in omega arith;
@@ -152,14 +152,14 @@ none_shrink = record { length = omega arith; room = omega arith; flat = λ e. e 
 
 more_shrink : (x x' : Tx) (xs xs' : Txs) → TxShrinks x x' → TxsShrink xs xs' → TxsShrink (tx x xs) (tx x' xs')
 more_shrink x x' xs xs' h k = record {
-  length = let a = h.length in let b = k.length in let c = lifted_less (are_flat xs) (are_flat xs') k.flat in omega arith;
+  length = let a = h.length in let b = k.length in let c = hoisted_less (are_flat xs) (are_flat xs') k.flat in omega arith;
   room = let a = h.room in let b = k.room in omega arith;
   flat = λ e. flat_pair (is_flat x) (are_flat xs) (is_flat x') (are_flat xs') h.flat k.flat e;
 }
 
 compare_shrinks : (rel : Rel) (x y x' y' : Tx) → TxShrinks x x' → TxShrinks y y' → CondShrinks (Compare rel x y) (Compare rel x' y')
 compare_shrinks rel x y x' y' h k = record {
-  length = let a = h.length in let b = k.length in let c = lifted_less (is_flat y) (is_flat y') k.flat in omega arith;
+  length = let a = h.length in let b = k.length in let c = hoisted_less (is_flat y) (is_flat y') k.flat in omega arith;
   room = let a = h.room in let b = k.room in omega arith;
   flat = λ e. flat_pair (is_flat x) (is_flat y) (is_flat x') (is_flat y') h.flat k.flat e;
 }
@@ -186,13 +186,13 @@ move_shrinks i x x' h = record { length = let a = h.length in omega arith; room 
 
 store_shrinks : (x y x' y' : Tx) → TxShrinks x x' → TxShrinks y y' → TsShrinks (Store x y) (Store x' y')
 store_shrinks x y x' y' h k = record {
-  length = let a = h.length in let b = k.length in let c = lifted_less (is_flat y) (is_flat y') k.flat in omega arith;
+  length = let a = h.length in let b = k.length in let c = hoisted_less (is_flat y) (is_flat y') k.flat in omega arith;
   room = let a = h.room in let b = k.room in omega arith;
 }
 
 store_byte_shrinks : (x y x' y' : Tx) → TxShrinks x x' → TxShrinks y y' → TsShrinks (StoreByte x y) (StoreByte x' y')
 store_byte_shrinks x y x' y' h k = record {
-  length = let a = h.length in let b = k.length in let c = lifted_less (is_flat y) (is_flat y') k.flat in omega arith;
+  length = let a = h.length in let b = k.length in let c = hoisted_less (is_flat y) (is_flat y') k.flat in omega arith;
   room = let a = h.room in let b = k.room in omega arith;
 }
 
@@ -300,7 +300,7 @@ operated_shrinks op x y = by x y (sides x y)
 
 pub record IsLong (c : Cond) : Type 0 where
   pub length : 8 ≤ condition_length Trees c
-  pub room : 10 ≤ condition_room in_trees c
+  pub room : 10 ≤ condition_needs in_trees c
 
 abbrev pub TestShrinks : Cond → Tested → Type 0
 TestShrinks c (Known b) = IsLong c
@@ -321,11 +321,12 @@ negated_shrinks c (Known b) h = record { length = let a = h.length in omega arit
 negated_shrinks c (Open d) h = not_shrinks c d h
 
 -- what is joined is no smaller than its sides
-joined_long : (c d whole : Cond) → condition_length Trees c ≤ condition_length Trees whole → condition_room in_trees c ≤ condition_room in_trees whole →
+joined_long : (c d whole : Cond) → condition_length Trees c ≤ condition_length Trees whole → condition_needs in_trees c ≤ condition_needs in_trees whole →
     IsLong c → IsLong whole
 joined_long c d whole l r h = record { length = let a = h.length in omega arith; room = let a = h.room in omega arith }
 
-side_of : (c whole : Cond) (t : Tested) → condition_length Trees c ≤ condition_length Trees whole → condition_room in_trees c ≤ condition_room in_trees whole →
+side_of : (c whole : Cond) (t : Tested) → condition_length Trees c ≤ condition_length Trees whole →
+    condition_needs in_trees c ≤ condition_needs in_trees whole →
     (is_flat_condition whole ≡ true → is_flat_condition c ≡ true) → TestShrinks c t → TestShrinks whole t
 side_of c whole (Known b) l r f h = record { length = let a = h.length in omega arith; room = let a = h.room in omega arith }
 side_of c whole (Open d) l r f h = record {

@@ -7,8 +7,8 @@ use Rattle.tg_tree.specs.Named.{Named, constant, named_ts}
 use Rattle.tg_tree.specs.Named.{HasItsTemps}
 use Rattle.tg_tree.specs.Units.{Trees}
 use Rattle.tg_tree.specs.Sizes.{expression_length, condition_length, statement_length}
-use Rattle.tg_tree.specs.Sizes.{expression_room, condition_room, statement_room, in_trees}
-use Rattle.tg_tree.specs.Sizes.{tree_length, tree_room}
+use Rattle.tg_tree.specs.Sizes.{expression_needs, condition_needs, statement_needs, in_trees}
+use Rattle.tg_tree.specs.Sizes.{tree_length, tree_needs}
 use Rattle.tg_fold.specs.Folding.{Open, folded_tx, tested, folded}
 use Rattle.tg_fold.specs.Folded.{IsFolded}
 
@@ -57,26 +57,26 @@ abbrev pub ExpressionsShrink : Type 0
 ExpressionsShrink =
     (x : Tx) →
     IsNoLarger (expression_length Trees x) (expression_length Trees (folded_tx x))
-    (expression_room in_trees x) (expression_room in_trees (folded_tx x))
+    (expression_needs in_trees x) (expression_needs in_trees (folded_tx x))
 
 abbrev pub ConditionsShrink : Type 0
 ConditionsShrink =
     (c d : Cond) →
     tested c ≡ Open d →
     IsNoLarger (condition_length Trees c) (condition_length Trees d)
-    (condition_room in_trees c) (condition_room in_trees d)
+    (condition_needs in_trees c) (condition_needs in_trees d)
 
 abbrev pub StatementsShrink : Type 0
 StatementsShrink =
     (s : Ts) →
     IsNoLarger (statement_length Trees s) (statement_length Trees (folded s))
-    (statement_room in_trees s) (statement_room in_trees (folded s))
+    (statement_needs in_trees s) (statement_needs in_trees (folded s))
 
 abbrev pub FunctionsShrink : Type 0
 FunctionsShrink =
     (f : Function Ts) →
     IsNoLarger (tree_length f) (tree_length (folded_function f))
-    (tree_room f) (tree_room (folded_function f))
+    (tree_needs f) (tree_needs (folded_function f))
 
 -- what was flat is flat
 abbrev pub FlatStays : Type 0

@@ -44,8 +44,8 @@ CallsAreCarried =
     code.functions (folded_code code).functions n
 
 -- and so do programs.
-abbrev pub ProgramsArePreserved : Type 0
-ProgramsArePreserved =
+abbrev pub FoldIsCorrect : Type 0
+FoldIsCorrect =
     (code : Code Ts) (size : ℕ → ℕ) (floor room body : ℕ) (input : List ℕ) →
     Preserves 1 added_work
     (tree_run Trees code size floor room body input)

@@ -11,7 +11,7 @@ ghost use Rattle.tg_fold.specs.Laws.{
   TempsStay,
   WordsStay,
 };
-ghost use Rattle.tg_fold.specs.Meaning.{BodiesAreCarried, CallsAreCarried, ProgramsArePreserved};
+ghost use Rattle.tg_fold.specs.Meaning.{BodiesAreCarried, CallsAreCarried, FoldIsCorrect};
 
 /// The law that nothing is left to fold in a folded body.
 pub fn folding_is_folded()
@@ -29,7 +29,7 @@ pub fn shapes_stay()
 
 /// The laws of sizes: a folded function is no longer and has no more room, part by part, and what
 /// was flat is flat.
-pub fn sizes_stay()
+pub fn fold_is_bounded()
     ensures expressions { ExpressionsShrink }
     ensures conditions { ConditionsShrink }
     ensures statements { StatementsShrink }
@@ -43,5 +43,5 @@ pub fn sizes_stay()
 pub fn fold_is_correct()
     ensures bodies { BodiesAreCarried }
     ensures calls { CallsAreCarried }
-    ensures programs { ProgramsArePreserved }
+    ensures programs { FoldIsCorrect }
 {}

@@ -13,5 +13,5 @@ mod reading;
 mod renaming;
 mod tests;
 
-pub use laws::{fold_is_correct, folding_is_folded, shapes_stay, sizes_stay};
+pub use laws::{fold_is_bounded, fold_is_correct, folding_is_folded, shapes_stay};
 pub use pass::fold;

@@ -11,7 +11,7 @@ use Rattle.tg_syntax.specs.declared.trees.Op.TheVariants as op
 use Rattle.tg_syntax.specs.Tree.{Exp, Binary, If, When, While, For, no_decs}
 use Rattle.tg_tree.specs.Tree.{Ts, Function, Code}
 use Rattle.tg_tree.specs.Units.{Trees}
-use Rattle.tg_tree.specs.Sizes.{tree_length, tree_room}
+use Rattle.tg_tree.specs.Sizes.{tree_length, tree_needs}
 use Rattle.tg_tree.specs.Running.{tree_run}
 use Rattle.tg_runtime.specs.Routines.{runtime}
 use Rattle.tg_translate.specs.Translate.{translated}
@@ -26,7 +26,7 @@ say e = call 30 (e ∷ [])
 -- a function that is no larger behind the pass, in length and room
 abbrev is_no_larger : Function Ts → Bool
 is_no_larger one =
-    nat_le (tree_length (folded_function one)) (tree_length one) && nat_le (tree_room (folded_function one)) (tree_room one)
+    nat_le (tree_length (folded_function one)) (tree_length one) && nat_le (tree_needs (folded_function one)) (tree_needs one)
 
 -- what a program writes, and how it stops
 abbrev Seen : Type 0

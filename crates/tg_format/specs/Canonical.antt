@@ -137,8 +137,8 @@ pub record Behind : Type 0 where
   pub is_unary : Bool
   pub depth : ℕ
 
-abbrev pub start : Behind
-start = record { before = None; is_unary = false; depth = 0 }
+abbrev pub at_start : Behind
+at_start = record { before = None; is_unary = false; depth = 0 }
 
 abbrev pub is_unary_minus : Option Token → Token → Bool
 is_unary_minus None one = is_minus one
@@ -181,18 +181,18 @@ abbrev pub gap_behind : Option Token → (is_unary : Bool) → (depth : ℕ) →
 gap_behind None is_unary depth one = []
 gap_behind (Some a) is_unary depth one = between_tokens a is_unary depth one
 
-abbrev pub gap : Behind → Token → List ℕ
-gap b one = gap_behind b.before b.is_unary b.depth one
+abbrev pub space_before : Behind → Token → List ℕ
+space_before b one = gap_behind b.before b.is_unary b.depth one
 
 -- The text.
 
 abbrev pub text_behind : (names : List (List ℕ)) → Behind → List Token → List ℕ
 text_behind names b [] = []
 text_behind names b (one ∷ tokens) =
-    gap b one ++ (spelling names one ++ text_behind names (behind_one b one) tokens)
+    space_before b one ++ (spelling names one ++ text_behind names (behind_one b one) tokens)
 
 abbrev pub canonical : (names : List (List ℕ)) → List Token → List ℕ
-canonical names tokens = text_behind names start tokens
+canonical names tokens = text_behind names at_start tokens
 
 abbrev pub tokens_of : List Spanned → List Token
 tokens_of tokens = map (λ t. t.token) tokens

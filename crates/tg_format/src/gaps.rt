@@ -18,7 +18,7 @@ pub(crate) struct Behind<'a> {
 impl<'a> Behind<'a> {
     /// Nothing is written yet.
     pub(crate) fn start() -> Behind<'a>
-        ensures { behind_of result ≡ canonical.start }
+        ensures { behind_of result ≡ canonical.at_start }
     {
         Behind {
             before: None,
@@ -68,7 +68,7 @@ fn depth_after(depth: usize, one: &Token) -> usize
 /// Puts what stands between a token and the one before it at the end.
 pub(crate) fn put_gap(text: &mut Vec<u8>, behind: Behind, one: &Token) -> Result<(), Memory>
     ensures { OnOk result (text.new.items
-        ≡ text.old.items ++ canonical.gap (behind_of behind.entry) one.now) }
+        ≡ text.old.items ++ canonical.space_before (behind_of behind.entry) one.now) }
 {
     match behind.before {
         None => Ok(()),

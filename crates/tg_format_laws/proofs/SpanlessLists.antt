@@ -6,7 +6,8 @@ use Rattle.tg_syntax.specs.declared.trees.Param.{Param}
 use Rattle.tg_syntax.specs.Tree.{TypeDec, Exp, Nil, Break, Int, Text, Read, Call, Neg, Binary, Make, Fill, Assign, If, When, While, For, Let, Seq}
 use Rattle.tg_syntax.specs.Tree.{Exps, no_exps, exp, Inits, no_inits, init, Decs, no_decs, types, variable, functions, FunDecs, no_functions, function}
 use Rattle.tg_syntax.specs.Tails.{ends_tail, is_short}
-use Rattle.tg_syntax.specs.Groups.{snoc, snoc_init, Dec, one_type, one_variable, one_function, alone, snoc_function, behind_types, behind_functions, snoc_dec}
+use Rattle.tg_syntax.specs.Groups.{snoc, snoc_init, Dec, one_type, one_variable, one_function, one_declaration, snoc_function, behind_types, behind_functions}
+use Rattle.tg_syntax.specs.Groups.{snoc_dec}
 use Rattle.tg_format_laws.specs.Spans.{spanless_ident, spanless_param, spanless_type, without_spans, spanless_exps, spanless_inits, spanless_decs}
 use Rattle.tg_format_laws.specs.Spans.{spanless_functions}
 
@@ -88,7 +89,7 @@ spanless_dec (one_variable x k e) = one_variable (spanless_ident x) (option_map 
 spanless_dec (one_function f ps k e) =
     one_function (spanless_ident f) (map spanless_param ps) (option_map spanless_ident k) (without_spans e)
 
-alone_is : (d : Dec) → spanless_decs (alone d) ≡ alone (spanless_dec d)
+alone_is : (d : Dec) → spanless_decs (one_declaration d) ≡ one_declaration (spanless_dec d)
 alone_is (one_type d) = refl
 alone_is (one_variable x k e) = refl
 alone_is (one_function f ps k e) = refl

@@ -10,7 +10,7 @@ use Rattle.tg_types.specs.declared.faults.TypeRule.TheVariants.{T3, T15}
 use Rattle.tg_types.specs.declared.notes.Means.{Means}
 use Rattle.tg_types.specs.Types.{Ty, int_type, none_type}
 use Rattle.tg_types.specs.Checks.{Noted, Check, fine, on_fine, give, keep, present, note, ◌>>=◌, ◌>>◌}
-use Rattle.tg_symbols.specs.Tables.{named}
+use Rattle.tg_symbols.specs.Tables.{looked_up}
 use Rattle.tg_types.specs.Scopes.{Signature, Binding, variable_at, function_at, standard_one, Scope, at_of, signature}
 use Rattle.tg_types.specs.Typing.{typed, typed_last, variable_of, function_of, is_loop_variable}
 use Rattle.tg_generate_laws.proofs.Lines.{place}
@@ -71,15 +71,15 @@ counting = record { params = int_type ∷ []; result = int_type }
 
 pub record Sees (bindings : List (ℕ × Binding)) (types : List (ℕ × Ty)) : Type 0 where
   pub s_at : ℕ
-  pub s : named 0 bindings ≡ Some (variable_at s_at int_type false)
+  pub s : looked_up 0 bindings ≡ Some (variable_at s_at int_type false)
   pub d_at : ℕ
-  pub d : named 1 bindings ≡ Some (function_at d_at printing)
+  pub d : looked_up 1 bindings ≡ Some (function_at d_at printing)
   pub p_at : ℕ
-  pub p : named 7 bindings ≡ Some (function_at p_at printing)
-  pub print : named 4 bindings ≡ Some (standard_one Print)
-  pub chr : named 5 bindings ≡ Some (standard_one Chr)
-  pub ord : named 6 bindings ≡ Some (standard_one Ord)
-  pub int : named 3 types ≡ Some int_type
+  pub p : looked_up 7 bindings ≡ Some (function_at p_at printing)
+  pub print : looked_up 4 bindings ≡ Some (standard_one Print)
+  pub chr : looked_up 5 bindings ≡ Some (standard_one Chr)
+  pub ord : looked_up 6 bindings ≡ Some (standard_one Ord)
+  pub int : looked_up 3 types ≡ Some int_type
 
 -- a scope of bindings and types, in no loop
 abbrev pub scope : List (ℕ × Binding) → List (ℕ × Ty) → Scope
@@ -107,7 +107,7 @@ module _ (bindings : List (ℕ × Binding)) (types : List (ℕ × Ty)) (sees : S
       (and_then _ fit ok)))) (and_then _ fit ok)))) (and_then _ fit ok)) ok))) ok)) (and_then _ (and_then _ (called_by (id s 58 1) sees.d) (and_then
       _ ok (and_then _ (and_then _ (local _ _) (and_then _ fit ok)) ok))) (and_then _ ok ok)))))
 
-  pub last_typed : (k : ℕ) (s : ℕ → Span) {at : ℕ} → named (place k) bindings ≡ Some (function_at at counting) →
+  pub last_typed : (k : ℕ) (s : ℕ → Span) {at : ℕ} → looked_up (place k) bindings ≡ Some (function_at at counting) →
       Gives (typed_last none_type (last_exps k s) (scope bindings types)) none_type
   last_typed k s before =
       (and_then _ (and_then _ (called_by (id s 1 7) sees.p) (and_then _ ok (and_then _ (and_then _ (and_then _ (called_by (id s 3 (place k)) before)
@@ -117,21 +117,21 @@ module _ (bindings : List (ℕ × Binding)) (types : List (ℕ × Ty)) (sees : S
       sees.print) (and_then _ ok (and_then _ (and_then _ ok (and_then _ fit ok)) ok))) ok))))
 
   -- names that no function of the group has
-  skips : (x n : ℕ) (b : Binding) (rest : List (ℕ × Binding)) → (x == n) ≡ false → named n ((x, b) ∷ rest) ≡ named n rest
-  skips x n b rest e = ap (λ c. if c then Some b else named n rest) e
+  skips : (x n : ℕ) (b : Binding) (rest : List (ℕ × Binding)) → (x == n) ≡ false → looked_up n ((x, b) ∷ rest) ≡ looked_up n rest
+  skips x n b rest e = ap (λ c. if c then Some b else looked_up n rest) e
 
   inner_apart : (k n : ℕ) → 9 ≤ n → n ≤ 13 → (n ≡ 10 → ⊥) → (n == place k) ≡ false
   inner_apart zero n l h e = grind (arith, nat_tests)
   inner_apart (suc zero) n l h e = grind (arith, nat_tests)
   inner_apart (suc (suc k)) n l h e = grind (arith, nat_tests)
 
-  pub later_typed : (k : ℕ) (s : ℕ → Span) (at : ℕ) {place_of : ℕ} → named (place k) bindings ≡ Some (function_at place_of counting) →
+  pub later_typed : (k : ℕ) (s : ℕ → Span) (at : ℕ) {place_of : ℕ} → looked_up (place k) bindings ≡ Some (function_at place_of counting) →
       Gives (typed (later_body k s) (scope (given 9 at bindings) types)) int_type
   later_typed k s at {place_of} found =
       let a = given 9 at bindings in
       let b = given 11 (s 12).from a in
       let g = (12, function_at (s 18).from counting) ∷ b in
-      let before : named (place k) g ≡ Some (function_at place_of counting) =
+      let before : looked_up (place k) g ≡ Some (function_at place_of counting) =
       skips 12 (place k) (function_at (s 18).from counting) b (inner_apart k 12 (omega arith) (omega arith) (λ e. omega arith))
       ∙ skips 11 (place k) (variable_at (s 12).from int_type false) a (inner_apart k 11 (omega arith) (omega arith) (λ e. omega arith))
       ∙ skips 9 (place k) (variable_at at int_type false) bindings (inner_apart k 9 (omega arith) (omega arith) (λ e. omega arith)) ∙ found in

@@ -9,7 +9,8 @@ use Rattle.tg_syntax.specs.Groups.{snoc_function}
 use Rattle.tg_syntax.specs.Tree.{Exp, FunDecs, no_functions, function}
 use Rattle.tg_types.specs.declared.faults.TypeRule.{TypeRule}
 use Rattle.tg_types.specs.Checks.{keep}
-use Rattle.tg_types.specs.Scopes.{Signature, Scope, function_at, name_of, at_of, binding}
+use Rattle.tg_semantics.specs.Environments.{name_of}
+use Rattle.tg_types.specs.Scopes.{Signature, Scope, function_at, at_of, binding}
 use Rattle.tg_types.specs.Groups.{stands_in, no_repeats, function_names, param_types, result_type, headers, with_functions, with_params}
 use Rattle.tg_types.specs.Typing.{typed, bodies, body_fits, start_of}
 use Rattle.tg_generate_laws.proofs.Bodies.{Gives, ok, and_then}

@@ -12,7 +12,7 @@ use Rattle.tg_syntax.specs.declared.tokens.Sign.{Sign}
 use Rattle.tg_syntax.specs.declared.tokens.Token.{Token}
 use Rattle.tg_syntax.specs.declared.tokens.Token.TheVariants as token
 use Rattle.tg_syntax.specs.declared.tokens.Spanned.{Spanned}
-use Rattle.tg_syntax.specs.Spellings.{word_text, sign_text, is_blank, is_letter, is_digit, is_name_byte, Spells, IsName, IsQuoted}
+use Rattle.tg_syntax.specs.Spellings.{word_text, sign_text, is_white_space, is_letter, is_digit, is_name_byte, Spells, IsName, IsQuoted}
 use Rattle.tg_syntax.specs.Lexing.{Lexes, spanned, IsLongest}
 use Rattle.tg_syntax.proofs.Longest.{begins, name_longest, digits_longest}
 use Rattle.tg_syntax.proofs.Numerals.{is_digit_from, none_is_numeral}
@@ -82,7 +82,7 @@ AreLexemes names (_ ∷ ls) = AreLexemes names ls
 
 -- a gap is blank, and no other goes on in the text that follows
 abbrev pub stops : Lexeme → List ℕ → Bool
-stops (gap b) rest = is_blank b
+stops (gap b) rest = is_white_space b
 stops (mark s) rest = not (begins goes_on rest)
 stops (word w) rest = not (begins is_name_byte rest)
 stops (name text n) rest = not (begins is_name_byte rest)
@@ -112,7 +112,7 @@ pub lexes : (names : List (List ℕ)) (at : ℕ) (ls : List Lexeme) (rest : List
     Lexes names at (spelled ls ++ rest) (tokens_at at ls ++ ts)
 lexes names at [] rest ts a s l = l
 lexes names at (gap b ∷ ls) rest ts a s l =
-    let h = and_parts (is_blank b) (all_stop ls rest) s in
+    let h = and_parts (is_white_space b) (all_stop ls rest) s in
     Lexes.blank b h.0 (lexes names (at + 1) ls rest ts a h.1 l)
 lexes names at (mark m ∷ ls) rest ts a s l =
     let h = and_parts (not (begins goes_on (spelled ls ++ rest))) (all_stop ls rest) s in

@@ -18,7 +18,7 @@ use Rattle.tg_syntax.specs.Spellings.{Spells, AllAre, is_name_byte, is_digit, is
 use Rattle.tg_syntax.specs.Spellings.{Escape}
 use Rattle.tg_syntax.proofs.Longest.{begins}
 use Rattle.tg_syntax.proofs.Numerals.{bytes_of_digits, digits_of_bytes, none_is_numeral}
-use Rattle.tg_lexer.specs.Numbering.{named, all_named}
+use Rattle.tg_lexer.specs.Numbering.{with_name, all_named}
 use Rattle.tg_lexer.proofs.Interning.{slice_get-more}
 use Rattle.tg_generate_laws.proofs.Signs.{name_is, is_name, no_word, is_word, numbered_no_word}
 use Rattle.tg_generate_laws.proofs.Strings.{zero_longest, newline_longest}
@@ -212,7 +212,7 @@ among (x ∷ names) zero text e = let same : x ≡ text = cc in
     ap (λ t. bytes_eq text t || is_among text names) same ∙ ap (λ b. b || is_among text names) (same_bytes text)
 among (x ∷ names) (suc j) text e = or_right (bytes_eq text x) (is_among text names) (among names j text e)
 
-there : (names : List (List ℕ)) (text : List ℕ) → is_among text names ≡ true → named names text ≡ names
+there : (names : List (List ℕ)) (text : List ℕ) → is_among text names ≡ true → with_name names text ≡ names
 there names text h = ap (λ b. cond b names (names ++ text ∷ [])) h
 
 pub no_more : (names : List (List ℕ)) (ls : List Lexeme) → AreLexemes names ls → all_named names (names_in ls) ≡ names
@@ -243,7 +243,7 @@ unlike i (suc m) small h =
     ∙ or_from (is_among (102 ∷ decimal i) (names_of m)) (is_among (102 ∷ decimal i) (fresh m)) (unlike i m small (omega arith))
     (unlike_fresh i m small h)
 
-new : (names : List (List ℕ)) (text : List ℕ) → is_among text names ≡ false → named names text ≡ names ++ text ∷ []
+new : (names : List (List ℕ)) (text : List ℕ) → is_among text names ≡ false → with_name names text ≡ names ++ text ∷ []
 new names text h = ap (λ b. cond b names (names ++ text ∷ [])) h
 
 -- the names of the lines
@@ -266,16 +266,16 @@ line_named (suc (suc k)) small = later_named k small
 lines_named : (n : ℕ) → n ≤ 1000 → all_named (names_of zero) (names_in (lines n)) ≡ names_of n
 lines_named zero small = refl
 lines_named (suc n) small =
-    ap (all_named (names_of zero)) (names-append (lines n) (line n)) ∙ fold-append named (names_of zero) (names_in (lines n)) (names_in (line n))
+    ap (all_named (names_of zero)) (names-append (lines n) (line n)) ∙ fold-append with_name (names_of zero) (names_in (lines n)) (names_in (line n))
     ∙ ap (λ x. all_named x (names_in (line n))) (lines_named n (omega arith)) ∙ line_named n small
 
 pub program_named : (k : ℕ) → suc k ≤ 1000 → all_named [] (names_in (program k)) ≡ names_of (suc k)
 program_named k small =
     let n = suc k in
     ap (all_named []) (names-append head (lines n ++ last k))
-    ∙ fold-append named [] (names_in head) (names_in (lines n ++ last k))
+    ∙ fold-append with_name [] (names_in head) (names_in (lines n ++ last k))
     ∙ ap (λ x. all_named x (names_in (lines n ++ last k))) head_named
     ∙ ap (all_named (names_of zero)) (names-append (lines n) (last k))
-    ∙ fold-append named (names_of zero) (names_in (lines n)) (names_in (last k))
+    ∙ fold-append with_name (names_of zero) (names_in (lines n)) (names_in (last k))
     ∙ ap (λ x. all_named x (names_in (last k))) (lines_named n small)
     ∙ no_more (names_of n) (last k) (last_are k n (omega arith) small)

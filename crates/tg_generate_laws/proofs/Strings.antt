@@ -5,7 +5,7 @@ use Rattle.std.specs.Str.Parse.{IsNumeral}
 use Rattle.std.proofs.lemmas.Bool.{false≢true}
 use Rattle.tg_syntax.specs.declared.tokens.Sign.{Sign}
 use Rattle.tg_syntax.specs.declared.tokens.Sign.TheVariants.{Comma}
-use Rattle.tg_syntax.specs.Spellings.{sign_text, is_digit, is_blank, IsName, HasTokenForm, Escape, IsQuoted, nothing, plain, escaped, is_plain}
+use Rattle.tg_syntax.specs.Spellings.{sign_text, is_digit, is_white_space, IsName, HasTokenForm, Escape, IsQuoted, nothing, plain, escaped, is_plain}
 use Rattle.tg_syntax.specs.Lexing.{IsLongest}
 use Rattle.tg_syntax.proofs.Longest.{begins}
 use Rattle.tg_syntax.proofs.Numerals.{bytes_of_digits}
@@ -43,7 +43,7 @@ one_escape Escape.backslash q c more e = let same = head_is e in omega (arith, s
 one_escape (Escape.control b h) q c more e = let same = head_is e in omega (arith, same)
 one_escape (Escape.decimal x y z h le) q c more e =
     false≢true (ap is_digit (sym (head_is e)) ∙ (bytes_of_digits (x ∷ y ∷ z ∷ []) h).0)
-one_escape (Escape.blanks b bytes h) q c more e = false≢true (ap is_blank (sym (head_is e)) ∙ h.0)
+one_escape (Escape.blanks b bytes h) q c more e = false≢true (ap is_white_space (sym (head_is e)) ∙ h.0)
 
 two_bytes : {inside meant : List ℕ} → IsQuoted inside meant → (c : ℕ) (more : List ℕ) → inside ++ 34 ∷ [] ≡ 92 ∷ 110 ∷ 34 ∷ c ∷ more → ⊥
 two_bytes nothing c more e = let same = head_is e in omega (arith, same)

@@ -7,8 +7,9 @@ use Rattle.tg_syntax.specs.declared.tokens.Ident.{Ident}
 use Rattle.tg_semantics.specs.declared.standards.Standard.TheVariants.{Print, Ord, Chr}
 use Rattle.tg_types.specs.declared.faults.TypeRule.TheVariants.{T17}
 use Rattle.tg_types.specs.Types.{Ty, int_type, none_type}
-use Rattle.tg_symbols.specs.Tables.{named}
-use Rattle.tg_types.specs.Scopes.{Signature, Binding, function_at, Scope, outermost, standard_one, standard_bindings, standard_types, name_of}
+use Rattle.tg_symbols.specs.Tables.{looked_up}
+use Rattle.tg_semantics.specs.Environments.{name_of}
+use Rattle.tg_types.specs.Scopes.{Signature, Binding, function_at, Scope, outermost_scope, standard_one, standard_bindings, standard_types}
 use Rattle.tg_types.specs.Scopes.{binding, in_no_loop}
 use Rattle.tg_types.specs.Groups.{function_names, param_types, with_functions, with_params}
 use Rattle.tg_types.specs.Typing.{typed, typed_last}
@@ -65,17 +66,17 @@ head_apart (suc (suc k)) x h = grind (arith, nat_tests)
 
 -- what the outermost scope has
 pub record IsStandard (bindings : List (ℕ × Binding)) (types : List (ℕ × Ty)) : Type 0 where
-  pub print : named 4 bindings ≡ Some (standard_one Print)
-  pub chr : named 5 bindings ≡ Some (standard_one Chr)
-  pub ord : named 6 bindings ≡ Some (standard_one Ord)
-  pub int : named 3 types ≡ Some int_type
+  pub print : looked_up 4 bindings ≡ Some (standard_one Print)
+  pub chr : looked_up 5 bindings ≡ Some (standard_one Chr)
+  pub ord : looked_up 6 bindings ≡ Some (standard_one Ord)
+  pub int : looked_up 3 types ≡ Some int_type
 
 module _ (bindings : List (ℕ × Binding)) (types : List (ℕ × Ty)) (std : IsStandard bindings types) (s : Spans) where
   abbrev outer : Scope
   outer = scope (given 0 (s.head 2).from bindings) types
 
   one_param : (x k : Ident) → name_of k ≡ 3 → Gives (param_types outer [] (record { name = x; kind = k } ∷ [])) (int_type ∷ [])
-  one_param x k e = and_then _ ok (and_then _ (kind k (ap (λ n. named n types) e ∙ std.int)) (and_then _ ok ok))
+  one_param x k e = and_then _ ok (and_then _ (kind k (ap (λ n. looked_up n types) e ∙ std.int)) (and_then _ ok ok))
 
   group_headed : (n : ℕ) → Headed (group s n) (signatures n) outer
   group_headed zero = (one_param (id s.head 8 2) (id s.head 10 3) refl, ok, (one_param (id s.head 28 2) (id s.head 30 3) refl, ok, tt))
@@ -104,25 +105,25 @@ module _ (bindings : List (ℕ × Binding)) (types : List (ℕ × Ty)) (std : Is
 
   -- what is found there
   newest : (n x : ℕ) (b : Bool) → (place n == x) ≡ b →
-      named x (inside (suc n)).bindings ≡ (if b then Some (function_at (s.lines n 1).from counting) else named x (inside n).bindings)
+      looked_up x (inside (suc n)).bindings ≡ (if b then Some (function_at (s.lines n 1).from counting) else looked_up x (inside n).bindings)
   newest n x b e =
-      ap (λ sc. named x sc.bindings) (inside_more n)
-      ∙ ap (λ c. if c then Some (function_at (s.lines n 1).from counting) else named x (inside n).bindings) e
+      ap (λ sc. looked_up x sc.bindings) (inside_more n)
+      ∙ ap (λ c. if c then Some (function_at (s.lines n 1).from counting) else looked_up x (inside n).bindings) e
 
-  of_head : (n x : ℕ) → x < 8 → named x (inside n).bindings ≡ named x (inside zero).bindings
+  of_head : (n x : ℕ) → x < 8 → looked_up x (inside n).bindings ≡ looked_up x (inside zero).bindings
   of_head zero x h = refl
   of_head (suc n) x h = newest n x false (head_apart n x h) ∙ of_head n x h
 
-  of_line : (n k : ℕ) → k < n → named (place k) (inside n).bindings ≡ Some (function_at (s.lines k 1).from counting)
+  of_line : (n k : ℕ) → k < n → looked_up (place k) (inside n).bindings ≡ Some (function_at (s.lines k 1).from counting)
   of_line zero k h = absurd (omega arith)
   of_line (suc n) k h = by (λ l. of_line n k l) (at_most (suc k) n h)
     where
-      by : (k < n → named (place k) (inside n).bindings ≡ Some (function_at (s.lines k 1).from counting)) → (suc k ≤ n) ⊎ (suc k ≡ suc n) →
-          named (place k) (inside (suc n)).bindings ≡ Some (function_at (s.lines k 1).from counting)
+      by : (k < n → looked_up (place k) (inside n).bindings ≡ Some (function_at (s.lines k 1).from counting)) → (suc k ≤ n) ⊎ (suc k ≡ suc n) →
+          looked_up (place k) (inside (suc n)).bindings ≡ Some (function_at (s.lines k 1).from counting)
       by before (inl l) = newest n (place k) false (higher_apart (place k) (place n) (place_rises k n l)) ∙ before l
       by before (inr e) =
           let same : n ≡ k = omega arith in
-          subst (λ m. named (place m) (inside (suc n)).bindings ≡ Some (function_at (s.lines m 1).from counting)) same
+          subst (λ m. looked_up (place m) (inside (suc n)).bindings ≡ Some (function_at (s.lines m 1).from counting)) same
           (newest n (place n) true (same_number (place n)))
 
   sees : (n : ℕ) → Sees (inside n).bindings (inside n).types
@@ -136,7 +137,7 @@ module _ (bindings : List (ℕ × Binding)) (types : List (ℕ × Ty)) (std : Is
     print = of_head n 4 (omega arith) ∙ std.print;
     chr = of_head n 5 (omega arith) ∙ std.chr;
     ord = of_head n 6 (omega arith) ∙ std.ord;
-    int = ap (named 3) (types_kept n) ∙ std.int;
+    int = ap (looked_up 3) (types_kept n) ∙ std.int;
   }
 
   line_typed : (n m : ℕ) → m < n →
@@ -180,10 +181,10 @@ names_are : (n : ℕ) → names_of n ≡ head_names ++ behind n
 names_are zero = refl
 names_are (suc n) = ap (λ l. l ++ fresh n) (names_are n) ∙ append_assoc head_names (behind n) (fresh n)
 
-pub well_typed : (s : Spans) (n k : ℕ) → Gives (typed (tree s k) (outermost (names_of n))) none_type
+pub well_typed : (s : Spans) (n k : ℕ) → Gives (typed (tree s k) (outermost_scope (names_of n))) none_type
 well_typed s n k =
     let m = behind n in
     let std : IsStandard (standard_bindings 0 (head_names ++ m)) (standard_types 0 (head_names ++ m)) =
     record { print = refl; chr = refl; ord = refl; int = refl } in
-    subst (λ names. Gives (typed (tree s k) (outermost names)) none_type) (sym (names_are n))
+    subst (λ names. Gives (typed (tree s k) (outermost_scope names)) none_type) (sym (names_are n))
     (program_typed (standard_bindings 0 (head_names ++ m)) (standard_types 0 (head_names ++ m)) std s k)

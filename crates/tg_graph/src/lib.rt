@@ -5,9 +5,9 @@
 #![tactic(auto)]
 
 mod bits;
+mod chains;
 mod graphs;
 mod laws;
-mod links;
 mod lists;
 mod matrices;
 mod worklists;

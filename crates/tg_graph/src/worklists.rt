@@ -3,7 +3,7 @@ ghost use Rattle.tg_graph.specs.Interference.{colours, is_among, most_nodes};
 ghost use Rattle.tg_graph.specs.Lists as lists;
 ghost use Rattle.tg_graph.specs.Lists.{after, moved, nodes_in, started};
 
-use crate::links::{link_last, link_range, unlink};
+use crate::chains::{link_last, link_range, unlink};
 use crate::lists::{COLOURS, numbers};
 use std::alloc::Global;
 use std::marker::Model;

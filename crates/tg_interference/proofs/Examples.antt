@@ -1,4 +1,4 @@
--- Nodes, and the pairs, the moves and the marks of a code, by computing.
+-- Nodes, and the pairs, the moves and the facts of a code, by computing.
 use Rattle.std.proofs.Common.{◌≡◌, ℕ, Bool, true, false, List, [], ◌∷◌, ◌++◌, Some, None, map, replicate, refl, inl}
 use Rattle.std.specs.Prelude.{filter}
 use Rattle.std.specs.List.{range_with_len}
@@ -10,11 +10,11 @@ use Rattle.tg_live.specs.Live.{Sets}
 use Rattle.tg_live.proofs.LiveExamples as live
 use Rattle.tg_live.proofs.LiveExamples.{copies}
 use Rattle.tg_irc.specs.declared.moves.Move.{Move}
-use Rattle.tg_irc.specs.declared.candidates.Mark.{Mark}
+use Rattle.tg_irc.specs.declared.candidates.NodeFacts.{NodeFacts}
 use Rattle.tg_interference.specs.Nodes.{operand_at, node_of}
 use Rattle.tg_interference.specs.Moves.{moves_of}
 use Rattle.tg_interference.specs.Pairs.{IsInterference}
-use Rattle.tg_interference.specs.Marks.{temp, marks_of}
+use Rattle.tg_interference.specs.Facts.{temp, facts_of_nodes}
 use Rattle.tg_interference.proofs.Interfering.{joined_below}
 
 -- $v0, $a0, $ra and t3 have nodes, and $zero and $sp have none
@@ -42,8 +42,8 @@ lives =
 abbrev move : ℕ → ℕ → Move
 move to from = record { to = to; from = from }
 
-abbrev mark : ℕ → Bool → Mark
-mark uses made = record { uses = uses; made = made }
+abbrev node_facts : ℕ → Bool → NodeFacts
+node_facts uses made = record { uses = uses; made = made }
 
 -- the nodes that its instructions join to a node
 abbrev joined_to : ℕ → List ℕ
@@ -74,6 +74,6 @@ unfolding node_of
 no_move = refl
 
 -- t0 is defined once and used twice, t1 and t2 are used once, and t2 alone is made
-copies_marks : marks_of copies 3 2
-    ≡ map (λ n. mark 0 false) (range_with_len 0 25) ++ mark 3 false ∷ mark 2 false ∷ mark 2 true ∷ []
-copies_marks = refl
+copies_facts : facts_of_nodes copies 3 2
+    ≡ map (λ n. node_facts 0 false) (range_with_len 0 25) ++ node_facts 3 false ∷ node_facts 2 false ∷ node_facts 2 true ∷ []
+copies_facts = refl

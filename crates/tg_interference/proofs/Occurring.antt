@@ -15,9 +15,9 @@ use Rattle.tg_instr.specs.Shapes.{Holder, Operand, Hi, Lo, InstructionShape, Fro
 use Rattle.tg_instr.specs.Uses.{operand_of, uses, defs, uses_of, defs_of}
 use Rattle.tg_graph.specs.Interference.{is_register}
 use Rattle.tg_irc.specs.declared.moves.Move.{Move}
-use Rattle.tg_irc.specs.declared.candidates.Mark.{Mark}
+use Rattle.tg_irc.specs.declared.candidates.NodeFacts.{NodeFacts}
 use Rattle.tg_interference.specs.Moves.{move_of, moves_of}
-use Rattle.tg_interference.specs.Marks.{temp, occurrences_in, occurrences, mark_by, mark_of, AreCounts}
+use Rattle.tg_interference.specs.Facts.{temp, occurrences_in, occurrences, facts_by, facts_of, AreCounts}
 
 -- One more instruction.
 
@@ -92,12 +92,12 @@ room_for x list i one l short =
     let whole = sum_by-le (λ (one : Instr). 48) 48 list (each_few list) in
     omega (arith, part, whole)
 
--- the mark of a node by the counts
+-- the one of a node by the counts
 pub mark_same : (all : List Instr) (temps originals : ℕ) (counts : List ℕ) (n : ℕ) → AreCounts all temps counts →
-    n < 25 + temps → mark_by (slice_index counts) originals n ≡ mark_of all originals n
+    n < 25 + temps → facts_by (slice_index counts) originals n ≡ facts_of all originals n
 mark_same all temps originals counts n c l = ⊎_elim low high (cases_lt n 25)
   where
-    low : n < 25 → mark_by (slice_index counts) originals n ≡ mark_of all originals n
+    low : n < 25 → facts_by (slice_index counts) originals n ≡ facts_of all originals n
     low m =
         ap (λ b. cond b (record { uses = 0; made = false }) (record {
           uses = slice_index counts (n - 25);
@@ -110,19 +110,19 @@ mark_same all temps originals counts n c l = ⊎_elim low high (cases_lt n 25)
               originals (n - 25);
         })) (lt-ltb n 25 m))
 
-    high : 25 ≤ n → mark_by (slice_index counts) originals n ≡ mark_of all originals n
+    high : 25 ≤ n → facts_by (slice_index counts) originals n ≡ facts_of all originals n
     high m = ap (λ u. cond (is_register n) (record { uses = 0; made = false }) (record {
       uses = u;
       made = nat_le
           originals (n - 25);
     })) (c.each (n - 25) (omega arith))
 
--- a list of marks goes on with the next node's
-pub with_mark : (all : List Instr) (originals node : ℕ) (marks more : List Mark) (mark : Mark) →
-    more ≡ marks ++ mark ∷ [] → marks ≡ map (mark_of all originals) (range_with_len 0 node) →
-    mark ≡ mark_of all originals node → more ≡ map (mark_of all originals) (range_with_len 0 (node + 1))
-with_mark all originals node marks more mark n h e =
+-- a list of facts goes on with the next node's
+pub with_facts : (all : List Instr) (originals node : ℕ) (facts more : List NodeFacts) (one : NodeFacts) →
+    more ≡ facts ++ one ∷ [] → facts ≡ map (facts_of all originals) (range_with_len 0 node) →
+    one ≡ facts_of all originals node → more ≡ map (facts_of all originals) (range_with_len 0 (node + 1))
+with_facts all originals node facts more one n h e =
     n
-    ∙ (ap (λ xs. xs ++ mark ∷ []) h
-    ∙ (ap (λ m. map (mark_of all originals) (range_with_len 0 node) ++ m ∷ []) e
-    ∙ sym (map-range_with_len_more (mark_of all originals) 0 node node (omega arith))))
+    ∙ (ap (λ xs. xs ++ one ∷ []) h
+    ∙ (ap (λ m. map (facts_of all originals) (range_with_len 0 node) ++ m ∷ []) e
+    ∙ sym (map-range_with_len_more (facts_of all originals) 0 node node (omega arith))))

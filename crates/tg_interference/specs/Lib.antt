@@ -2,5 +2,5 @@ pub mod Nodes
 pub mod Moves
 pub mod Pairs
 pub mod Crossing
-pub mod Marks
+pub mod Facts
 pub mod Laws

@@ -7,13 +7,13 @@
 
 mod crossing;
 mod edges;
+mod facts;
 mod laws;
-mod marks;
 mod moves;
 mod nodes;
 
 pub use edges::interference;
+pub use facts::{FactsOfNodes, facts_of_nodes};
 pub use laws::nodes_are_operands;
-pub use marks::{Marks, marks_of};
 pub use moves::moves_of;
 pub use nodes::node_of;

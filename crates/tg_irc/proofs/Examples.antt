@@ -3,7 +3,7 @@ use Rattle.std.proofs.Common.{◌≡◌, ℕ, ◌<◌, Bool, true, false, not, �
 use Rattle.std.proofs.Common.{map, replicate, sym, ap, ◌∙◌}
 use Rattle.std.specs.Prelude.{◌==◌, slice_get}
 use Rattle.std.specs.List.{list_any, range_with_len}
-use Rattle.tg_irc.specs.declared.candidates.Mark.{Mark}
+use Rattle.tg_irc.specs.declared.candidates.NodeFacts.{NodeFacts}
 use Rattle.tg_irc.specs.declared.moves.Move.{Move}
 use Rattle.tg_irc.specs.declared.moves.MoveState.{MoveState}
 use Rattle.tg_irc.specs.declared.steps.Step.{Step}
@@ -30,19 +30,19 @@ graph nodes ps = record { nodes = nodes; pairs = among ps }
 abbrev pub move : (to from : ℕ) → Move
 move to from = record { to = to; from = from }
 
-abbrev pub mark : ℕ → Bool → Mark
-mark uses made = record { uses = uses; made = made }
+abbrev pub node_facts : ℕ → Bool → NodeFacts
+node_facts uses made = record { uses = uses; made = made }
 
--- the registers' marks, and then these
-abbrev pub marks_then : List Mark → List Mark
-marks_then more = replicate 25 (mark 0 false) ++ more
+-- the registers' facts, and then these
+abbrev pub facts_then : List NodeFacts → List NodeFacts
+facts_then more = replicate 25 (node_facts 0 false) ++ more
 
 -- so many nodes, all original, the pairs that aren't of registers, and the moves
 abbrev pub original : ℕ → List (ℕ × ℕ) → List Move → Problem
 original nodes ps moves = record {
   graph = graph nodes ps;
   moves = moves;
-  marks = replicate nodes (mark 2 false);
+  facts = replicate nodes (node_facts 2 false);
   rule = least_use;
 }
 

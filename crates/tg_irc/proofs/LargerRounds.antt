@@ -6,7 +6,7 @@ use Rattle.tg_irc.specs.declared.moves.MoveState.TheVariants.{Coalesced, Constra
 use Rattle.tg_irc.specs.Policies.{least_use}
 use Rattle.tg_irc.specs.States.{Problem}
 use Rattle.tg_irc.specs.Rounds.{IsRound}
-use Rattle.tg_irc.proofs.Examples.{graph, move, mark, marks_then, with_each, round, is_round}
+use Rattle.tg_irc.proofs.Examples.{graph, move, node_facts, facts_then, with_each, round, is_round}
 
 abbrev first : Problem
 first = record {
@@ -23,7 +23,7 @@ first = record {
       with_each 29 (0 ∷ 4 ∷ 5 ∷ 6 ∷ 10 ∷ 11 ∷ 13 ∷ 15 ∷ 17 ∷ 18 ∷ 27 ∷ 28 ∷ [])
       );
   moves = move 26 29 ∷ move 29 13 ∷ move 25 28 ∷ move 28 4 ∷ move 25 3 ∷ [];
-  marks = marks_then (mark 3 false ∷ mark 5 false ∷ mark 5 false ∷ mark 2 true ∷ mark 2 true ∷ []);
+  facts = facts_then (node_facts 3 false ∷ node_facts 5 false ∷ node_facts 5 false ∷ node_facts 2 true ∷ node_facts 2 true ∷ []);
   rule = least_use;
 }
 
@@ -50,7 +50,7 @@ second = record {
       with_each 29 (2 ∷ 3 ∷ 5 ∷ 7 ∷ 9 ∷ 19 ∷ 24 ∷ 26 ∷ 27 ∷ 28 ∷ [])
       );
   moves = move 29 22 ∷ move 28 7 ∷ move 26 3 ∷ move 28 18 ∷ move 25 23 ∷ move 27 29 ∷ move 28 7 ∷ [];
-  marks = marks_then (mark 2 false ∷ mark 3 false ∷ mark 2 false ∷ mark 5 true ∷ mark 4 true ∷ []);
+  facts = facts_then (node_facts 2 false ∷ node_facts 3 false ∷ node_facts 2 false ∷ node_facts 5 true ∷ node_facts 4 true ∷ []);
   rule = least_use;
 }
 
@@ -77,7 +77,7 @@ third = record {
       with_each 30 (2 ∷ 10 ∷ 14 ∷ 15 ∷ 19 ∷ 20 ∷ 25 ∷ 26 ∷ 27 ∷ 29 ∷ [])
       );
   moves = move 28 26 ∷ move 29 5 ∷ move 25 21 ∷ move 29 26 ∷ move 29 21 ∷ move 28 26 ∷ move 29 22 ∷ move 27 1 ∷ [];
-  marks = marks_then (mark 4 false ∷ mark 4 false ∷ mark 1 false ∷ mark 5 true ∷ mark 4 false ∷ mark 3 true ∷ []);
+  facts = facts_then (node_facts 4 false ∷ node_facts 4 false ∷ node_facts 1 false ∷ node_facts 5 true ∷ node_facts 4 false ∷ node_facts 3 true ∷ []);
   rule = least_use;
 }
 
@@ -106,7 +106,7 @@ fourth = record {
       with_each 29 (1 ∷ 2 ∷ 3 ∷ 4 ∷ 8 ∷ 11 ∷ 12 ∷ 14 ∷ 15 ∷ 16 ∷ 18 ∷ 20 ∷ 23 ∷ 25 ∷ 26 ∷ 28 ∷ [])
       );
   moves = move 27 29 ∷ move 26 15 ∷ move 26 19 ∷ move 25 14 ∷ [];
-  marks = marks_then (mark 5 true ∷ mark 3 false ∷ mark 3 false ∷ mark 1 false ∷ mark 5 false ∷ []);
+  facts = facts_then (node_facts 5 true ∷ node_facts 3 false ∷ node_facts 3 false ∷ node_facts 1 false ∷ node_facts 5 false ∷ []);
   rule = least_use;
 }
 
@@ -135,7 +135,7 @@ fifth = record {
       with_each 30 (0 ∷ 2 ∷ 10 ∷ 19 ∷ 25 ∷ 26 ∷ 28 ∷ 29 ∷ [])
       );
   moves = move 30 15 ∷ move 28 29 ∷ move 29 20 ∷ move 26 17 ∷ move 29 13 ∷ move 27 22 ∷ [];
-  marks = marks_then (mark 3 false ∷ mark 3 true ∷ mark 1 false ∷ mark 2 false ∷ mark 3 false ∷ mark 2 false ∷ []);
+  facts = facts_then (node_facts 3 false ∷ node_facts 3 true ∷ node_facts 1 false ∷ node_facts 2 false ∷ node_facts 3 false ∷ node_facts 2 false ∷ []);
   rule = least_use;
 }
 

@@ -11,7 +11,7 @@ use Rattle.tg_irc.specs.declared.rounds.Round.{Round}
 use Rattle.tg_irc.specs.States.{Problem, start}
 use Rattle.tg_irc.specs.Steps.{candidates, after_all, is_over}
 use Rattle.tg_irc.specs.Rounds.{IsRound}
-use Rattle.tg_irc.proofs.Examples.{graph, move, mark, marks_then, original, registers, with_each, round, is_round}
+use Rattle.tg_irc.proofs.Examples.{graph, move, node_facts, facts_then, original, registers, with_each, round, is_round}
 use Rattle.tg_irc.proofs.Examples.{NeverTakes, impossible, too_early, wrong_colour}
 
 -- the registers but one
@@ -148,7 +148,7 @@ half_settled_is = is_round half_settled _ refl refl refl
 -- A made temporary and an original: the original is kept.
 
 abbrev half_made : Problem
-half_made = record free_move { marks = marks_then (mark 2 true ∷ mark 2 false ∷ []) }
+half_made = record free_move { facts = facts_then (node_facts 2 true ∷ node_facts 2 false ∷ []) }
 
 half_made_is : IsRound half_made (free_move_round 26 25)
 half_made_is = is_round half_made (free_move_round 26 25) refl refl refl
@@ -159,7 +159,7 @@ half_made_keeps_original = impossible half_made [] (Coalesce 0 25 26 true) refl
 -- Two made temporaries: either is kept.
 
 abbrev both_made : Problem
-both_made = record free_move { marks = marks_then (mark 2 true ∷ mark 2 true ∷ []) }
+both_made = record free_move { facts = facts_then (node_facts 2 true ∷ node_facts 2 true ∷ []) }
 
 both_made_is : IsRound both_made (free_move_round 25 26)
 both_made_is = is_round both_made (free_move_round 25 26) refl refl refl
@@ -173,7 +173,7 @@ both_made_is_too = is_round both_made (free_move_round 26 25) refl refl refl
 abbrev crowded_pair : Problem
 crowded_pair = record crowded {
   graph = graph 27 ((25, 26) ∷ (with_each 25 registers ++ with_each 26 registers));
-  marks = marks_then (mark 3 false ∷ mark 2 false ∷ []);
+  facts = facts_then (node_facts 3 false ∷ node_facts 2 false ∷ []);
 }
 
 crowded_pair_is : IsRound crowded_pair
@@ -185,14 +185,14 @@ crowded_pair_heeds_policy = impossible crowded_pair [] (Spill 25) refl
 
 -- and one that spilling has made goes last, and the lower of two alike first
 abbrev crowded_made : Problem
-crowded_made = record crowded_pair { marks = marks_then (mark 3 false ∷ mark 2 true ∷ []) }
+crowded_made = record crowded_pair { facts = facts_then (node_facts 3 false ∷ node_facts 2 true ∷ []) }
 
 crowded_made_is : IsRound crowded_made
     (round crowded_made (Spill 25 ∷ Spill 26 ∷ []) [] (25 ∷ 26 ∷ []) (None ∷ None ∷ []) (26 ∷ 25 ∷ []))
 crowded_made_is = is_round crowded_made _ refl refl refl
 
 abbrev crowded_alike : Problem
-crowded_alike = record crowded_pair { marks = marks_then (mark 2 false ∷ mark 2 false ∷ []) }
+crowded_alike = record crowded_pair { facts = facts_then (node_facts 2 false ∷ node_facts 2 false ∷ []) }
 
 crowded_alike_is : IsRound crowded_alike
     (round crowded_alike (Spill 25 ∷ Spill 26 ∷ []) [] (25 ∷ 26 ∷ []) (None ∷ None ∷ []) (26 ∷ 25 ∷ []))
@@ -220,7 +220,7 @@ failing_move uses other_uses =
     record crowded {
       graph = graph 27 ((25, 26) ∷ (with_each 25 few ++ with_each 26 few));
       moves = move 25 24 ∷ [];
-      marks = marks_then (mark uses false ∷ mark other_uses false ∷ []);
+      facts = facts_then (node_facts uses false ∷ node_facts other_uses false ∷ []);
     }
 
 failing_move_is : IsRound (failing_move 1 2)
@@ -313,7 +313,7 @@ abbrev spilled_neighbour : Problem
 spilled_neighbour =
     let ends = with_each 25 (27 ∷ range_with_len 0 24) ++ with_each 26 (27 ∷ range_with_len 0 24) in
     record (original 28 (ends ++ with_each 27 registers) (move 25 26 ∷ [])) {
-      marks = marks_then (mark 2 false ∷ mark 2 false ∷ mark 1 false ∷ []);
+      facts = facts_then (node_facts 2 false ∷ node_facts 2 false ∷ node_facts 1 false ∷ []);
     }
 
 spilled_neighbour_is : IsRound spilled_neighbour
@@ -395,7 +395,7 @@ heavy_neighbour_stays_high = impossible (heavy_neighbour 26) (Coalesce 0 25 26 t
 
 abbrev some_made : Problem
 some_made = record (original 29 ((25, 0) ∷ (25, 27) ∷ (26, 27) ∷ (28, 27) ∷ []) (move 25 26 ∷ [])) {
-  marks = marks_then (mark 3 false ∷ mark 2 true ∷ mark 5 true ∷ mark 7 false ∷ []);
+  facts = facts_then (node_facts 3 false ∷ node_facts 2 true ∷ node_facts 5 true ∷ node_facts 7 false ∷ []);
 }
 
 abbrev told : List Step → List Candidate
@@ -427,7 +427,7 @@ tight moves =
     record crowded {
       graph = graph 30 (first ++ next ++ last);
       moves = moves;
-      marks = marks_then (mark 2 false ∷ mark 2 false ∷ mark 2 false ∷ mark 1 false ∷ mark 1 false ∷ []);
+      facts = facts_then (node_facts 2 false ∷ node_facts 2 false ∷ node_facts 2 false ∷ node_facts 1 false ∷ node_facts 1 false ∷ []);
     }
 
 tight_with_move_is : let g = tight (move 25 24 ∷ []) in IsRound g

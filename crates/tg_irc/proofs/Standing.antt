@@ -6,16 +6,16 @@ use Rattle.tg_irc.specs.declared.steps.Step.{Step}
 use Rattle.tg_irc.specs.declared.steps.Step.TheVariants.{Simplify, Same, Constrain, Coalesce, Freeze, Spill}
 use Rattle.tg_irc.specs.Graphs.{is_register}
 use Rattle.tg_irc.specs.States.{Problem, RoundState, start}
-use Rattle.tg_irc.specs.States.{mark_at, all_made}
+use Rattle.tg_irc.specs.States.{facts_at, all_made}
 use Rattle.tg_irc.specs.Steps.{stands_under, can}
 use Rattle.tg_irc.specs.Steps.{after}
 use Rattle.tg_irc.proofs.Deciding.{clash, both, and_true, either, or_left, or_right, tells, never, not_true}
 use Rattle.tg_irc.proofs.Deciding.{from_false, same_node, same_test, every_is}
-use Rattle.tg_irc.specs.Laws.{StandsWell, StandsByMark}
+use Rattle.tg_irc.specs.Laws.{StandsWell, StandsByFacts}
 
 module _ (g : Problem) where
   abbrev made : ℕ → Bool
-  made x = (mark_at g (start g) x).made
+  made x = (facts_at g (start g) x).made
 
   pub stands_at_start : StandsWell g (start g)
   stands_at_start = record { well = λ y l r h. h }
@@ -69,9 +69,9 @@ module _ (g : Problem) where
   stands_after s (Freeze x) w c = record { well = w.well }
   stands_after s (Spill x) w c = record { well = w.well }
 
-  all_made_by_mark : (s : RoundState) → StandsWell g s → (x : ℕ) → x < g.graph.nodes → s.alias x ≡ x →
+  all_made_by_facts : (s : RoundState) → StandsWell g s → (x : ℕ) → x < g.graph.nodes → s.alias x ≡ x →
       is_register x ≡ false → all_made g s x ≡ made x
-  all_made_by_mark s w x l own r = by (tells (made x))
+  all_made_by_facts s w x l own r = by (tells (made x))
     where
       by : (made x ≡ true) ⊎ (made x ≡ false) → all_made g s x ≡ made x
       by (inl e) = of_stands s w x r e ∙ sym e
@@ -93,5 +93,5 @@ module _ (g : Problem) where
           inl (or_right _ _ (and_true (from_false b)
           (or_right _ _ (and_true (of_stands s w x a c) (of_stands s w y b d)))))
 
-pub stands_by_mark : StandsByMark
-stands_by_mark g s w x l own r = all_made_by_mark g s w x l own r
+pub stands_by_facts : StandsByFacts
+stands_by_facts g s w x l own r = all_made_by_facts g s w x l own r

@@ -13,7 +13,7 @@ use Rattle.tg_irc.specs.declared.rounds.Round.{Round}
 use Rattle.tg_irc.specs.Graphs.{count, colour_count, IsGraph, IsGreedilyColourable}
 use Rattle.tg_irc.specs.Graphs.{is_register}
 use Rattle.tg_irc.specs.States.{Problem, RoundState, start, remains, is_unsettled, to, from}
-use Rattle.tg_irc.specs.States.{mark_at}
+use Rattle.tg_irc.specs.States.{facts_at}
 use Rattle.tg_irc.specs.States.{all_made}
 use Rattle.tg_irc.specs.Steps.{can, can_move, after, after_all, kind, IsTaken, AreTaken, is_over}
 use Rattle.tg_irc.specs.Rounds.{IsRound}
@@ -226,8 +226,8 @@ pub record StandsWell (g : Problem) (s : RoundState) : Type 0 where
       (x : ℕ) →
       x < g.graph.nodes →
       IsFalse (is_register (s.alias x)) →
-      IsTrue (mark_at g s (s.alias x)).made →
-      IsTrue (mark_at g s x).made
+      IsTrue (facts_at g s (s.alias x)).made →
+      IsTrue (facts_at g s x).made
 
 abbrev pub StartStandsWell : Type 0
 StartStandsWell = (g : Problem) → StandsWell g (start g)
@@ -235,16 +235,16 @@ StartStandsWell = (g : Problem) → StandsWell g (start g)
 abbrev pub StepsKeepStanding : Type 0
 StepsKeepStanding = StepsKeep StandsWell
 
--- so the mark of that temporary says whether it made all
-abbrev pub StandsByMark : Type 0
-StandsByMark =
+-- so the facts of that temporary say whether it made all
+abbrev pub StandsByFacts : Type 0
+StandsByFacts =
     (g : Problem) (s : RoundState) →
     StandsWell g s →
     (x : ℕ) →
     x < g.graph.nodes →
     s.alias x ≡ x →
     IsFalse (is_register x) →
-    all_made g s x ≡ (mark_at g s x).made
+    all_made g s x ≡ (facts_at g s x).made
 
 -- The merged pairs are those of the start between classes: so colours may be chosen by either
 -- graph.

@@ -6,7 +6,7 @@ use Rattle.std.specs.List.{range_with_len}
 use Rattle.tg_irc.specs.declared.moves.Move.{Move}
 use Rattle.tg_irc.specs.declared.moves.MoveState.{MoveState}
 use Rattle.tg_irc.specs.declared.moves.MoveState.TheVariants.{Ready, Waiting}
-use Rattle.tg_irc.specs.declared.candidates.Mark.{Mark}
+use Rattle.tg_irc.specs.declared.candidates.NodeFacts.{NodeFacts}
 use Rattle.tg_irc.specs.Graphs.{Set, Pairs, Graph, is_register, is_low, some, every}
 use Rattle.tg_irc.specs.Policies.{Rule}
 
@@ -14,12 +14,12 @@ use Rattle.tg_irc.specs.Policies.{Rule}
 pub record Problem : Type 0 where
   pub graph : Graph
   pub moves : List Move
-  pub marks : List Mark
+  pub facts : List NodeFacts
   pub rule : Rule
 
-abbrev pub problem : Graph → List Move → List Mark → Rule → Problem
-problem graph moves marks rule =
-    record { graph = graph; moves = moves; marks = marks; rule = rule }
+abbrev pub problem : Graph → List Move → List NodeFacts → Rule → Problem
+problem graph moves facts rule =
+    record { graph = graph; moves = moves; facts = facts; rule = rule }
 
 -- The nodes that remain, and their pairs by now; the node under which each node's class stands; the
 -- state of each move; and the nodes that were taken out, the last one first. Whether an unsettled
@@ -82,9 +82,9 @@ module _ (g : Problem) where
     abbrev pub members : ℕ → List ℕ
     members x = filter (λ y. s.alias y == x) (range_with_len 0 g.graph.nodes)
 
-    abbrev pub mark_at : ℕ → Mark
-    mark_at x = slice_index_or g.marks x (record { uses = 0; made = false })
+    abbrev pub facts_at : ℕ → NodeFacts
+    facts_at x = slice_index_or g.facts x (record { uses = 0; made = false })
 
     -- spilling has made all members
     abbrev pub all_made : ℕ → Bool
-    all_made x = every (λ y. not (s.alias y == x) || (mark_at y).made) g.graph.nodes
+    all_made x = every (λ y. not (s.alias y == x) || (facts_at y).made) g.graph.nodes

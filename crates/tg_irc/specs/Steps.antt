@@ -16,7 +16,7 @@ use Rattle.tg_irc.specs.Graphs.{Set, count, some, every}
 use Rattle.tg_irc.specs.Policies.{candidate_at}
 use Rattle.tg_irc.specs.States.{Problem, RoundState, remains, low, to, from, is_unsettled}
 use Rattle.tg_irc.specs.States.{touches}
-use Rattle.tg_irc.specs.States.{is_move_related, members, mark_at, all_made}
+use Rattle.tg_irc.specs.States.{is_move_related, members, facts_at, all_made}
 
 module _ (g : Problem) where
   module _ (s : RoundState) where
@@ -63,7 +63,7 @@ module _ (g : Problem) where
     stands_under kept gone =
         is_register kept ||
         (not (is_register gone) &&
-        (not (mark_at g s kept).made || (all_made g s kept && all_made g s gone)))
+        (not (facts_at g s kept).made || (all_made g s kept && all_made g s gone)))
 
     -- Which class may be spilled.
 
@@ -71,7 +71,7 @@ module _ (g : Problem) where
     candidate x = record {
       temp = x - colour_count;
       degree = degree g.graph.nodes s.remaining s.pairs x;
-      uses = sum_by (λ y. (mark_at g s y).uses) (members g s x);
+      uses = sum_by (λ y. (facts_at g s y).uses) (members g s x);
       made = all_made g s x;
     }
 

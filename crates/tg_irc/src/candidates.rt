@@ -1,7 +1,7 @@
 /// What is known of a node before a round: in how many places of the code it is used or defined, 0
 /// for a register, and whether it is a temporary that spilling has made.
 #[derive(Clone, Copy)]
-pub struct Mark {
+pub struct NodeFacts {
     pub uses: u32,
     pub made: bool,
 }

@@ -15,7 +15,7 @@ ghost use Rattle.tg_irc.specs.Laws.{
   StepsKeepClasses,
   StartStandsWell,
   StepsKeepStanding,
-  StandsByMark,
+  StandsByFacts,
   PairsAreOfClasses,
   RoundsAreOfNodes,
 };
@@ -68,7 +68,7 @@ pub fn states_are_sound()
     ensures steps_classes { StepsKeepClasses }
     ensures start_standing { StartStandsWell }
     ensures steps_standing { StepsKeepStanding }
-    ensures by_mark { StandsByMark }
+    ensures by_facts { StandsByFacts }
 {}
 
 /// The laws of how steps change the degrees of the nodes that remain.

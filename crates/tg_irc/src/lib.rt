@@ -12,7 +12,7 @@ mod policies;
 mod rounds;
 mod steps;
 
-pub use candidates::{Candidate, Mark};
+pub use candidates::{Candidate, NodeFacts};
 pub use laws::{
     classes_follow_moves, colourable_never_spills, colours_are_proper, degrees_change,
     moves_are_explained, pairs_are_of_classes, rounds_are_of_nodes, spilled_are_classes,

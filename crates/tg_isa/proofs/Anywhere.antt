@@ -14,7 +14,7 @@ use Rattle.tg_state.specs.Services.{Step, Goes, Ends, Reads, Writes, service, an
 use Rattle.tg_state.specs.Services.{text_at, text_from, before, write_text}
 use Rattle.tg_isa.specs.declared.mips.Mips.{Mips}
 use Rattle.tg_isa.specs.declared.mips.Mips.TheVariants as row
-use Rattle.tg_isa.specs.Effects.{effect, put, put_exact, stored, extended_load, divide, address}
+use Rattle.tg_isa.specs.Effects.{effect, put, put_exact, stored, extended_load, divide, effective_address}
 use Rattle.tg_isa.specs.Anywhere.{on, step_on, IsStraight, EffectsAreAnywhere}
 
 abbrev stored_on : (code : List ℕ) → (place : ℕ) → Result MachineState RunEnd → Result MachineState RunEnd
@@ -199,12 +199,12 @@ module _ (code : List ℕ) (place : ℕ) where
   effect_on (row.Add rd rs rt) s h = exact_on s rd (exact_sum (register s rs) (register s rt))
   effect_on (row.Sub rd rs rt) s h = exact_on s rd (exact_difference (register s rs) (register s rt))
   effect_on (row.Addi rt rs n) s h = exact_on s rt (exact_sum (register s rs) (extended n))
-  effect_on (row.Lb rt n rs) s h = ap (λ o. put (on code place s) rt (extended_load o)) (load_on s (address s rs n))
+  effect_on (row.Lb rt n rs) s h = ap (λ o. put (on code place s) rt (extended_load o)) (load_on s (effective_address s rs n))
       ∙ put_on s rt _
-  effect_on (row.Lbu rt n rs) s h = ap (put (on code place s) rt) (load_on s (address s rs n)) ∙ put_on s rt _
-  effect_on (row.Lw rt n rs) s h = ap (put (on code place s) rt) (load_word_on s (address s rs n)) ∙ put_on s rt _
-  effect_on (row.Sb rt n rs) s h = ap stored (store_on s (address s rs n) (register s rt)) ∙ went_on _
-  effect_on (row.Sw rt n rs) s h = ap stored (store_word_on s (address s rs n) (register s rt)) ∙ went_on _
+  effect_on (row.Lbu rt n rs) s h = ap (put (on code place s) rt) (load_on s (effective_address s rs n)) ∙ put_on s rt _
+  effect_on (row.Lw rt n rs) s h = ap (put (on code place s) rt) (load_word_on s (effective_address s rs n)) ∙ put_on s rt _
+  effect_on (row.Sb rt n rs) s h = ap stored (store_on s (effective_address s rs n) (register s rt)) ∙ went_on _
+  effect_on (row.Sw rt n rs) s h = ap stored (store_word_on s (effective_address s rs n) (register s rt)) ∙ went_on _
   effect_on (row.J n) s h = absurd h
   effect_on (row.Jal n) s h = absurd h
   effect_on (row.Jr rs) s h = absurd h

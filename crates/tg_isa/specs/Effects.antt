@@ -39,8 +39,8 @@ stored (Ok s) = Goes s
 stored (Err e) = Ends e
 
 -- the address of a load or a store
-abbrev pub address : MachineState → ℕ → ℕ → ℕ
-address s base number = add (register s base) (extended number)
+abbrev pub effective_address : MachineState → ℕ → ℕ → ℕ
+effective_address s base number = add (register s base) (extended number)
 
 -- a load of a byte, as a word with its sign
 abbrev pub extended_load : Result ℕ RunEnd → Result ℕ RunEnd
@@ -111,11 +111,11 @@ effect (Andi rt rs number) s = Goes (set_register s rt (bit_and (register s rs) 
 effect (Ori rt rs number) s = Goes (set_register s rt (bit_or (register s rs) number))
 effect (Xori rt rs number) s = Goes (set_register s rt (bit_xor (register s rs) number))
 effect (Lui rt number) s = Goes (set_register s rt (number * 65536))
-effect (Lb rt number rs) s = put s rt (extended_load (load_byte s (address s rs number)))
-effect (Lbu rt number rs) s = put s rt (load_byte s (address s rs number))
-effect (Lw rt number rs) s = put s rt (load_word s (address s rs number))
-effect (Sb rt number rs) s = stored (store_byte s (address s rs number) (register s rt))
-effect (Sw rt number rs) s = stored (store_word s (address s rs number) (register s rt))
+effect (Lb rt number rs) s = put s rt (extended_load (load_byte s (effective_address s rs number)))
+effect (Lbu rt number rs) s = put s rt (load_byte s (effective_address s rs number))
+effect (Lw rt number rs) s = put s rt (load_word s (effective_address s rs number))
+effect (Sb rt number rs) s = stored (store_byte s (effective_address s rs number) (register s rt))
+effect (Sw rt number rs) s = stored (store_word s (effective_address s rs number) (register s rt))
 
 -- the instruction at the place, or how its fetch ends
 abbrev pub decoded : ℕ → Option Mips → Result Mips RunEnd

@@ -2,7 +2,7 @@
 -- work.
 use Rattle.std.specs.Prelude.{ℕ, zero, suc, ◌≡◌, ◌≤◌, List, [], ◌∷◌, Option, Some, None}
 use Rattle.tg_state.specs.declared.ends.RunEnd.{RunEnd}
-use Rattle.tg_state.specs.State.{MachineState, start}
+use Rattle.tg_state.specs.State.{MachineState, initial_machine}
 use Rattle.tg_state.specs.Services.{Goes, Ends, Reads, Writes, answered}
 use Rattle.tg_simulation.specs.Runs.{Run}
 use Rattle.tg_simulation.specs.Ran as ran
@@ -31,7 +31,7 @@ machine_run s input (suc n) = works 1 (elim (step s) as (λ _. Ran) [
 
 abbrev pub image_run : Image → (input : List ℕ) → (heap stack : ℕ) → Run Ran
 image_run image input heap stack =
-    machine_run (start image.code image.statics image.entry heap stack) input
+    machine_run (initial_machine image.code image.statics image.entry heap stack) input
 
 -- it is what at most so many steps come to, on an input that is these bytes
 abbrev pub IsRunOf : (n : ℕ) → Progress → Ran → Type 0

@@ -12,5 +12,5 @@ names =
     ∷ codes "$t8" ∷ codes "$t9" ∷ codes "$k0" ∷ codes "$k1" ∷ codes "$gp" ∷ codes "$sp"
     ∷ codes "$fp" ∷ codes "$ra" ∷ []
 
-abbrev pub name_of : ℕ → List ℕ
-name_of r = slice_index_or names r []
+abbrev pub register_name : ℕ → List ℕ
+register_name r = slice_index_or names r []

@@ -1,11 +1,11 @@
 ghost use Rattle.std.specs.Prelude.{◌≡◌};
-ghost use Rattle.tg_isa.specs.Names.{name_of};
+ghost use Rattle.tg_isa.specs.Names.{register_name};
 
 use crate::registers::Reg;
 
 /// A register's name in assembly text (MIPS I manual, register usage).
 pub fn name(reg: Reg) -> &'static str
-    ensures { result.now ≡ name_of reg }
+    ensures { result.now ≡ register_name reg }
 {
     match reg.number() {
         0 => "$zero",

@@ -7,11 +7,11 @@ use Rattle.std.proofs.lemmas.Bool.Decides.{nat_tests}
 use Rattle.std.proofs.lemmas.List.{take_at, length-take-le}
 use Rattle.std.specs.Str.Parse.{digits_value}
 use Rattle.tg_syntax.proofs.Numerals.{is_digit_from, bytes_of_digits, digits_of_bytes}
-use Rattle.tg_syntax.specs.Spellings.{Escape, newline, tab, quote, backslash, control, decimal, blanks, AllAre, is_digit, is_blank, is_between}
+use Rattle.tg_syntax.specs.Spellings.{Escape, newline, tab, quote, backslash, control, decimal, blanks, AllAre, is_digit, is_white_space, is_between}
 use Rattle.tg_syntax.specs.LexicalFaults.{IsBegun, Misfits}
 use Rattle.tg_lexer.specs.declared.escapes.Escaped.{Escaped}
 use Rattle.tg_lexer.specs.declared.escapes.Escaped.TheVariants.{Cut, Bad}
-use Rattle.tg_lexer.specs.Fronts.{IsCut, ended, line, IsBad, bad, IsEscape, IsMisfit, IsStretch}
+use Rattle.tg_lexer.specs.Lexemes.{IsCut, ended, line, IsBad, bad, IsEscape, IsMisfit, IsStretch}
 use Rattle.tg_lexer.proofs.Basics.{head_is, tail_is, not_cons, differ, apart, clash, AllAre_right}
 
 -- the bytes of a text, by its places
@@ -59,21 +59,21 @@ escape_whole text front rest meant e h = rw e (by front rest h)
     by front rest h = (within front rest, rw (take_at front rest (length front) refl) h)
 
 -- which escapes were begun or end, by their first bytes
-begun_shape : {xs : List ℕ} → IsBegun xs → (a b : ℕ) (more : List ℕ) → xs ≡ a ∷ b ∷ more → is_blank a ≡ false →
+begun_shape : {xs : List ℕ} → IsBegun xs → (a b : ℕ) (more : List ℕ) → xs ≡ a ∷ b ∷ more → is_white_space a ≡ false →
     (IsTrue (is_digit a)) × (IsTrue (is_digit b)) × (more ≡ [])
 begun_shape IsBegun.backslash a b more e n = absurd (not_cons e)
 begun_shape IsBegun.caret a b more e n = absurd (not_cons (tail_is e))
 begun_shape (IsBegun.digit x h) a b more e n = absurd (not_cons (tail_is e))
 begun_shape (IsBegun.digits x y h k) a b more e n =
     (subst (λ z. IsTrue (is_digit z)) (head_is e) h, subst (λ z. IsTrue (is_digit z)) (head_is (tail_is e)) k, sym (tail_is (tail_is e)))
-begun_shape (IsBegun.blanks x more' h) a b more e n = absurd (apart is_blank a x n h.0 (sym (head_is e)))
+begun_shape (IsBegun.blanks x more' h) a b more e n = absurd (apart is_white_space a x n h.0 (sym (head_is e)))
 
-begun_first : {xs : List ℕ} → IsBegun xs → (a : ℕ) → xs ≡ a ∷ [] → (a == 94) ≡ false → is_digit a ≡ false → is_blank a ≡ false → ⊥
+begun_first : {xs : List ℕ} → IsBegun xs → (a : ℕ) → xs ≡ a ∷ [] → (a == 94) ≡ false → is_digit a ≡ false → is_white_space a ≡ false → ⊥
 begun_first IsBegun.backslash a e c d n = not_cons e
 begun_first IsBegun.caret a e c d n = apart (λ z. z == 94) a 94 c refl (sym (head_is e))
 begun_first (IsBegun.digit x h) a e c d n = apart is_digit a x d h (sym (head_is e))
 begun_first (IsBegun.digits x y h k) a e c d n = not_cons (sym (tail_is e))
-begun_first (IsBegun.blanks x more h) a e c d n = apart is_blank a x n h.0 (sym (head_is e))
+begun_first (IsBegun.blanks x more h) a e c d n = apart is_white_space a x n h.0 (sym (head_is e))
 
 -- an escape of one byte
 escape_one : {xs meant : List ℕ} → Escape xs meant → (a : ℕ) → xs ≡ a ∷ [] → (a == 110) ≡ false → (a == 116) ≡ false → (a == 34) ≡ false → (a == 92) ≡ false → ⊥
@@ -90,7 +90,7 @@ escape_one (blanks b more h) a e n t q s = no_end more (tail_is e)
     no_end (x ∷ more) e = not_cons (sym e)
 
 -- a longer one that begins with a caret, a digit or a blank
-escape_more : {xs meant : List ℕ} → Escape xs meant → (a b : ℕ) (more : List ℕ) → xs ≡ a ∷ b ∷ more → is_blank a ≡ false →
+escape_more : {xs meant : List ℕ} → Escape xs meant → (a b : ℕ) (more : List ℕ) → xs ≡ a ∷ b ∷ more → is_white_space a ≡ false →
     ((a ≡ 94) × IsTrue (is_between 64 95 b || is_between 97 122 b)) ⊎ (IsTrue (is_digit a) × IsTrue (is_digit b) × (c : ℕ) ×
     (more ≡ c ∷ []) × IsTrue (is_digit c) × (digits_value 10 (a ∷ b ∷ c ∷ []) ≤ 255))
 escape_more newline a b more e n = absurd (not_cons (tail_is e))
@@ -110,9 +110,9 @@ escape_more (decimal x y z h le) a b more e n =
       d.1.1.0,
       subst (λ v. digits_value 10 (a ∷ v ∷ z ∷ []) ≤ 255) eb (subst (λ v. digits_value 10 (v ∷ y ∷ z ∷ []) ≤ 255) ea le),
     )
-escape_more (blanks x more' h) a b more e n = absurd (apart is_blank a x n h.0 (sym (head_is e)))
+escape_more (blanks x more' h) a b more e n = absurd (apart is_white_space a x n h.0 (sym (head_is e)))
 
-digit_blank : (b : ℕ) → is_digit b ≡ true → is_blank b ≡ false
+digit_blank : (b : ℕ) → is_digit b ≡ true → is_white_space b ≡ false
 digit_blank b h = grind (arith, nat_tests)
 
 digit_caret : (b : ℕ) → is_digit b ≡ true → (b == 94) ≡ false
@@ -120,7 +120,7 @@ digit_caret b h = grind (arith, nat_tests)
 
 -- a byte with which nothing goes on, by what was begun
 pub misfits_none : (b : ℕ) → (b == 110) ≡ false → (b == 116) ≡ false → (b == 34) ≡ false → (b == 92) ≡ false →
-    (b == 94) ≡ false → is_digit b ≡ false → is_blank b ≡ false → Misfits [] b
+    (b == 94) ≡ false → is_digit b ≡ false → is_white_space b ≡ false → Misfits [] b
 misfits_none b n t q s c d w =
     record {
       is_begun = IsBegun.backslash;
@@ -232,10 +232,10 @@ digits_whole text a b c n e h f k g l w m =
     (decimal a b c (digits_of_bytes (a ∷ b ∷ c ∷ []) (h, (k, (l, tt)))) (subst (λ v. v ≤ 255) w m)))
 
 -- blanks
-run_some : (text : List ℕ) (size a : ℕ) → IsStretch is_blank text size → slice_get text 0 ≡ Some a → is_blank a ≡ true →
+run_some : (text : List ℕ) (size a : ℕ) → IsStretch is_white_space text size → slice_get text 0 ≡ Some a → is_white_space a ≡ true →
     (more : List ℕ) × (take size text ≡ a ∷ more)
 run_some [] size a r e h = cc
-run_some (b ∷ text) zero a r e h = let same : b ≡ a = cc in absurd (clash (r.stops b text refl) (ap is_blank same ∙ h))
+run_some (b ∷ text) zero a r e h = let same : b ≡ a = cc in absurd (clash (r.stops b text refl) (ap is_white_space same ∙ h))
 run_some (b ∷ text) (suc size) a r e h = let same : b ≡ a = cc in (take size text, ap (λ x. x ∷ take size text) same)
 
 past_end : (text : List ℕ) (size : ℕ) → None ≡ slice_get text size → take size text ≡ text
@@ -256,19 +256,20 @@ stop_byte [] (suc size) b e = cc
 stop_byte (x ∷ text) zero b e = cc
 stop_byte (x ∷ text) (suc size) b e = stop_byte text size b e
 
-begun_blanks : (text : List ℕ) (size a : ℕ) → IsStretch is_blank text size → slice_get text 0 ≡ Some a → is_blank a ≡ true → IsBegun (take size text)
+begun_blanks : (text : List ℕ) (size a : ℕ) → IsStretch is_white_space text size → slice_get text 0 ≡ Some a → is_white_space a ≡ true →
+    IsBegun (take size text)
 begun_blanks text size a r e h =
     let m = run_some text size a r e h in
-    subst IsBegun (sym m.1) (IsBegun.blanks a m.0 (subst (AllAre is_blank) m.1 r.all))
+    subst IsBegun (sym m.1) (IsBegun.blanks a m.0 (subst (AllAre is_white_space) m.1 r.all))
 
-pub blanks_ended : (text : List ℕ) (size a : ℕ) → IsStretch is_blank text size → slice_get text 0 ≡ Some a → is_blank a ≡ true →
+pub blanks_ended : (text : List ℕ) (size a : ℕ) → IsStretch is_white_space text size → slice_get text 0 ≡ Some a → is_white_space a ≡ true →
     None ≡ slice_get text size → IsCut text
 blanks_ended text size a r e h f = subst IsCut (past_end text size f) (ended (take size text) (begun_blanks text size a r e h))
 
-escape_blanks : (front : List ℕ) (a : ℕ) (more : List ℕ) → front ≡ a ∷ more → AllAre is_blank front → Escape (front ++ 92 ∷ []) []
-escape_blanks front a more e h = subst (λ l. Escape (l ++ 92 ∷ []) []) (sym e) (blanks a more (subst (AllAre is_blank) e h))
+escape_blanks : (front : List ℕ) (a : ℕ) (more : List ℕ) → front ≡ a ∷ more → AllAre is_white_space front → Escape (front ++ 92 ∷ []) []
+escape_blanks front a more e h = subst (λ l. Escape (l ++ 92 ∷ []) []) (sym e) (blanks a more (subst (AllAre is_white_space) e h))
 
-pub blanks_whole : (text : List ℕ) (size a : ℕ) → IsStretch is_blank text size → slice_get text 0 ≡ Some a → is_blank a ≡ true →
+pub blanks_whole : (text : List ℕ) (size a : ℕ) → IsStretch is_white_space text size → slice_get text 0 ≡ Some a → is_white_space a ≡ true →
     Some 92 ≡ slice_get text size → (size + 1 ≤ length text) × Escape (take (size + 1) text) []
 blanks_whole text size a r e h f =
     let m = run_some text size a r e h in
@@ -278,12 +279,12 @@ blanks_whole text size a r e h f =
     subst (λ n. (n ≤ length text) × Escape (take n text) []) n k
 
 -- blanks and another byte
-blank_begun : {xs : List ℕ} → IsBegun xs → (a : ℕ) (more : List ℕ) (b : ℕ) → xs ≡ a ∷ more ++ b ∷ [] → is_blank a ≡ true → is_blank b ≡ true
+blank_begun : {xs : List ℕ} → IsBegun xs → (a : ℕ) (more : List ℕ) (b : ℕ) → xs ≡ a ∷ more ++ b ∷ [] → is_white_space a ≡ true → is_white_space b ≡ true
 blank_begun IsBegun.backslash a more b e h = absurd (not_cons e)
-blank_begun IsBegun.caret a more b e h = absurd (apart is_blank 94 a refl h (head_is e))
-blank_begun (IsBegun.digit x k) a more b e h = absurd (clash (digit_blank x k) (ap is_blank (head_is e) ∙ h))
-blank_begun (IsBegun.digits x y k l) a more b e h = absurd (clash (digit_blank x k) (ap is_blank (head_is e) ∙ h))
-blank_begun (IsBegun.blanks x more' k) a more b e h = (AllAre_right is_blank more (b ∷ []) (subst (AllAre is_blank) (tail_is e) k.1)).0
+blank_begun IsBegun.caret a more b e h = absurd (apart is_white_space 94 a refl h (head_is e))
+blank_begun (IsBegun.digit x k) a more b e h = absurd (clash (digit_blank x k) (ap is_white_space (head_is e) ∙ h))
+blank_begun (IsBegun.digits x y k l) a more b e h = absurd (clash (digit_blank x k) (ap is_white_space (head_is e) ∙ h))
+blank_begun (IsBegun.blanks x more' k) a more b e h = (AllAre_right is_white_space more (b ∷ []) (subst (AllAre is_white_space) (tail_is e) k.1)).0
 
 last_same : (xs ys : List ℕ) (a b : ℕ) → xs ++ a ∷ [] ≡ ys ++ b ∷ [] → a ≡ b
 last_same [] [] a b e = head_is e
@@ -293,19 +294,19 @@ last_same (x ∷ []) [] a b e = absurd (not_cons (sym (tail_is e)))
 last_same (x ∷ y ∷ xs) [] a b e = absurd (not_cons (sym (tail_is e)))
 last_same (x ∷ xs) (y ∷ ys) a b e = last_same xs ys a b (tail_is e)
 
-blank_letter : (b : ℕ) → is_blank b ≡ true → (b == 110 || (b == 116 || (b == 34 || (b == 92 || b == 94)))) ≡ false
+blank_letter : (b : ℕ) → is_white_space b ≡ true → (b == 110 || (b == 116 || (b == 34 || (b == 92 || b == 94)))) ≡ false
 blank_letter b h = grind (arith, nat_tests)
 
-blank_escape : {xs meant : List ℕ} → Escape xs meant → (a : ℕ) (more : List ℕ) (b : ℕ) → xs ≡ a ∷ more ++ b ∷ [] → is_blank a ≡ true → b ≡ 92
-blank_escape newline a more b e h = absurd (apart is_blank 110 a refl h (head_is e))
-blank_escape tab a more b e h = absurd (apart is_blank 116 a refl h (head_is e))
-blank_escape quote a more b e h = absurd (apart is_blank 34 a refl h (head_is e))
-blank_escape backslash a more b e h = absurd (apart is_blank 92 a refl h (head_is e))
-blank_escape (control x k) a more b e h = absurd (apart is_blank 94 a refl h (head_is e))
-blank_escape (decimal x y z k le) a more b e h = absurd (clash (digit_blank x (is_digit_from x k.0)) (ap is_blank (head_is e) ∙ h))
+blank_escape : {xs meant : List ℕ} → Escape xs meant → (a : ℕ) (more : List ℕ) (b : ℕ) → xs ≡ a ∷ more ++ b ∷ [] → is_white_space a ≡ true → b ≡ 92
+blank_escape newline a more b e h = absurd (apart is_white_space 110 a refl h (head_is e))
+blank_escape tab a more b e h = absurd (apart is_white_space 116 a refl h (head_is e))
+blank_escape quote a more b e h = absurd (apart is_white_space 34 a refl h (head_is e))
+blank_escape backslash a more b e h = absurd (apart is_white_space 92 a refl h (head_is e))
+blank_escape (control x k) a more b e h = absurd (apart is_white_space 94 a refl h (head_is e))
+blank_escape (decimal x y z k le) a more b e h = absurd (clash (digit_blank x (is_digit_from x k.0)) (ap is_white_space (head_is e) ∙ h))
 blank_escape (blanks x more' k) a more b e h = sym (last_same more' more 92 b (tail_is e))
 
-misfits_blanks : (a : ℕ) (more : List ℕ) (b : ℕ) → AllAre is_blank (a ∷ more) → is_blank b ≡ false → (b == 92) ≡ false → Misfits (a ∷ more) b
+misfits_blanks : (a : ℕ) (more : List ℕ) (b : ℕ) → AllAre is_white_space (a ∷ more) → is_white_space b ≡ false → (b == 92) ≡ false → Misfits (a ∷ more) b
 misfits_blanks a more b h n s =
     record {
       is_begun = IsBegun.blanks a more h;
@@ -313,23 +314,23 @@ misfits_blanks a more b h n s =
       ends = λ meant g. differ b 92 s (blank_escape g a more b refl h.0);
     }
 
-pub blanks_bad : (text : List ℕ) (size a b : ℕ) → IsStretch is_blank text size → slice_get text 0 ≡ Some a → is_blank a ≡ true →
+pub blanks_bad : (text : List ℕ) (size a b : ℕ) → IsStretch is_white_space text size → slice_get text 0 ≡ Some a → is_white_space a ≡ true →
     Some b ≡ slice_get text size → (b == 92) ≡ false → IsBad text
 blanks_bad text size a b r e h f s =
     let m = run_some text size a r e h in
     let n = r.stops b (drop (suc size) text) (stop_byte text size b f) in
     let w : text ≡ (a ∷ m.0) ++ b ∷ drop (suc size) text = at_byte text size b f ∙ ap (λ l. l ++ b ∷ drop (suc size) text) m.1 in
-    subst IsBad (sym w) (bad (a ∷ m.0) b (drop (suc size) text) (misfits_blanks a m.0 b (subst (AllAre is_blank) m.1 r.all) n s)
-    (λ g. apart is_blank b 10 n refl g))
+    subst IsBad (sym w) (bad (a ∷ m.0) b (drop (suc size) text) (misfits_blanks a m.0 b (subst (AllAre is_white_space) m.1 r.all) n s)
+    (λ g. apart is_white_space b 10 n refl g))
 
 -- one byte alone
 pub byte_whole : (text : List ℕ) (a b : ℕ) → Some a ≡ slice_get text 0 → Escape (a ∷ []) (b ∷ []) → (1 ≤ length text) × Escape (take 1 text) (b ∷ [])
 byte_whole text a b e h = escape_whole text (a ∷ []) (drop 1 text) (b ∷ []) (first_byte text a (sym e)) h
 
 pub byte_bad : (text : List ℕ) (b : ℕ) → Some b ≡ slice_get text 0 → (b == 110) ≡ false → (b == 116) ≡ false →
-    (b == 34) ≡ false → (b == 92) ≡ false → (b == 94) ≡ false → is_digit b ≡ false → is_blank b ≡ false → IsBad text
+    (b == 34) ≡ false → (b == 92) ≡ false → (b == 94) ≡ false → is_digit b ≡ false → is_white_space b ≡ false → IsBad text
 byte_bad text b e n t q s c d w = subst IsBad (sym (first_byte text b (sym e)))
-    (bad [] b (drop 1 text) (misfits_none b n t q s c d w) (λ g. apart is_blank b 10 w refl g))
+    (bad [] b (drop 1 text) (misfits_none b n t q s c d w) (λ g. apart is_white_space b 10 w refl g))
 
 pub nothing_cut : (text : List ℕ) → None ≡ slice_get text 0 → IsCut text
 nothing_cut text e = subst IsCut (sym (no_byte text e)) (ended [] IsBegun.backslash)

@@ -6,7 +6,7 @@ use Rattle.std.proofs.lemmas.Bool.Decides.{nat_tests}
 use Rattle.std.proofs.lemmas.List.{append_cancel_right}
 use Rattle.std.specs.Str.Parse.{digits_value}
 use Rattle.tg_syntax.proofs.Numerals.{is_digit_from}
-use Rattle.tg_syntax.specs.Spellings.{Escape, newline, tab, quote, backslash, control, decimal, blanks, AllAre, is_digit, is_blank}
+use Rattle.tg_syntax.specs.Spellings.{Escape, newline, tab, quote, backslash, control, decimal, blanks, AllAre, is_digit, is_white_space}
 use Rattle.tg_syntax.specs.LexicalFaults.{IsBegun, Misfits}
 use Rattle.tg_lexer.proofs.Basics.{head_is, tail_is, not_cons, clash, GoesOn, two_fronts}
 
@@ -46,7 +46,7 @@ digit_plain b h = record {
   c = grind (arith, nat_tests);
 }
 
-blank_plain : (b : ℕ) → is_blank b ≡ true → Plain b
+blank_plain : (b : ℕ) → is_white_space b ≡ true → Plain b
 blank_plain b h = record {
   n = grind (arith, nat_tests);
   t = grind (arith, nat_tests);
@@ -55,10 +55,10 @@ blank_plain b h = record {
   c = grind (arith, nat_tests);
 }
 
-blank_digit : (b : ℕ) → is_blank b ≡ true → is_digit b ≡ false
+blank_digit : (b : ℕ) → is_white_space b ≡ true → is_digit b ≡ false
 blank_digit b h = grind (arith, nat_tests)
 
-rest_of-blanks : (more rest : List ℕ) → AllAre is_blank more → rest_of_blanks (more ++ 92 ∷ rest) ≡ (rest, [])
+rest_of-blanks : (more rest : List ℕ) → AllAre is_white_space more → rest_of_blanks (more ++ 92 ∷ rest) ≡ (rest, [])
 rest_of-blanks [] rest a = refl
 rest_of-blanks (b ∷ more) rest a = ap (λ x. cond x (more ++ 92 ∷ rest, []) (rest_of_blanks (more ++ 92 ∷ rest))) (blank_plain b a.0).s
     ∙ rest_of-blanks more rest a.1
@@ -117,7 +117,7 @@ has_no_backslash (b ∷ bytes) = cond (b == 92) false (has_no_backslash bytes)
 
 abbrev goes_on : List ℕ → Bool
 goes_on [] = true
-goes_on (b ∷ bytes) = cond (b == 94) (null bytes) (cond (is_digit b) (is_short bytes) (cond (is_blank b) (has_no_backslash bytes) false))
+goes_on (b ∷ bytes) = cond (b == 94) (null bytes) (cond (is_digit b) (is_short bytes) (cond (is_white_space b) (has_no_backslash bytes) false))
 
 abbrev going : Bool → Bool → Bool → List ℕ → Bool
 going c d b bytes = cond c (null bytes) (cond d (is_short bytes) (cond b (has_no_backslash bytes) false))
@@ -125,20 +125,20 @@ going c d b bytes = cond c (null bytes) (cond d (is_short bytes) (cond b (has_no
 going_is : (c d b c' d' b' : Bool) (bytes : List ℕ) → c ≡ c' → d ≡ d' → b ≡ b' → going c d b bytes ≡ going c' d' b' bytes
 going_is c d b c' d' b' bytes e f g = simp (e, f, g)
 
-blanks_none : (more : List ℕ) → AllAre is_blank more → has_no_backslash more ≡ true
+blanks_none : (more : List ℕ) → AllAre is_white_space more → has_no_backslash more ≡ true
 blanks_none [] a = refl
 blanks_none (b ∷ more) a = ap (λ x. cond x false (has_no_backslash more)) (blank_plain b a.0).s ∙ blanks_none more a.1
 
-blanks_end : (more rest : List ℕ) → AllAre is_blank more → has_no_backslash ((more ++ 92 ∷ []) ++ rest) ≡ false
+blanks_end : (more rest : List ℕ) → AllAre is_white_space more → has_no_backslash ((more ++ 92 ∷ []) ++ rest) ≡ false
 blanks_end [] rest a = refl
 blanks_end (b ∷ more) rest a = ap (λ x. cond x false (has_no_backslash ((more ++ 92 ∷ []) ++ rest))) (blank_plain b a.0).s ∙ blanks_end more rest a.1
 
 begun_goes_on : {begun : List ℕ} → IsBegun begun → goes_on begun ≡ true
 begun_goes_on IsBegun.backslash = refl
 begun_goes_on IsBegun.caret = refl
-begun_goes_on (IsBegun.digit a h) = going_is (a == 94) (is_digit a) (is_blank a) false true (is_blank a) [] (digit_plain a h).c h refl
-begun_goes_on (IsBegun.digits a b h k) = going_is (a == 94) (is_digit a) (is_blank a) false true (is_blank a) (b ∷ []) (digit_plain a h).c h refl
-begun_goes_on (IsBegun.blanks b more h) = going_is (b == 94) (is_digit b) (is_blank b) false false true more
+begun_goes_on (IsBegun.digit a h) = going_is (a == 94) (is_digit a) (is_white_space a) false true (is_white_space a) [] (digit_plain a h).c h refl
+begun_goes_on (IsBegun.digits a b h k) = going_is (a == 94) (is_digit a) (is_white_space a) false true (is_white_space a) (b ∷ []) (digit_plain a h).c h refl
+begun_goes_on (IsBegun.blanks b more h) = going_is (b == 94) (is_digit b) (is_white_space b) false false true more
     (blank_plain b h.0).c (blank_digit b h.0) h.0 ∙ blanks_none more h.1
 
 escape_ends : {escape meant : List ℕ} → Escape escape meant → (rest : List ℕ) → goes_on (escape ++ rest) ≡ false
@@ -149,25 +149,25 @@ escape_ends backslash rest = refl
 escape_ends (control b h) rest = refl
 escape_ends (decimal a b c h le) rest =
     let d = is_digit_from a h.0 in
-    going_is (a == 94) (is_digit a) (is_blank a) false true (is_blank a) (b ∷ c ∷ rest) (digit_plain a d).c d refl
-escape_ends (blanks b more h) rest = going_is (b == 94) (is_digit b) (is_blank b) false false true ((more ++ 92 ∷ []) ++ rest)
+    going_is (a == 94) (is_digit a) (is_white_space a) false true (is_white_space a) (b ∷ c ∷ rest) (digit_plain a d).c d refl
+escape_ends (blanks b more h) rest = going_is (b == 94) (is_digit b) (is_white_space b) false false true ((more ++ 92 ∷ []) ++ rest)
     (blank_plain b h.0).c (blank_digit b h.0) h.0 ∙ blanks_end more rest h.1
 
 pub begun_no_escape : {begun escape meant : List ℕ} → IsBegun begun → Escape escape meant → (rest : List ℕ) → begun ≡ escape ++ rest → ⊥
 begun_no_escape b h rest e = clash (escape_ends h rest) (sym (ap goes_on e) ∙ begun_goes_on b)
 
 -- a front of an escape was begun
-blanks_front : (b : ℕ) (more p : List ℕ) (d : ℕ) (q : List ℕ) → AllAre is_blank (b ∷ more) → more ++ 92 ∷ [] ≡ p ++ d ∷ q → IsBegun (b ∷ p)
+blanks_front : (b : ℕ) (more p : List ℕ) (d : ℕ) (q : List ℕ) → AllAre is_white_space (b ∷ more) → more ++ 92 ∷ [] ≡ p ++ d ∷ q → IsBegun (b ∷ p)
 blanks_front b more p d q h e = IsBegun.blanks b p (h.0, front more p h.1 e)
   where
-    front : (more p : List ℕ) → AllAre is_blank more → more ++ 92 ∷ [] ≡ p ++ d ∷ q → AllAre is_blank p
+    front : (more p : List ℕ) → AllAre is_white_space more → more ++ 92 ∷ [] ≡ p ++ d ∷ q → AllAre is_white_space p
     front more [] a e = tt
     front [] (x ∷ p) a e = absurd (none p (tail_is e))
       where
         none : (p : List ℕ) → [] ≡ p ++ d ∷ q → ⊥
         none [] e = not_cons e
         none (x ∷ p) e = not_cons e
-    front (y ∷ more) (x ∷ p) a e = (subst (λ z. IsTrue (is_blank z)) (head_is e) a.0, front more p a.1 (tail_is e))
+    front (y ∷ more) (x ∷ p) a e = (subst (λ z. IsTrue (is_white_space z)) (head_is e) a.0, front more p a.1 (tail_is e))
 
 none : (p : List ℕ) (d : ℕ) (q : List ℕ) → [] ≡ p ++ d ∷ q → ⊥
 none [] d q e = not_cons e

@@ -9,7 +9,7 @@ use Rattle.tg_syntax.specs.declared.tokens.Token.{Token}
 use Rattle.tg_syntax.specs.declared.tokens.Token.TheVariants as token
 use Rattle.tg_syntax.specs.declared.tokens.Spanned.{Spanned}
 use Rattle.tg_syntax.specs.declared.tokens.Sign.TheVariants.{Divide}
-use Rattle.tg_syntax.specs.Spellings.{Spells, HasTokenForm, sign, IsQuoted, nothing, quoted, digits, is_blank, is_digit}
+use Rattle.tg_syntax.specs.Spellings.{Spells, HasTokenForm, sign, IsQuoted, nothing, quoted, digits, is_white_space, is_digit}
 use Rattle.tg_syntax.specs.Lexing.{Lexes, ends, blank, comment, token, IsLongest, OpensComment, Closes}
 use Rattle.tg_syntax.specs.LexicalFaults.{LeadsTo, here, FaultAt, illegal_byte, comment_not_closed, in_string, large_int, HasLexicalFault, too_long}
 use Rattle.tg_syntax.specs.LexicalFaults.{met, FaultInString}
@@ -50,10 +50,10 @@ fault_some (large_int [] rest d longest lt) e = none_is_numeral d
 fault_some (large_int (b ∷ bytes) rest d longest lt) e = not_cons (sym e)
 
 no_blank : {at : ℕ} {text : List ℕ} {rule : LexRule} {place : ℕ} → FaultAt at text rule place → (b : ℕ) (after : List ℕ) →
-    text ≡ b ∷ after → is_blank b ≡ true → ⊥
-no_blank (illegal_byte x rest n no_form) b after e h = not_both (is_blank x) n (ap is_blank (head_is e) ∙ h)
-no_blank (comment_not_closed behind never) b after e h = apart is_blank 47 b refl h (head_is e)
-no_blank (in_string inside meant rest q f) b after e h = apart is_blank 34 b refl h (head_is e)
+    text ≡ b ∷ after → is_white_space b ≡ true → ⊥
+no_blank (illegal_byte x rest n no_form) b after e h = not_both (is_white_space x) n (ap is_white_space (head_is e) ∙ h)
+no_blank (comment_not_closed behind never) b after e h = apart is_white_space 47 b refl h (head_is e)
+no_blank (in_string inside meant rest q f) b after e h = apart is_white_space 34 b refl h (head_is e)
 no_blank (large_int bytes rest d longest lt) b after e h = no_blank_front bytes rest b after (digits bytes d) (sym e) h
 
 no_comment : {at : ℕ} {text : List ℕ} {rule : LexRule} {place : ℕ} → FaultAt at text rule place → (inside after : List ℕ) →
@@ -99,17 +99,17 @@ fault_lexes f {names = names} (token bytes one {rest = rest} s longest o l) = no
 
 -- What leads to a fault goes by the one step that the text allows.
 steps_blank : {at to : ℕ} {text rest : List ℕ} {rule : LexRule} {place : ℕ} → LeadsTo at text to rest →
-    FaultAt to rest rule place → (b : ℕ) (after : List ℕ) → text ≡ b ∷ after → is_blank b ≡ true → LeadsTo (at + 1) after to rest
+    FaultAt to rest rule place → (b : ℕ) (after : List ℕ) → text ≡ b ∷ after → is_white_space b ≡ true → LeadsTo (at + 1) after to rest
 steps_blank here f b after e h = absurd (no_blank f b after e h)
 steps_blank {at = at} {to = to} {rest = rest} (LeadsTo.blank x k l) f b after e h = subst (λ r. LeadsTo (at + 1) r to rest) (tail_is e) l
-steps_blank (LeadsTo.comment inside c l) f b after e h = absurd (apart is_blank 47 b refl h (head_is e))
+steps_blank (LeadsTo.comment inside c l) f b after e h = absurd (apart is_white_space 47 b refl h (head_is e))
 steps_blank (LeadsTo.token names bytes one {text = text} s longest o l) f b after e h =
     absurd (no_blank_front bytes text b after (spells_form names bytes one s) (sym e) h)
 
 steps_comment : {at to : ℕ} {text rest : List ℕ} {rule : LexRule} {place : ℕ} → LeadsTo at text to rest →
     FaultAt to rest rule place → (inside after : List ℕ) → text ≡ 47 ∷ 42 ∷ inside ++ after → Closes 1 inside → LeadsTo (at + 2 + length inside) after to rest
 steps_comment here f inside after e c = absurd (no_comment f inside after e c)
-steps_comment (LeadsTo.blank x k l) f inside after e c = absurd (apart is_blank 47 x refl k (sym (head_is e)))
+steps_comment (LeadsTo.blank x k l) f inside after e c = absurd (apart is_white_space 47 x refl k (sym (head_is e)))
 steps_comment {at = at} {to = to} {rest = rest} (LeadsTo.comment other {text = text} c' l) f inside after e c =
     let g : other ++ text ≡ inside ++ after = tail_is (tail_is e) in
     let is : other ≡ inside = closes_once c' c text after g in

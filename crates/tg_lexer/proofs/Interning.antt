@@ -11,8 +11,8 @@ use Rattle.tg_syntax.specs.declared.tokens.Word.{Word}
 use Rattle.tg_syntax.specs.declared.tokens.Spanned.{Spanned}
 use Rattle.tg_syntax.specs.Spellings.{word_text, is_letter, is_name_byte}
 use Rattle.tg_syntax.proofs.Longest.{name_longest}
-use Rattle.tg_lexer.specs.Fronts.{IsStretch, IsToken, BeginsWith}
-use Rattle.tg_lexer.specs.Numbering.{named, all_named, idents, ident_text}
+use Rattle.tg_lexer.specs.Lexemes.{IsStretch, IsToken, BeginsWith}
+use Rattle.tg_lexer.specs.Numbering.{with_name, all_named, idents, ident_text}
 use Rattle.tg_lexer.proofs.Readings.{name_of, no_slash, stopped}
 
 -- the place of a text that was interned
@@ -32,7 +32,7 @@ interned_get old new t n h = by (is_among t old) h
     by true h = ap (λ l. slice_get l n) h.0 ∙ h.1
     by false h = ap (λ l. slice_get l n) h.0 ∙ ap (λ k. slice_get (old ++ t ∷ []) k) h.1 ∙ slice_get-last old t
 
-pub interned_named : (old new : List (List ℕ)) (t : List ℕ) (n : ℕ) → IsInterned old t new n → new ≡ named old t
+pub interned_named : (old new : List (List ℕ)) (t : List ℕ) (n : ℕ) → IsInterned old t new n → new ≡ with_name old t
 interned_named old new t n h = by (is_among t old) h
   where
     by : (b : Bool) → MatchBool b ((new ≡ old) × (slice_get old n ≡ Some t)) ((new ≡ old ++ t ∷ []) × (n ≡ length old)) → new ≡ cond b old (old ++ t ∷ [])
@@ -58,7 +58,7 @@ pub record Added (names new : List (List ℕ)) (most : ℕ) : Type 0 where
   pub whole : new ≡ names ++ more
   pub few : length more ≤ most
 
-pub named_adds : (names : List (List ℕ)) (t : List ℕ) → Added names (named names t) 1
+pub named_adds : (names : List (List ℕ)) (t : List ℕ) → Added names (with_name names t) 1
 named_adds names t = by (is_among t names)
   where
     by : (b : Bool) → Added names (cond b names (names ++ t ∷ [])) 1
@@ -69,11 +69,11 @@ pub all_named_keeps : (names texts : List (List ℕ)) → (more : List (List ℕ
 all_named_keeps names [] = ([], sym (append-nil names))
 all_named_keeps names (t ∷ texts) =
     let a = named_adds names t in
-    let k = all_named_keeps (named names t) texts in
+    let k = all_named_keeps (with_name names t) texts in
     (a.more ++ k.0, k.1 ∙ ap (λ l. l ++ k.0) a.whole ∙ append_assoc names a.more k.0)
 
 pub all_named-append : (names xs ys : List (List ℕ)) → all_named names (xs ++ ys) ≡ all_named (all_named names xs) ys
-all_named-append names xs ys = fold-append named names xs ys
+all_named-append names xs ys = fold-append with_name names xs ys
 
 pub idents-append : (text : List ℕ) (xs ys : List Spanned) → idents text (xs ++ ys) ≡ idents text xs ++ idents text ys
 idents-append text [] ys = refl

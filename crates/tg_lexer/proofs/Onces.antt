@@ -19,7 +19,7 @@ use Rattle.tg_syntax.specs.declared.tokens.Sign.TheVariants.{RightBrace, Dot, Pl
 use Rattle.tg_syntax.specs.declared.tokens.Sign.TheVariants.{GreaterEqual, And, Or, Assign}
 use Rattle.std.specs.Str.Parse.{IsNumeral}
 use Rattle.tg_syntax.proofs.Numerals.{is_digit_from, none_is_numeral}
-use Rattle.tg_syntax.specs.Spellings.{Spells, word_text, sign_text, is_letter, is_digit, is_name_byte, is_blank, AllAre, IsName, HasTokenForm, name}
+use Rattle.tg_syntax.specs.Spellings.{Spells, word_text, sign_text, is_letter, is_digit, is_name_byte, is_white_space, AllAre, IsName, HasTokenForm, name}
 use Rattle.tg_syntax.specs.Spellings.{sign, digits, quoted, IsQuoted}
 use Rattle.tg_syntax.specs.Lexing.{Lexes, ends, blank, comment, token, spanned, IsLongest, OpensComment, Closes}
 use Rattle.tg_syntax.proofs.Longest.{begins, is_mark}
@@ -202,17 +202,17 @@ spells_once names bytes (token.Sign s) _ d h k = kinds_differ names bytes refl h
 spells_once names bytes token.End _ d h k = absurd h
 
 -- what has the form of a token begins with a byte that is no blank
-sign_blank : (s : Sign) → begins is_blank (sign_text s) ≡ false
+sign_blank : (s : Sign) → begins is_white_space (sign_text s) ≡ false
 sign_blank Comma = refl
 sign_blank _ = refl
 
-letter_blank : (b : ℕ) → is_letter b ≡ true → is_blank b ≡ false
+letter_blank : (b : ℕ) → is_letter b ≡ true → is_white_space b ≡ false
 letter_blank b h = grind (arith, nat_tests)
 
-digit_blank : (b : ℕ) → is_digit b ≡ true → is_blank b ≡ false
+digit_blank : (b : ℕ) → is_digit b ≡ true → is_white_space b ≡ false
 digit_blank b h = grind (arith, nat_tests)
 
-pub form_begins : {xs : List ℕ} → HasTokenForm xs → begins is_blank xs ≡ false
+pub form_begins : {xs : List ℕ} → HasTokenForm xs → begins is_white_space xs ≡ false
 form_begins (name [] h) = absurd h
 form_begins (name (b ∷ bytes) h) = letter_blank b h.0
 form_begins (sign s) = sign_blank s
@@ -228,23 +228,23 @@ form_some (digits [] h) e = none_is_numeral h
 form_some (digits (b ∷ bytes) h) e = not_cons (sym e)
 form_some (quoted q) e = not_cons (sym e)
 
-pub no_blank_front : (bytes rest : List ℕ) (b : ℕ) (after : List ℕ) → HasTokenForm bytes → b ∷ after ≡ bytes ++ rest → is_blank b ≡ true → ⊥
+pub no_blank_front : (bytes rest : List ℕ) (b : ℕ) (after : List ℕ) → HasTokenForm bytes → b ∷ after ≡ bytes ++ rest → is_white_space b ≡ true → ⊥
 no_blank_front [] rest b after f e h = form_some f refl
-no_blank_front (x ∷ bytes) rest b after f e h = apart is_blank x b (form_begins f) h (sym (head_is e))
+no_blank_front (x ∷ bytes) rest b after f e h = apart is_white_space x b (form_begins f) h (sym (head_is e))
 
 -- the first step of tokens, by what a text begins with
 pub lexes_blank : {names : List (List ℕ)} {at : ℕ} {text : List ℕ} {tokens : List Spanned} → Lexes names at text tokens →
-    (b : ℕ) (rest : List ℕ) → text ≡ b ∷ rest → is_blank b ≡ true → Lexes names (at + 1) rest tokens
+    (b : ℕ) (rest : List ℕ) → text ≡ b ∷ rest → is_white_space b ≡ true → Lexes names (at + 1) rest tokens
 lexes_blank (ends at) b rest e h = absurd (not_cons e)
 lexes_blank {names = names} {at = at} {tokens = tokens} (blank x k l) b rest e h = subst (λ r. Lexes names (at + 1) r tokens) (tail_is e) l
-lexes_blank (comment inside c l) b rest e h = absurd (apart is_blank 47 b refl h (head_is e))
+lexes_blank (comment inside c l) b rest e h = absurd (apart is_white_space 47 b refl h (head_is e))
 lexes_blank {names = names} (token bytes one {rest = after} s longest o l) b rest e h =
     absurd (no_blank_front bytes after b rest (spells_form names bytes one s) (sym e) h)
 
 pub lexes_comment : {names : List (List ℕ)} {at : ℕ} {text : List ℕ} {tokens : List Spanned} → Lexes names at text tokens →
     (inside rest : List ℕ) → text ≡ 47 ∷ 42 ∷ inside ++ rest → Closes 1 inside → Lexes names (at + 2 + length inside) rest tokens
 lexes_comment (ends at) inside rest e c = absurd (not_cons e)
-lexes_comment (blank x k l) inside rest e c = absurd (apart is_blank 47 x refl k (sym (head_is e)))
+lexes_comment (blank x k l) inside rest e c = absurd (apart is_white_space 47 x refl k (sym (head_is e)))
 lexes_comment {names = names} {at = at} {tokens = tokens} (comment other {rest = after} c' l) inside rest e c =
     let f : other ++ after ≡ inside ++ rest = tail_is (tail_is e) in
     let same : other ≡ inside = closes_once c' c after rest f in

@@ -12,12 +12,13 @@ use Rattle.tg_syntax.specs.declared.faults.LexRule.{LexRule}
 use Rattle.tg_syntax.specs.declared.faults.LexRule.TheVariants.{L1, L2, L5}
 use Rattle.std.specs.Str.Parse.{IsNumeral, digits_value}
 use Rattle.tg_syntax.proofs.Numerals.{is_digit_from, digits_of_bytes, none_is_numeral}
-use Rattle.tg_syntax.specs.Spellings.{sign_text, word_text, is_blank, is_letter, is_digit, is_name_byte, IsName, IsQuoted, HasTokenForm, name}
+use Rattle.tg_syntax.specs.Spellings.{sign_text, word_text, is_white_space, is_letter, is_digit, is_name_byte, IsName, IsQuoted, HasTokenForm, name}
 use Rattle.tg_syntax.specs.Spellings.{sign, digits, quoted}
 use Rattle.tg_syntax.specs.Lexing.{OpensComment, Closes, IsLongest}
 use Rattle.tg_syntax.specs.LexicalFaults.{FaultAt, illegal_byte, comment_not_closed, large_int}
 use Rattle.tg_syntax.proofs.Longest.{begins, is_mark, form_of_mark, name_longest, digits_longest}
-use Rattle.tg_lexer.specs.Fronts.{IsStretch, NeverCloses, IsSignFront, IsString, IsGap, blank, comment, IsToken, BeginsWith, BeginsQuote, BeginsOther, is_other}
+use Rattle.tg_lexer.specs.Lexemes.{IsStretch, NeverCloses, IsSignFront, IsString, IsGap, blank, comment, IsToken, BeginsWith, BeginsQuote, BeginsOther}
+use Rattle.tg_lexer.specs.Lexemes.{is_other}
 use Rattle.tg_lexer.proofs.Basics.{head_is, tail_is, apart, clash}
 use Rattle.tg_lexer.proofs.Closings.{two_bytes}
 use Rattle.tg_lexer.proofs.Quotings.{quoted_once}
@@ -150,7 +151,7 @@ sign_token n text s size h f =
       no_comment = h.1;
     }
 
-other_blank : (b : ℕ) → is_other b ≡ true → not (is_blank b) ≡ true
+other_blank : (b : ℕ) → is_other b ≡ true → not (is_white_space b) ≡ true
 other_blank b h = grind (arith, nat_tests)
 
 other_mark : (b : ℕ) → is_other b ≡ true → is_mark b ≡ true
@@ -167,7 +168,7 @@ pub string_fault : (at : ℕ) (text : List ℕ) (rule : LexRule) (place : ℕ) �
 string_fault at text rule place h f = subst (λ l. FaultAt at l rule place) (sym (quote_first text h)) f
 
 -- the first byte
-pub blank_gap : (text : List ℕ) → 0 < length text → is_blank (get_or text 0 0) ≡ true → IsGap text 1
+pub blank_gap : (text : List ℕ) → 0 < length text → is_white_space (get_or text 0 0) ≡ true → IsGap text 1
 blank_gap [] lt h = absurd (omega arith)
 blank_gap (b ∷ text) lt h = blank b text h
 

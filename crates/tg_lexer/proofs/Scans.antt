@@ -13,12 +13,12 @@ use Rattle.tg_syntax.specs.Spellings.{Spells, word_text}
 use Rattle.tg_syntax.specs.Lexing.{Lexes, spanned, OpensComment}
 use Rattle.tg_syntax.specs.LexicalFaults.{LeadsTo, FaultAt, HasLexicalFault, met}
 use Rattle.tg_syntax.proofs.Longest.{begins, is_mark}
-use Rattle.tg_lexer.specs.Fronts.{IsGap, blank, comment, IsToken, IsRead}
-use Rattle.tg_lexer.specs.declared.fronts.Front.TheVariants.{One}
+use Rattle.tg_lexer.specs.Lexemes.{IsGap, blank, comment, IsToken, IsRead}
+use Rattle.tg_lexer.specs.declared.lexemes.Lexeme.TheVariants.{One}
 use Rattle.tg_base.specs.declared.faulty.Faulty.{Faulty}
 use Rattle.tg_base.specs.declared.faulty.Faulty.TheVariants.{Bad, Memory}
 use Rattle.tg_base.specs.FirstFaults.{OnBad}
-use Rattle.tg_lexer.specs.Numbering.{named, all_named, idents, ident_text, names_after}
+use Rattle.tg_lexer.specs.Numbering.{with_name, all_named, idents, ident_text, names_after}
 use Rattle.tg_lexer.proofs.Basics.{clash, not_cons}
 use Rattle.tg_lexer.proofs.SignSteps.{sign_mark}
 use Rattle.tg_lexer.proofs.Interning.{slice_get-more, Added, named_adds, all_named_keeps, all_named-append, idents-append}
@@ -157,7 +157,7 @@ after_adds names text token.End size = record { more = []; whole = sym (append-n
 
 after_is : (names : List (List ℕ)) (text : List ℕ) (one : Token) (at size : ℕ) → names_after names (drop at text) (Ok (One one size)) ≡
     all_named names (ident_text text one (record { from = at; to = at + size }))
-after_is names text (token.Ident n) at size = let e : (at + size) - at ≡ size = omega arith in ap (λ k. named names (take k (drop at text))) (sym e)
+after_is names text (token.Ident n) at size = let e : (at + size) - at ≡ size = omega arith in ap (λ k. with_name names (take k (drop at text))) (sym e)
 after_is names text (token.Word w) at size = refl
 after_is names text (token.Sign s) at size = refl
 after_is names text (token.Int n) at size = refl

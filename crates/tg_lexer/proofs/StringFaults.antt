@@ -3,7 +3,7 @@ use Rattle.std.proofs.Common.{ℕ, ◌+◌, ◌≡◌, ◌⊎◌, inl, inr, List
 use Rattle.std.specs.Prelude.{IsTrue}
 use Rattle.std.proofs.lemmas.List.{length-append}
 use Rattle.tg_syntax.specs.declared.faults.LexRule.{LexRule}
-use Rattle.tg_syntax.specs.Spellings.{IsQuoted, nothing, plain, escaped, Escape, is_plain, is_blank, AllAre}
+use Rattle.tg_syntax.specs.Spellings.{IsQuoted, nothing, plain, escaped, Escape, is_plain, is_white_space, AllAre}
 use Rattle.tg_syntax.specs.LexicalFaults.{FaultInString, end_in_string, line_in_string, control_byte, end_in_escape, line_in_escape, bad_escape}
 use Rattle.tg_syntax.specs.LexicalFaults.{is_control, IsBegun, Misfits}
 use Rattle.tg_syntax.specs.LexicalFaults as faults
@@ -24,10 +24,10 @@ none_left : (p : List ℕ) (d : ℕ) (q : List ℕ) → [] ≡ p ++ d ∷ q → 
 none_left [] d q e = not_cons e
 none_left (x ∷ p) d q e = not_cons e
 
-blanks_left : (b : ℕ) (more p : List ℕ) (d : ℕ) (q : List ℕ) → AllAre is_blank more → more ≡ p ++ d ∷ q → AllAre is_blank (p ++ d ∷ [])
+blanks_left : (b : ℕ) (more p : List ℕ) (d : ℕ) (q : List ℕ) → AllAre is_white_space more → more ≡ p ++ d ∷ q → AllAre is_white_space (p ++ d ∷ [])
 blanks_left b [] p d q a e = absurd (none_left p d q e)
-blanks_left b (x ∷ more) [] d q a e = (subst (λ z. IsTrue (is_blank z)) (head_is e) a.0, tt)
-blanks_left b (x ∷ more) (y ∷ p) d q a e = (subst (λ z. IsTrue (is_blank z)) (head_is e) a.0, blanks_left b more p d q a.1 (tail_is e))
+blanks_left b (x ∷ more) [] d q a e = (subst (λ z. IsTrue (is_white_space z)) (head_is e) a.0, tt)
+blanks_left b (x ∷ more) (y ∷ p) d q a e = (subst (λ z. IsTrue (is_white_space z)) (head_is e) a.0, blanks_left b more p d q a.1 (tail_is e))
 
 begun_left : {begun : List ℕ} → IsBegun begun → (p : List ℕ) (d : ℕ) (q : List ℕ) → begun ≡ p ++ d ∷ q → IsBegun (p ++ d ∷ [])
 begun_left faults.backslash p d q e = absurd (none_left p d q e)

@@ -1,3 +1,3 @@
-pub mod Fronts
+pub mod Lexemes
 pub mod Numbering
 pub mod Spelled

@@ -7,16 +7,16 @@ use Rattle.tg_syntax.specs.declared.faults.LexRule.{LexRule}
 use Rattle.tg_syntax.specs.declared.tokens.Token.{Token}
 use Rattle.tg_syntax.specs.declared.tokens.Token.TheVariants.{Ident}
 use Rattle.tg_syntax.specs.declared.tokens.Spanned.{Spanned}
-use Rattle.tg_lexer.specs.declared.fronts.Front.{Front}
-use Rattle.tg_lexer.specs.declared.fronts.Front.TheVariants.{One}
+use Rattle.tg_lexer.specs.declared.lexemes.Lexeme.{Lexeme}
+use Rattle.tg_lexer.specs.declared.lexemes.Lexeme.TheVariants.{One}
 
 -- a text that isn't among the names goes last
-abbrev pub named : List (List ℕ) → List ℕ → List (List ℕ)
-named names text = cond (is_among text names) names (names ++ text ∷ [])
+abbrev pub with_name : List (List ℕ) → List ℕ → List (List ℕ)
+with_name names text = cond (is_among text names) names (names ++ text ∷ [])
 
 -- one text after the other
 abbrev pub all_named : List (List ℕ) → List (List ℕ) → List (List ℕ)
-all_named names texts = fold named names texts
+all_named names texts = fold with_name names texts
 
 -- the text of a token, where it is an identifier
 abbrev pub ident_text : List ℕ → Token → Span → List (List ℕ)
@@ -29,6 +29,6 @@ idents text [] = []
 idents text (t ∷ tokens) = ident_text text t.token t.span ++ idents text tokens
 
 -- the names after a front of the text is read
-abbrev pub names_after : List (List ℕ) → List ℕ → Result Front (Faulty LexRule ℕ) → List (List ℕ)
-names_after names text (Ok (One (Ident n) size)) = named names (take size text)
+abbrev pub names_after : List (List ℕ) → List ℕ → Result Lexeme (Faulty LexRule ℕ) → List (List ℕ)
+names_after names text (Ok (One (Ident n) size)) = with_name names (take size text)
 names_after names text _ = names

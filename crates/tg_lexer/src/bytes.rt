@@ -1,11 +1,11 @@
 ghost use Rattle.std.specs.Prelude.{◌≡◌, slice_get};
 ghost use Rattle.tg_syntax.specs.Spellings.{
-  is_blank as blank,
+  is_white_space as blank,
   is_digit as digit,
   is_letter as letter,
   is_name_byte as name_byte,
 };
-ghost use Rattle.tg_lexer.specs.Fronts.{IsStretch, in_class};
+ghost use Rattle.tg_lexer.specs.Lexemes.{IsStretch, in_class};
 
 // A tab, a newline, a form feed, a carriage return or a space.
 pub(crate) fn is_blank(byte: u8) -> bool

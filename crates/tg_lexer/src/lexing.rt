@@ -6,7 +6,7 @@ ghost use Rattle.tg_syntax.specs.SyntaxFaults.{EndsOnce};
 ghost use Rattle.tg_lexer.specs.Numbering.{all_named, idents};
 
 use crate::faults::LexFault;
-use crate::fronts::{Front, read};
+use crate::lexemes::{Lexeme, read};
 use std::alloc::Global;
 use tg_base::{Names, Span};
 use tg_syntax::{LexRule, Spanned, Token};
@@ -51,8 +51,8 @@ pub fn lex(alloc: Global, text: &[u8], names: &mut Names) -> Result<Vec<Spanned>
     while at < text.len() {
         let front = read(alloc, &text[at..], at, names)?;
         match front {
-            Front::Gap(size) => at += size,
-            Front::One(token, size) => {
+            Lexeme::Gap(size) => at += size,
+            Lexeme::One(token, size) => {
                 tokens.push(spanned(token, at, at + size))?;
                 at += size;
             }

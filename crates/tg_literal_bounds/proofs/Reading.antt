@@ -15,7 +15,7 @@ use Rattle.tg_syntax.specs.declared.trees.Param.{Param}
 use Rattle.tg_syntax.specs.declared.trees.Op.{Op}
 use Rattle.tg_syntax.specs.Tree.{Form, Exp, LValue, Exps, no_exps, exp, Inits, no_inits, init, Decs, no_decs, types, variable, functions, FunDecs}
 use Rattle.tg_syntax.specs.Tree.{no_functions, function}
-use Rattle.tg_syntax.specs.Groups.{snoc, snoc_init, Dec, one_type, one_variable, one_function, alone, snoc_function, behind_functions, snoc_dec}
+use Rattle.tg_syntax.specs.Groups.{snoc, snoc_init, Dec, one_type, one_variable, one_function, one_declaration, snoc_function, behind_functions, snoc_dec}
 use Rattle.tg_syntax.specs.Grammar.{Level, or_op, and_op, rel_op, sum_op, term_op, IsSign, IsWord, IsIdent, AreFields, one_field, more_fields}
 use Rattle.tg_syntax.specs.Grammar.{AreAnyFields, no_fields, some_fields, IsForm, alias, fields, array, IsAnnotation, not_annotated, annotated, Reads}
 use Rattle.tg_syntax.specs.Grammar.{whole_assign, whole_up, or_up, or_more, and_up, and_more, cmp_up, cmp_two, sum_up, sum_more, term_up, term_more}
@@ -146,7 +146,7 @@ dec_strings (one_variable x k e) = strings e
 dec_strings (one_function f ps k e) = strings e
 
 -- one declaration alone
-alone_strings : (d : Dec) → decs_strings (alone d) ≡ dec_strings d
+alone_strings : (d : Dec) → decs_strings (one_declaration d) ≡ dec_strings d
 alone_strings (one_type d) = refl
 alone_strings (one_variable x k e) = append-nil (strings e)
 alone_strings (one_function f ps k e) = append-nil (strings e ++ []) ∙ append-nil (strings e)

@@ -7,7 +7,7 @@ use Rattle.tg_syntax.specs.declared.tokens.Ident.{Ident}
 use Rattle.tg_syntax.specs.declared.trees.Param.{Param}
 use Rattle.tg_syntax.specs.Tree.{Exp, LValue, Exps, no_exps, exp, Inits, no_inits, init, Decs, no_decs, types, variable, functions, FunDecs}
 use Rattle.tg_syntax.specs.Tree.{no_functions, function}
-use Rattle.tg_syntax.specs.Groups.{snoc, snoc_init, Dec, one_type, one_variable, one_function, alone, snoc_function, behind_functions, snoc_dec}
+use Rattle.tg_syntax.specs.Groups.{snoc, snoc_init, Dec, one_type, one_variable, one_function, one_declaration, snoc_function, behind_functions, snoc_dec}
 use Rattle.tg_syntax.specs.Grammar.{Level, Reads}
 use Rattle.tg_syntax.specs.Grammar.{whole_assign, whole_up, or_up, or_more, and_up, and_more, cmp_up, cmp_two, sum_up, sum_more, term_up, term_more}
 use Rattle.tg_syntax.specs.Grammar.{unary_minus, unary_primary, unary_tail, primary_place, primary_nil, primary_int, primary_text, primary_break}
@@ -40,7 +40,7 @@ DecOfWords (one_type d) = Unit {0}
 DecOfWords (one_variable x k e) = OfWords e
 DecOfWords (one_function f ps k e) = OfWords e
 
-alone_of_words : (d : Dec) → DecOfWords d → DecsOfWords (alone d)
+alone_of_words : (d : Dec) → DecOfWords d → DecsOfWords (one_declaration d)
 alone_of_words (one_type d) h = tt
 alone_of_words (one_variable x k e) h = (h, tt)
 alone_of_words (one_function f ps k e) h = ((h, tt), tt)

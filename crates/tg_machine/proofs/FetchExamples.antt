@@ -1,6 +1,6 @@
 -- Fetches of small programs, computed by the definition.
 use Rattle.std.proofs.Common.{◌≡◌, ℕ, List, [], ◌∷◌, None, Some, refl}
-use Rattle.tg_state.specs.State.{MachineState, start}
+use Rattle.tg_state.specs.State.{MachineState, initial_machine}
 use Rattle.tg_state.specs.declared.ends.RunEnd.TheVariants.{Break}
 use Rattle.tg_isa.specs.Runs.{begun}
 use Rattle.tg_machine.specs.declared.fetches.Seen.{Seen}
@@ -8,7 +8,7 @@ use Rattle.tg_machine.specs.Fetches.{fetches, seen_at, seen_next}
 use Rattle.tg_machine.specs.Machines.{simulated}
 
 abbrev program : List ℕ → MachineState
-program words = start words [] 0x00400000 0 0
+program words = initial_machine words [] 0x00400000 0 0
 
 abbrev seen : ℕ → ℕ → Seen
 seen place word = record { place = place; word = word }
@@ -38,5 +38,5 @@ ended : seen_next (simulated (program (0xcd ∷ [])) (Some (Break 3)) 0) ≡ Non
 ended = refl
 
 -- a place between two words isn't seen
-between : seen_at (start (0xcd ∷ []) [] 0x00400002 0 0) ≡ []
+between : seen_at (initial_machine (0xcd ∷ []) [] 0x00400002 0 0) ≡ []
 between = refl

@@ -6,7 +6,7 @@ use Rattle.std.proofs.KnownBytes.{Appends-nil, Appends-trans}
 use Rattle.tg_state.specs.declared.ends.RunEnd.{RunEnd}
 use Rattle.tg_state.specs.declared.ends.RunEnd.TheVariants.{StepLimit, ReadFault, WriteFault}
 use Rattle.tg_base.specs.Causes.{Rose}
-use Rattle.tg_base.specs.Writes.{TakesFront}
+use Rattle.tg_base.specs.Writes.{TakesPrefix}
 use Rattle.tg_state.specs.State.{MachineState}
 use Rattle.tg_state.specs.Services.{Step, Goes, Ends, Reads, Writes, answered}
 use Rattle.tg_isa.specs.Effects.{step}
@@ -359,7 +359,7 @@ ran_unread left read_faults taken write_faults steps n old mid new after first i
 ran_unwritten : {I O : Type 0} (left : I → Option (List ℕ)) (read_faults : I → ℕ) (taken : O → Option (List ℕ)) (write_faults : O → ℕ)
     (steps n : ℕ) (old mid new after : MachineState) (first input : I) (start out out' : O) (before written : ℕ) (bytes : List ℕ) → n < steps →
     Reached left read_faults taken write_faults n old mid first input start out before written →
-    step mid ≡ Writes bytes after → TakesFront (taken out) (taken out') bytes → Rose (write_faults out) (write_faults out') →
+    step mid ≡ Writes bytes after → TakesPrefix (taken out) (taken out') bytes → Rose (write_faults out) (write_faults out') →
     write_faults out ≤ write_faults out' →
     IsSimulation left read_faults taken write_faults steps (simulated old None before) (simulated new (Some WriteFault) written)
     first input start out' WriteFault

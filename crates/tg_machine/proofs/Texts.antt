@@ -8,7 +8,7 @@ use Rattle.std.proofs.lemmas.List.{ext_get_or}
 use Rattle.std.proofs.Math.Seq.{take-add}
 use Rattle.std.proofs.KnownBytes.{Appends-trans}
 use Rattle.std.specs.Io.KnownBytes.{Appends}
-use Rattle.tg_base.specs.Writes.{TakesFront}
+use Rattle.tg_base.specs.Writes.{TakesPrefix}
 use Rattle.tg_state.specs.declared.ends.RunEnd.{RunEnd}
 use Rattle.tg_state.specs.declared.ends.RunEnd.TheVariants.{BadAddress}
 use Rattle.tg_state.specs.State.{MachineState, load_byte, stack_top}
@@ -175,7 +175,7 @@ chunk_more x y z s a n done more text piece is fits size loads was now =
 pub chunk_failed : (x y z : Option (List ℕ)) (s : MachineState) (a n done more : ℕ) (text piece : List ℕ) → IsText s a n text →
     done + more ≤ n → length piece ≡ more
     → ((k : ℕ) → k < more → load_byte s (a + done + k) ≡ Ok (slice_index piece k))
-    → Appends x y (take done text) → TakesFront y z piece → TakesFront x z text
+    → Appends x y (take done text) → TakesPrefix y z piece → TakesPrefix x z text
 chunk_failed x y z s a n done more text piece is fits size loads was now =
     let front = now.0 in
     let rest = now.1 in

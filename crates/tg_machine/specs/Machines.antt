@@ -2,7 +2,7 @@
 use Rattle.std.specs.Prelude.{ℕ, ◌≡◌, Option, Some, None}
 use Rattle.tg_state.specs.declared.ends.RunEnd.{RunEnd}
 use Rattle.tg_state.specs.declared.ends.RunEnd.TheVariants.{StepLimit}
-use Rattle.tg_state.specs.State.{MachineState, start}
+use Rattle.tg_state.specs.State.{MachineState, initial_machine}
 use Rattle.tg_isa.specs.declared.images.Image.{Image}
 use Rattle.tg_machine.specs.declared.status.Status.{Status}
 use Rattle.tg_machine.specs.declared.status.Status.TheVariants.{Running, Ended}
@@ -25,7 +25,7 @@ kept (Ended e) = Some e
 -- a machine that was just loaded
 abbrev pub loaded : Image → ℕ → ℕ → Simulated
 loaded image heap stack = record {
-  state = start image.code image.statics image.entry heap stack;
+  state = initial_machine image.code image.statics image.entry heap stack;
   end = None;
   written = 0;
 }

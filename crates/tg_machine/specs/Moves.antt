@@ -5,7 +5,7 @@ use Rattle.std.specs.Io.KnownBytes.{Appends, Consumes, IsAtEnd, Keeps}
 use Rattle.tg_state.specs.declared.ends.RunEnd.{RunEnd}
 use Rattle.tg_state.specs.declared.ends.RunEnd.TheVariants.{StepLimit, ReadFault, WriteFault}
 use Rattle.tg_base.specs.Causes.{Rose}
-use Rattle.tg_base.specs.Writes.{TakesAll, TakesFront}
+use Rattle.tg_base.specs.Writes.{TakesAll, TakesPrefix}
 use Rattle.tg_state.specs.State.{MachineState, go, load_byte, stack_top}
 use Rattle.tg_state.specs.Services.{Step, Goes, Ends, Reads, Writes, answered, text_at}
 use Rattle.tg_machine.specs.Ran.{saturating_sum}
@@ -58,7 +58,7 @@ abbrev pub HasWritten : {T : Type 0} → List ℕ →
 HasWritten bytes old_taken new_taken old_faults new_faults old_written new_written (Ok done) =
     Appends old_taken new_taken bytes × (new_written ≡ saturating_sum old_written (length bytes))
 HasWritten bytes old_taken new_taken old_faults new_faults old_written new_written (Err e) =
-    (e ≡ WriteFault) × TakesFront old_taken new_taken bytes × Rose old_faults new_faults
+    (e ≡ WriteFault) × TakesPrefix old_taken new_taken bytes × Rose old_faults new_faults
     × (new_written ≡ old_written)
 
 -- what a step of the code leaves of the core, of the source, of the sink and of the count of bytes

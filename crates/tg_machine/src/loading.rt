@@ -15,7 +15,7 @@ ghost use Rattle.std.specs.Prelude.{
 };
 ghost use Rattle.tg_machine.specs.Machines.{loaded};
 ghost use Rattle.tg_machine.specs.Rows.{row_of};
-ghost use Rattle.tg_state.specs.State.{most_bytes, most_room, most_words, padded, start};
+ghost use Rattle.tg_state.specs.State.{most_bytes, most_room, most_words, padded, initial_machine};
 
 use crate::cores::Core;
 use crate::machines::Machine;
@@ -58,7 +58,7 @@ impl Core {
         requires stack { stack ≤ most_room }
         requires whole_stack { stack % 4 ≡ 0 }
         ensures { IfOk result
-            (λ s. s ≡ start image.now.code image.now.statics image.now.entry heap stack) }
+            (λ s. s ≡ initial_machine image.now.code image.now.statics image.now.entry heap stack) }
     {
         let words = image.code.as_slice();
         let mut registers = [0; 32];

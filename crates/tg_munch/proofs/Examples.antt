@@ -6,7 +6,7 @@ use Rattle.tg_tree.specs.declared.operators.Bin.TheVariants as bin
 use Rattle.tg_tree.specs.declared.operators.Rel.TheVariants.{Equal, NotEqual, Less, LessEqual, Greater, NotBelow}
 use Rattle.tg_tree.specs.Tree as tree
 use Rattle.tg_tree.specs.Tree.{Tx, Const, FrameAddress, Binary, Load, Txs, no_txs, tx, Linear, Mark, Do', Return', Function}
-use Rattle.tg_tree.specs.Sizes.{flat_length, flat_room}
+use Rattle.tg_tree.specs.Sizes.{flat_length, flat_needs}
 use Rattle.tg_instr.specs.declared.operands.Opnd.{Opnd}
 use Rattle.tg_instr.specs.declared.operands.Opnd.TheVariants.{Reg}
 use Rattle.tg_instr.specs.declared.instr.Instr.{Instr}
@@ -237,6 +237,6 @@ shifting = record {
       Do' (tree.Move 0 (Binary bin.ShiftLeft (t 0) (t 1))) ∷ [];
 }
 
-temporaries_of_a_shift : ((munched shifting).drawn.temp ≡ 6 + kept_count) × (flat_room shifting ≡ 3)
+temporaries_of_a_shift : ((munched shifting).drawn.temp ≡ 6 + kept_count) × (flat_needs shifting ≡ 3)
 unfolding ◌>>=◌
 temporaries_of_a_shift = (refl, refl)

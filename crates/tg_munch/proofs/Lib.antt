@@ -10,7 +10,7 @@ pub mod NamingCode
 pub mod NamingLaws
 pub mod Passing
 mod ProductRuns
-mod Rooms
+mod Needs
 pub mod Scopes
 mod Shifts
 mod Temporaries

@@ -7,7 +7,7 @@ use Rattle.tg_tree.specs.declared.operators.Bin.TheVariants as bin
 use Rattle.tg_tree.specs.declared.operators.Rel.{Rel}
 use Rattle.tg_tree.specs.Tree as tree
 use Rattle.tg_tree.specs.Tree.{Tx, Txs, Ts, Linear, Function, no_txs, tx}
-use Rattle.tg_tree.specs.Sizes.{in_canonical, expression_room, arguments_room, statement_room, element_room, code_room}
+use Rattle.tg_tree.specs.Sizes.{in_canonical, expression_needs, arguments_needs, statement_needs, element_needs, code_needs}
 use Rattle.tg_instr.specs.declared.operands.Opnd.{Opnd}
 use Rattle.tg_munch.specs.Arguments.{is_in_register, is_in_frame, is_anywhere, one_may_end, ordered}
 use Rattle.tg_munch.specs.Choosing.{Choice, ◌>>=◌, give}
@@ -19,54 +19,54 @@ use Rattle.tg_munch.specs.Products.{is_in_hi}
 use Rattle.tg_munch.specs.Bodies.{munched, kept, load_above, from_word, from_words, from_register, parameters, body, count, out_of, out_of_statement}
 use Rattle.tg_munch.specs.Bodies.{out_of_element, outs, mark_above}
 use Rattle.tg_munch.specs.Lengths.{word_shifts, arguments_shifts, statement_shifts, element_shifts, code_shifts, TemporariesAreFew}
-use Rattle.tg_munch.proofs.Rooms.{Takes, both, more, either, gives, puts, defines, draws_temp, own_most, chooses, constant_draws, moved_draws}
-use Rattle.tg_munch.proofs.Rooms.{tiled_draws, based_draws, loaded_draws, byte_draws, against_draws, constant_in_draws, answer_draws, answer_to}
-use Rattle.tg_munch.proofs.Rooms.{passed_draws, service_draws, given_draws}
+use Rattle.tg_munch.proofs.Needs.{Takes, both, more, either, gives, puts, defines, draws_temp, own_most, chooses, constant_draws, moved_draws}
+use Rattle.tg_munch.proofs.Needs.{tiled_draws, based_draws, loaded_draws, byte_draws, against_draws, constant_in_draws, answer_draws, answer_to}
+use Rattle.tg_munch.proofs.Needs.{passed_draws, service_draws, given_draws}
 
 -- what flat code counts for an expression, and for shifts by words besides
 abbrev room : Tx → ℕ
-room x = expression_room in_canonical x + 3 * word_shifts x
+room x = expression_needs in_canonical x + 3 * word_shifts x
 
 -- Arguments, without the words that those past the fourth have in the frame: what all draw, by those in registers and those in the frame.
-abbrev picked_room : Bool → ℕ → ℕ
-picked_room true n = n
-picked_room false n = 0
+abbrev picked_needs : Bool → ℕ → ℕ
+picked_needs true n = n
+picked_needs false n = 0
 
-picked_draws : (n : ℕ) (b : Bool) {choice : Choice (Unit {0})} → Takes 0 n choice → Takes 0 (picked_room b n) (if b then choice else give tt)
+picked_draws : (n : ℕ) (b : Bool) {choice : Choice (Unit {0})} → Takes 0 n choice → Takes 0 (picked_needs b n) (if b then choice else give tt)
 picked_draws n true h = h
 picked_draws n false h = gives tt
 
-abbrev picked_rooms : (picks : ℕ → Bool) → (i : ℕ) → Txs → ℕ
-picked_rooms picks i no_txs = 0
-picked_rooms picks i (tx x xs) = picked_room (picks i) (1 + room x) + picked_rooms picks (i + 1) xs
+abbrev picked_needs : (picks : ℕ → Bool) → (i : ℕ) → Txs → ℕ
+picked_needs picks i no_txs = 0
+picked_needs picks i (tx x xs) = picked_needs (picks i) (1 + room x) + picked_needs picks (i + 1) xs
 
-abbrev all_rooms : Txs → ℕ
-all_rooms no_txs = 0
-all_rooms (tx x xs) = 1 + room x + all_rooms xs
+abbrev all_needs : Txs → ℕ
+all_needs no_txs = 0
+all_needs (tx x xs) = 1 + room x + all_needs xs
 
-anywhere_rooms : (i : ℕ) (xs : Txs) → picked_rooms is_anywhere i xs ≡ all_rooms xs
-anywhere_rooms i no_txs = refl
-anywhere_rooms i (tx x xs) = let h = anywhere_rooms (i + 1) xs in omega (arith, h)
+anywhere_needs : (i : ℕ) (xs : Txs) → picked_needs is_anywhere i xs ≡ all_needs xs
+anywhere_needs i no_txs = refl
+anywhere_needs i (tx x xs) = let h = anywhere_needs (i + 1) xs in omega (arith, h)
 
-either_room : (b : Bool) (n : ℕ) → picked_room (not b) n + picked_room b n ≡ n
-either_room true n = omega arith
-either_room false n = omega arith
+either_needs : (b : Bool) (n : ℕ) → picked_needs (not b) n + picked_needs b n ≡ n
+either_needs true n = omega arith
+either_needs false n = omega arith
 
-both_rooms : (i : ℕ) (xs : Txs) → picked_rooms is_in_frame i xs + picked_rooms is_in_register i xs ≡ all_rooms xs
-both_rooms i no_txs = refl
-both_rooms i (tx x xs) =
-    let h = both_rooms (i + 1) xs in
-    let e = either_room (nat_lt i 4) (1 + room x) in
+both_needs : (i : ℕ) (xs : Txs) → picked_needs is_in_frame i xs + picked_needs is_in_register i xs ≡ all_needs xs
+both_needs i no_txs = refl
+both_needs i (tx x xs) =
+    let h = both_needs (i + 1) xs in
+    let e = either_needs (nat_lt i 4) (1 + room x) in
     omega (arith, h, e)
 
 ordered_draws : (b : Bool) (choice : (ℕ → Bool) → Choice (Unit {0})) (xs : Txs) →
-    ((picks : ℕ → Bool) → Takes 0 (picked_rooms picks 0 xs) (choice picks)) → Takes 0 (all_rooms xs) (ordered b choice)
-ordered_draws true choice xs h = let e = anywhere_rooms 0 xs in more (omega (arith, e)) (h is_anywhere)
-ordered_draws false choice xs h = let e = both_rooms 0 xs in more (omega (arith, e)) (both (h is_in_frame) λ u. h is_in_register)
+    ((picks : ℕ → Bool) → Takes 0 (picked_needs picks 0 xs) (choice picks)) → Takes 0 (all_needs xs) (ordered b choice)
+ordered_draws true choice xs h = let e = anywhere_needs 0 xs in more (omega (arith, e)) (h is_anywhere)
+ordered_draws false choice xs h = let e = both_needs 0 xs in more (omega (arith, e)) (both (h is_in_frame) λ u. h is_in_register)
 
-arguments_have_room : (xs : Txs) → all_rooms xs + count xs ≤ arguments_room in_canonical xs + 3 * arguments_shifts xs
-arguments_have_room no_txs = omega arith
-arguments_have_room (tx x xs) = let h = arguments_have_room xs in omega (arith, h)
+arguments_have_needs : (xs : Txs) → all_needs xs + count xs ≤ arguments_needs in_canonical xs + 3 * arguments_shifts xs
+arguments_have_needs no_txs = omega arith
+arguments_have_needs (tx x xs) = let h = arguments_have_needs xs in omega (arith, h)
 
 module _ (slots : ℕ) where
   mutual
@@ -93,14 +93,14 @@ module _ (slots : ℕ) where
     expression_draws (tree.LoadByte x) dest =
         more (omega arith) (byte_draws dest (based_draws None (expression_draws x None) (expression_draws x None)))
     expression_draws (tree.Call label xs) dest =
-        let h = arguments_have_room xs in
+        let h = arguments_have_needs xs in
         more (omega (arith, h))
         (both (both (ordered_draws (one_may_end 0 xs) _ xs (λ picks. arguments_draw picks 0 xs)) λ u. puts _) λ u. answer_draws dest)
     expression_draws (tree.Service n x) dest =
         more (omega arith) (both (service_draws n (expression_draws x (Some _))) λ u. answer_draws dest)
     expression_draws (tree.After s x) dest = more (omega arith) (expression_draws x dest)
 
-    arguments_draw : (picks : ℕ → Bool) (i : ℕ) (xs : Txs) → Takes 0 (picked_rooms picks i xs) (arguments slots picks i xs)
+    arguments_draw : (picks : ℕ → Bool) (i : ℕ) (xs : Txs) → Takes 0 (picked_needs picks i xs) (arguments slots picks i xs)
     arguments_draw picks i no_txs = gives tt
     arguments_draw picks i (tx x xs) =
         both (picked_draws (1 + room x) (picks i)
@@ -127,20 +127,20 @@ module _ (slots : ℕ) where
   -- with the words that the arguments of a call have
   moves_draw : (i : ℕ) (x : Tx) → Takes (out_of x) (room x) (expression slots x (Some (temp i)) >>= (λ v. give {A = Unit {0}} tt))
   moves_draw i (tree.Call label xs) =
-      let h = arguments_have_room xs in
+      let h = arguments_have_needs xs in
       more (omega (arith, h))
       (both (both (both (ordered_draws (one_may_end 0 xs) _ xs (λ picks. arguments_draw picks 0 xs)) λ u. puts _) λ u. answer_to (temp i)) λ v. gives tt)
   moves_draw i x = more (omega arith) (both (expression_draws x (Some (temp i))) λ v. gives tt)
 
   effect_draws : (x : Tx) → Takes (out_of x) (room x) (effect slots x)
   effect_draws (tree.Call label xs) =
-      let h = arguments_have_room xs in
+      let h = arguments_have_needs xs in
       more (omega (arith, h)) (both (ordered_draws (one_may_end 0 xs) _ xs (λ picks. arguments_draw picks 0 xs)) λ u. puts _)
   effect_draws (tree.Service n x) = more (omega arith) (service_draws n (expression_draws x (Some _)))
   effect_draws x = more (omega arith) (valued_draws x)
 
   abbrev statement_most : Ts → ℕ
-  statement_most s = statement_room in_canonical s + 3 * statement_shifts s
+  statement_most s = statement_needs in_canonical s + 3 * statement_shifts s
 
   statement_draws : (s : Ts) → Takes (out_of_statement s) (statement_most s) (statement slots s)
   statement_draws (tree.Move i x) = more (omega arith) (moves_draw i x)
@@ -169,7 +169,7 @@ module _ (slots : ℕ) where
   behind_draws before rel x y m = branches_draw rel x y m
 
   abbrev element_most : Linear → ℕ
-  element_most e = element_room in_canonical e + 3 * element_shifts e
+  element_most e = element_needs in_canonical e + 3 * element_shifts e
 
   element_draws : (keeps : ℕ) (before : Option Linear) (e : Linear) → Takes (out_of_element e) (element_most e) (element slots keeps before e)
   element_draws keeps before (tree.Mark m) = more (omega arith) (puts _)
@@ -189,7 +189,7 @@ module _ (slots : ℕ) where
   }
 
   elements_draw : (keeps : ℕ) (before : Option Linear) (code : List Linear) →
-      Takes (outs code) (code_room in_canonical code + 3 * code_shifts code) (elements slots keeps before code)
+      Takes (outs code) (code_needs in_canonical code + 3 * code_shifts code) (elements slots keeps before code)
   elements_draw keeps before [] = gives tt
   elements_draw keeps before (e ∷ rest) =
       more (omega arith) (shared (element_draws keeps before e) λ u. elements_draw keeps (Some e) rest)
@@ -230,11 +230,11 @@ behind {first = first} h f = record {
 }
 
 body_draws : (f : Function (List Linear)) →
-    Takes (outs f.body) (9 + (2 * length f.params + (code_room in_canonical f.body + 3 * code_shifts f.body))) (body f)
+    Takes (outs f.body) (9 + (2 * length f.params + (code_needs in_canonical f.body + 3 * code_shifts f.body))) (body f)
 body_draws f = behind (kept_draws kept_registers) λ u. behind (parameters_draw 0 f.params) λ u. elements_draw f.slots f.temps None f.body
 
 pub temps_few : TemporariesAreFew
 temps_few f =
-    let h : (munched f).drawn.temp + outs f.body ≤ f.temps + (9 + (2 * length f.params + (code_room in_canonical f.body + 3 * code_shifts f.body))) =
+    let h : (munched f).drawn.temp + outs f.body ≤ f.temps + (9 + (2 * length f.params + (code_needs in_canonical f.body + 3 * code_shifts f.body))) =
     (body_draws f).temps (record { temp = f.temps; mark = mark_above f.body }) in
     omega (arith, h)

@@ -5,7 +5,7 @@ use Rattle.tg_tree.specs.declared.operators.Bin.{Bin}
 use Rattle.tg_tree.specs.declared.operators.Bin.TheVariants.{ShiftLeft, ShiftRight, ShiftSigned}
 use Rattle.tg_tree.specs.Tree as tree
 use Rattle.tg_tree.specs.Tree.{Tx, Txs, Ts, Linear, Function, no_txs, tx}
-use Rattle.tg_tree.specs.Sizes.{flat_length, flat_room}
+use Rattle.tg_tree.specs.Sizes.{flat_length, flat_needs}
 use Rattle.tg_instr.specs.declared.operands.Opnd.{Opnd}
 use Rattle.tg_instr.specs.declared.instr.Instr.{Instr}
 use Rattle.tg_instr.specs.declared.instr.Instr.TheVariants.{Move}
@@ -88,7 +88,7 @@ abbrev pub TemporariesAreFew : Type 0
 TemporariesAreFew =
     (f : Function (List Linear)) →
     f.slots + (munched f).drawn.temp + outs f.body ≤
-    flat_room f + 3 * code_shifts f.body + kept_count
+    flat_needs f + 3 * code_shifts f.body + kept_count
 
 -- A shift by a word counts 21 in the length: so where it isn't known that there are none, the room
 -- that they take is a seventh of the length.

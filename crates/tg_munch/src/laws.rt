@@ -45,7 +45,7 @@ pub fn code_is_marked()
 /// marks are drawn for them than that. However the words that come of them are counted, at most 13
 /// of a move and 10 of any other, there are at most twelve for each unit of that length, and nine
 /// moves'.
-pub fn code_is_short()
+pub fn munch_is_bounded()
     ensures few { InstructionsAreFew }
     ensures words { WordsAreFew }
 {}

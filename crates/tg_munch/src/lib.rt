@@ -19,6 +19,6 @@ mod tiles;
 mod tiling;
 
 pub use laws::{
-    code_is_kept, code_is_marked, code_is_short, code_names_its_own, temporaries_are_few,
+    code_is_kept, code_is_marked, code_names_its_own, munch_is_bounded, temporaries_are_few,
 };
 pub use munching::munch;

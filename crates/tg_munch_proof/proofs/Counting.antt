@@ -29,7 +29,7 @@ use Rattle.tg_instr.specs.Meaning.{Back}
 use Rattle.tg_instr.specs.Running.{Units, everywhere, CodePoint, behind, run_code, code_step, code_going, code_run, enter_code, jump_to}
 use Rattle.tg_instr.proofs.CodeRuns.{AlikeReturns, AlikeCode, alike_code, code_down, keep_act, keep_begin, code_steps}
 use Rattle.tg_munch_proof.specs.Places.{each_one}
-use Rattle.tg_munch_proof.specs.Chosen.{ChosenKeepPrograms, CountsAtMost, ChosenKeepCounts, ChosenKeepWords}
+use Rattle.tg_munch_proof.specs.Chosen.{MunchIsCorrect, CountsAtMost, MunchKeepsCounts, MunchKeepsWords}
 use Rattle.tg_munch_proof.specs.Chosen.{added_work, chosen_code}
 
 module _ (most : ℕ) (some : 1 ≤ most) where
@@ -102,7 +102,7 @@ module _ (most : ℕ) (some : 1 ≤ most) where
         stack_top _ _ (record { memory = begin code.literals; input = input })
         (λ c w. simulates_stopping most 0 n w.input (Ended (Exit (pos 0)))))
 
-pub counts_keep : ChosenKeepPrograms → ChosenKeepCounts
+pub counts_keep : MunchIsCorrect → MunchKeepsCounts
 counts_keep keep most count some fits code size floor room body input may literals bytes has_room =
     subst (λ k. Preserves k (most * added_work) (flat_run code size floor room body input)
     (code_run count (chosen_code code) size floor room body input)) (one_time most)
@@ -123,7 +123,7 @@ most_is (instr.Move to from) = omega arith
 most_is (instr.Mark m) = omega arith
 most_is _ = omega arith
 
-pub words_keep : ChosenKeepCounts → ChosenKeepWords
+pub words_keep : MunchKeepsCounts → MunchKeepsWords
 words_keep keep code size floor room body input may literals bytes has_room =
     keep 13 (everywhere most_words) (omega arith) (λ label left one. most_is one) code size floor room body input may literals
     bytes has_room

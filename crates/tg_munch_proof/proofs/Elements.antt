@@ -11,7 +11,7 @@ use Rattle.tg_simulation.specs.Simulating.{Simulates}
 use Rattle.tg_simulation.proofs.Simulations.{simulates_along, simulates_turn, simulates_wrong}
 use Rattle.tg_tree.specs.Tree as tree
 use Rattle.tg_tree.specs.Tree.{Tx, Linear}
-use Rattle.tg_tree.specs.Shapes.{IsFlat, IsFlatSide, IsFlatCode}
+use Rattle.tg_tree.specs.Shapes.{IsFlat, IsFlatOrEffect, IsFlatCode}
 use Rattle.tg_tree.specs.Units.{Canonical}
 use Rattle.tg_tree.specs.declared.operators.Bin.TheVariants as bin
 use Rattle.tg_tree.specs.declared.operators.Rel.{Rel}
@@ -361,7 +361,7 @@ module _ (a : Activated) (r n : ℕ) (fuelled : Fuelled a r n) where
       part)
 
   -- statements
-  moves : (before : Option Linear) (i : ℕ) (y : Tx) → IsFlatSide y → HasWords y → i < a.function.temps →
+  moves : (before : Option Linear) (i : ℕ) (y : Tx) → IsFlatOrEffect y → HasWords y → i < a.function.temps →
       out_of y ≤ outs a.function.body → Runs a r n before (tree.Do' (tree.Move i y))
   moves before i (tree.Const k) f h lt le = move_runs a r n before i (tree.Const k) f h lt (λ u v. refl)
   moves before i (tree.Address l) f h lt le = move_runs a r n before i (tree.Address l) f h lt (λ u v. refl)
@@ -375,7 +375,7 @@ module _ (a : Activated) (r n : ℕ) (fuelled : Fuelled a r n) where
   moves before i (tree.Service k y) f h lt le = asking_moves a r n before i k y f h.0 h.1 lt
   moves before i (tree.After z y) f h lt le = absurd f
 
-  lets_go : (before : Option Linear) (y : Tx) → IsFlatSide y → HasWords y → out_of y ≤ outs a.function.body →
+  lets_go : (before : Option Linear) (y : Tx) → IsFlatOrEffect y → HasWords y → out_of y ≤ outs a.function.body →
       Runs a r n before (tree.Do' (tree.Do y))
   lets_go before (tree.Const k) f h le rest d tail = worth_runs a r n before (tree.Const k) f h d tail rest
   lets_go before (tree.Address l) f h le rest d tail = worth_runs a r n before (tree.Address l) f h d tail rest

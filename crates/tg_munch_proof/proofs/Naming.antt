@@ -3,7 +3,7 @@ use Rattle.std.proofs.Common.{◌<◌, ℕ, suc, List, [], ◌∷◌, refl, arit
 use Rattle.std.specs.List.{AllByRecursion, Contains}
 use Rattle.tg_tree.specs.Tree as tree
 use Rattle.tg_tree.specs.Tree.{Tx, Txs, no_txs, tx, Ts, Linear}
-use Rattle.tg_tree.specs.Shapes.{IsFlat, AreFlat, IsFlatSide, IsFlatStatement, IsFlatCode}
+use Rattle.tg_tree.specs.Shapes.{IsFlat, AreFlat, IsFlatOrEffect, IsFlatStatement, IsFlatCode}
 use Rattle.tg_tree.specs.Named.{Named, temporary, constant, named_tx, named_txs, named_ts, named_flat}
 use Rattle.tg_munch_proof.specs.Words.{IsWord, HasWords, HaveWords}
 use Rattle.tg_munch_proof.proofs.Between.{ElementHasWords, MovesBelow}
@@ -44,7 +44,7 @@ module _ (temps : ℕ) where
       let second = arguments_words xs after f.1 first.1 in
       ((first.0, second.0), second.1)
 
-  side_words : (x : Tx) (after : List Named) → IsFlatSide x → AreAllowed (named_tx x after) → HasWords x × AreAllowed after
+  side_words : (x : Tx) (after : List Named) → IsFlatOrEffect x → AreAllowed (named_tx x after) → HasWords x × AreAllowed after
   side_words (tree.Call l xs) after f h = arguments_words xs after f h.1
   side_words (tree.Service k x) after f h = let first = flat_words x after f h.1 in ((h.0, first.0), first.1)
   side_words (tree.Const n) after f h = flat_words (tree.Const n) after f h

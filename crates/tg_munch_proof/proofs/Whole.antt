@@ -9,7 +9,7 @@ use Rattle.tg_tree.specs.Named.{Named, function, literal, fault, temporary, cons
 use Rattle.tg_tree.specs.Memory.{Closed, Has, statics_of, begin}
 use Rattle.tg_munch.specs.Laws.{MarksDiffer}
 use Rattle.tg_munch_proof.specs.Words.{AreWords}
-use Rattle.tg_munch_proof.specs.Chosen.{MayBeChosen, ChosenKeepPrograms}
+use Rattle.tg_munch_proof.specs.Chosen.{MayBeChosen, MunchIsCorrect}
 use Rattle.tg_munch_proof.specs.Relating.{Program, BodyMatches}
 use Rattle.tg_munch_proof.proofs.Bodies.{body_matches}
 use Rattle.tg_munch_proof.proofs.Naming.{IsAllowed, all_of, code_words}
@@ -43,7 +43,7 @@ begins_in_words ls h = record {
   stack = λ a v e. absurd (closed_is_none v e);
 }
 
-pub chosen_keep : MarksDiffer → ChosenKeepPrograms
+pub chosen_keep : MarksDiffer → MunchIsCorrect
 chosen_keep differ code size floor room body input may literals bytes fits =
     let program : Program = record { code = code; size = size; floor = floor; room = room } in
     programs_match program body input (begins_in_words code.literals literals) bytes fits.stack

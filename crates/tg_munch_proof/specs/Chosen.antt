@@ -16,6 +16,7 @@ use Rattle.tg_instr.specs.Running.{Units, everywhere, code_run}
 use Rattle.tg_munch.specs.Bodies.{munched, outs}
 use Rattle.tg_munch.specs.Lengths.{kept_count}
 use Rattle.tg_simulation.specs.Bytes.{AreBytes}
+use Rattle.tg_correct.specs.Laws.{unit_words, kept_words}
 use Rattle.tg_munch_proof.specs.Words.{IsWord}
 use Rattle.tg_munch_proof.specs.Places.{each_one}
 
@@ -63,8 +64,8 @@ added_work = kept_count
 
 -- Instructions do what the flat code did: each run of that which doesn't go wrong is one of theirs,
 -- with at least as much fuel, the same output, input left and end, and hardly more work.
-abbrev pub ChosenKeepPrograms : Type 0
-ChosenKeepPrograms =
+abbrev pub MunchIsCorrect : Type 0
+MunchIsCorrect =
     (code : Code (List Linear)) (size : ℕ → ℕ) (floor room body : ℕ) (input : List ℕ) →
     ((f : Function (List Linear)) → Contains code.functions f → MayBeChosen f) →
     ((l : Literal) → Contains code.literals l → AreBytes l.text) →
@@ -80,8 +81,8 @@ CountsAtMost most count = (label left : ℕ) (one : Instr) → count label left 
 
 -- However instructions are counted, at most so many units each, they do at most so many times the
 -- work.
-abbrev pub ChosenKeepCounts : Type 0
-ChosenKeepCounts =
+abbrev pub MunchKeepsCounts : Type 0
+MunchKeepsCounts =
     (most : ℕ) (count : Units) →
     1 ≤ most →
     CountsAtMost most count →
@@ -94,17 +95,9 @@ ChosenKeepCounts =
     (flat_run code size floor room body input)
     (code_run count (chosen_code code) size floor room body input)
 
--- the most words that come of an instruction in the end, where its operands are in the frame
-abbrev pub unit_words : ℕ
-unit_words = 13
-
--- and those of each register that the program's body keeps
-abbrev pub kept_words : ℕ
-kept_words = unit_words * added_work
-
 -- Counted in words, they do so many times the work.
-abbrev pub ChosenKeepWords : Type 0
-ChosenKeepWords =
+abbrev pub MunchKeepsWords : Type 0
+MunchKeepsWords =
     (code : Code (List Linear)) (size : ℕ → ℕ) (floor room body : ℕ) (input : List ℕ) →
     ((f : Function (List Linear)) → Contains code.functions f → MayBeChosen f) →
     ((l : Literal) → Contains code.literals l → AreBytes l.text) →

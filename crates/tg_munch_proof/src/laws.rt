@@ -1,7 +1,7 @@
 ghost use Rattle.tg_munch_proof.specs.Chosen.{
-  ChosenKeepCounts,
-  ChosenKeepPrograms,
-  ChosenKeepWords,
+  MunchKeepsCounts,
+  MunchIsCorrect,
+  MunchKeepsWords,
 };
 ghost use Rattle.tg_munch_proof.specs.Values.{BranchesCompare, ExpressionsGiveValues};
 
@@ -22,9 +22,9 @@ pub fn expressions_give_values()
 /// registers that the program's body keeps; counted otherwise, as many times that as one counts at
 /// most, as where it counts the words that come of it.
 pub fn munch_is_correct()
-    ensures programs { ChosenKeepPrograms }
-    ensures counts { ChosenKeepCounts }
-    ensures words { ChosenKeepWords }
+    ensures programs { MunchIsCorrect }
+    ensures counts { MunchKeepsCounts }
+    ensures words { MunchKeepsWords }
 {
     code_is_marked();
 }

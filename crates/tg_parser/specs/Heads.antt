@@ -3,7 +3,7 @@ use Rattle.std.specs.Prelude.{List, Result, Ok, Err, Option, Some, None}
 use Rattle.tg_syntax.specs.declared.tokens.Spanned.{Spanned}
 use Rattle.tg_syntax.specs.declared.trees.Exp.{Exp as CodeExp}
 use Rattle.tg_syntax.specs.Tree.{Exp, Read, Decs}
-use Rattle.tg_syntax.specs.Plain.{plain, plain_place}
+use Rattle.tg_syntax.specs.Plain.{plain, plain_lvalue}
 use Rattle.tg_syntax.specs.Groups.{Dec, snoc_dec}
 use Rattle.tg_parser.specs.declared.faults.Stop.{Stop}
 use Rattle.tg_parser.specs.declared.heads.Start.{Start}
@@ -39,7 +39,7 @@ plain_of None = None
 
 -- by what may stand before `:=`
 abbrev pub assigning_to : Target → Steps Exp
-assigning_to (LValue s v) = assigning (Read s (plain_place v))
+assigning_to (LValue s v) = assigning (Read s (plain_lvalue v))
 assigning_to (Other e) = give (plain e)
 
 -- a declaration, by its first word

@@ -1,5 +1,5 @@
 ghost use Rattle.std.specs.Prelude.{◌≡◌, IfOk};
-ghost use Rattle.tg_syntax.specs.Plain.{plain, plain_place};
+ghost use Rattle.tg_syntax.specs.Plain.{plain, plain_lvalue};
 ghost use Rattle.tg_syntax.specs.Spans.{joined as joined_span, span_of as plain_span_of};
 ghost use Rattle.tg_syntax.specs.Lists.{exps_of, inits_of, decs_of};
 ghost use Rattle.tg_syntax.specs.Tree.{
@@ -77,7 +77,7 @@ pub(crate) fn build_assignment(
 ) -> Result<Exp, Memory>
     ensures { IfOk result (λ e. plain e
         ≡ PlainAssign (joined_span first (plain_span_of (plain value)))
-        (plain_place place) (plain value)) }
+        (plain_lvalue place) (plain value)) }
 {
     let span = up_to(first, &value);
     assign(alloc, span, place, value)
@@ -85,8 +85,8 @@ pub(crate) fn build_assignment(
 
 /// An element of an array.
 pub(crate) fn build_element(alloc: Global, of: Var, at: Box<Exp>) -> Result<Var, Memory>
-    ensures { IfOk result (λ v. plain_place v
-        ≡ PlainIndex (plain_place of) (plain at.value)) }
+    ensures { IfOk result (λ v. plain_lvalue v
+        ≡ PlainIndex (plain_lvalue of) (plain at.value)) }
 {
     let of = Box::new(alloc, of)?;
     Ok(Var::Index(of, at))

@@ -1,5 +1,5 @@
 ghost use Rattle.std.specs.Prelude.{◌≡◌, ◌<◌, ◌≤◌, IfOk, length};
-ghost use Rattle.tg_syntax.specs.Plain.{plain, plain_place};
+ghost use Rattle.tg_syntax.specs.Plain.{plain, plain_lvalue};
 ghost use Rattle.tg_syntax.specs.Lists.{exps_of, inits_of, decs_of};
 ghost use Rattle.tg_syntax.specs.Tree.{Read, exp, no_exps, init, no_inits, no_decs};
 ghost use Rattle.tg_syntax.specs.Groups.{snoc_dec};
@@ -168,7 +168,7 @@ fn boxed_whole(alloc: Global, tokens: &[Spanned]) -> Reading<Box<Exp>>
 #[cycle(descent)]
 fn assignment(alloc: Global, span: Span, place: Var, tokens: &[Spanned]) -> Reading<Exp>
     ensures given { AnswersJob (At WholeLevel) (λ x. plain x.0) (λ x. x.1.now) result
-        (assigning (Read span (plain_place place))) tokens.now }
+        (assigning (Read span (plain_lvalue place))) tokens.now }
     ensures shorter { IfOk result (λ x. length x.1.now ≤ length tokens.now) }
 {
     let Some((_, after)) = skip(Mark::OfSign(Sign::Assign), tokens)? else {
@@ -378,9 +378,9 @@ fn suffixes(
     place: Var,
     tokens: &[Spanned],
 ) -> Result<(Span, Var, &[Spanned]), Stop>
-    ensures given { AnswersJob (Suffix span (plain_place place)) (λ x. (x.0, plain_place x.1))
+    ensures given { AnswersJob (Suffix span (plain_lvalue place)) (λ x. (x.0, plain_lvalue x.1))
         (λ x. x.2.now) result
-        (job (Suffix span (plain_place place))) tokens.now }
+        (job (Suffix span (plain_lvalue place))) tokens.now }
     ensures shorter { IfOk result (λ x. length x.2.now ≤ length tokens.now) }
 {
     if let Some((_, after)) = skip(Mark::OfSign(Sign::Dot), tokens)? {

@@ -4,8 +4,8 @@ use Rattle.tg_tree.specs.declared.operators.Rel.TheVariants.{Equal, Less}
 use Rattle.tg_instr.specs.declared.operands.Opnd.{Opnd}
 use Rattle.tg_instr.specs.declared.operands.Opnd.TheVariants.{Temp, Reg}
 use Rattle.tg_instr.specs.declared.instr.Instr.TheVariants.{Add, Addi, Sw, Move, FrameLoad, FrameStore, Branch, Call, Return}
-use Rattle.tg_regalloc.specs.declared.allocations.Home.TheVariants.{Slot}
-use Rattle.tg_regalloc.specs.InFrame.{code_in_frame, homes_from}
+use Rattle.tg_regalloc.specs.declared.allocations.Location.TheVariants.{Slot}
+use Rattle.tg_regalloc.specs.InFrame.{code_in_frame, locations_from}
 
 abbrev t : ℕ → Opnd
 t n = Temp (record { 0 = n })
@@ -27,5 +27,5 @@ test_of_zero : code_in_frame 0 (Branch (record { rel = Less; left = t 0; right =
     Branch (record { rel = Equal; left = Reg 8; right = Reg 9; is_one_row = refl }) 8 ∷ []
 test_of_zero = refl
 
-homes : homes_from 2 3 ≡ Slot 2 ∷ Slot 3 ∷ Slot 4 ∷ []
-homes = refl
+locations : locations_from 2 3 ≡ Slot 2 ∷ Slot 3 ∷ Slot 4 ∷ []
+locations = refl

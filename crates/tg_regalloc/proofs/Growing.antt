@@ -384,8 +384,8 @@ blocks_by code frame a all =
     if all then map (instruction_in_frame frame.slots) code.list else
     blocks_behind code.temps (stage_of code frame.slots) a.rounds (map (λ one. one ∷ []) code.list)
 
-pub allocations_grow_little : AllocationsGrowLittle
-allocations_grow_little rule code frame a h =
+pub regalloc_is_bounded : AllocationsGrowLittle
+regalloc_is_bounded rule code frame a h =
     record {
       whole = whole;
       small = are_small;

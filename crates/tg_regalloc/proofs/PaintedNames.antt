@@ -16,7 +16,7 @@ use Rattle.tg_irc.specs.declared.rounds.Round.{Round}
 use Rattle.tg_regalloc.specs.Conditions.{is_fixed}
 use Rattle.tg_regalloc.specs.Painting.{register_of, colour_or_first, colour_of, colour_in, is_idle, painted_named, instruction_painted, code_painted}
 use Rattle.tg_regalloc.specs.Rewriting.{slot_in}
-use Rattle.tg_regalloc.specs.Rounds.{home_in, homes_in}
+use Rattle.tg_regalloc.specs.Rounds.{location_in, locations_in}
 use Rattle.tg_regalloc.proofs.Naming.{stays_painted}
 use Rattle.tg_regalloc.proofs.RegisterNames.{fixed_allocated, names_weaker, names_renamed}
 use Rattle.tg_regalloc.proofs.Registers.{alone_renamed}
@@ -96,8 +96,8 @@ pub painted_behind : (round : Round) (all : List (Option ℕ)) (list list' : Lis
 painted_behind round all list list' e d =
     ap (code_painted (colour_in (take (length all - 25) (drop 25 all)))) d ∙ ap (λ f. code_painted f list) (colours_behind round all e)
 
-pub homes_behind : (round : Round) (all homes homes' : List (Option ℕ)) → all ≡ round.colours → homes' ≡ homes →
-    homes_in homes' (take (length all - 25) (drop 25 all)) ≡ map (λ t. home_in (slot_in homes t) (colour_of round t)) (range_with_len 0 (length homes))
-homes_behind round all homes homes' e d =
-    ap (λ hs. homes_in hs (take (length all - 25) (drop 25 all))) d
-    ∙ ap (λ (f : ℕ → ℕ). map (λ t. home_in (slot_in homes t) (f t)) (range_with_len 0 (length homes))) (colours_behind round all e)
+pub locations_behind : (round : Round) (all locations locations' : List (Option ℕ)) → all ≡ round.colours → locations' ≡ locations →
+    locations_in locations' (take (length all - 25) (drop 25 all)) ≡ map (λ t. location_in (slot_in locations t) (colour_of round t)) (range_with_len 0 (length locations))
+locations_behind round all locations locations' e d =
+    ap (λ hs. locations_in hs (take (length all - 25) (drop 25 all))) d
+    ∙ ap (λ (f : ℕ → ℕ). map (λ t. location_in (slot_in locations t) (f t)) (range_with_len 0 (length locations))) (colours_behind round all e)

@@ -12,11 +12,11 @@ use Rattle.std.proofs.lemmas.Iterator.Adapters.{position_from-zero}
 use Rattle.std.proofs.lemmas.List.Elements.{recursion_from_All}
 use Rattle.std.proofs.lemmas.Option.{get_or_from_slice_get}
 use Rattle.tg_irc.specs.declared.steps.Step.{Step}
-use Rattle.tg_irc.specs.declared.candidates.Mark.{Mark}
+use Rattle.tg_irc.specs.declared.candidates.NodeFacts.{NodeFacts}
 use Rattle.tg_irc.specs.declared.rounds.Round.{Round}
 use Rattle.tg_irc.specs.Graphs.{Set, bit, count, without, is_register}
 use Rattle.tg_irc.specs.Policies.{Rule}
-use Rattle.tg_irc.specs.States.{Problem, RoundState, start, mark_at}
+use Rattle.tg_irc.specs.States.{Problem, RoundState, start, facts_at}
 use Rattle.tg_irc.specs.Steps.{after, after_all, AreTaken}
 use Rattle.tg_irc.specs.Rounds.{end}
 use Rattle.tg_irc.specs.Laws.{AreNodes, StandsWell}
@@ -28,7 +28,7 @@ use Rattle.tg_irc.proofs.Standing.{stands_at_start, stands_after}
 use Rattle.tg_irc.proofs.AmongNodes.{rounds_are_of_nodes}
 use Rattle.tg_irc.proofs.Within.{class_is}
 use Rattle.tg_irc.proofs.Bare.{spilled_name_classes}
-use Rattle.tg_interference.specs.Marks.{occurrences, mark_of, marks_of}
+use Rattle.tg_interference.specs.Facts.{occurrences, facts_of, facts_of_nodes}
 use Rattle.tg_regalloc.specs.Rewriting.{slot_after, is_original, slotted, slot_by}
 use Rattle.tg_regalloc.specs.Rounds.{BetweenRounds, stage_of, IsRoundOf, AreRounds, slots_by, next_stage, last_round}
 use Rattle.tg_regalloc.specs.Rounds.AreRounds.{last, more}
@@ -283,13 +283,13 @@ module _ (rule : Rule) (n : ℕ) (s : BetweenRounds) (round : Round) (r : IsRoun
   stands_all q [] h t = h
   stands_all q (step ∷ steps) h t = stands_all (after p q step) steps (stands_after p q step h t.0.possible) t.1
 
-  marked : (x : ℕ) → x < 25 + s.temps → mark_at p (end p round) x ≡ mark_of s.list n x
-  marked x l = get_or_from_slice_get (marks_of s.list s.temps n) x (mark_of s.list n x) (record { uses = 0; made = false })
-      (listed_at (25 + s.temps) (mark_of s.list n) x l)
+  marked : (x : ℕ) → x < 25 + s.temps → facts_at p (end p round) x ≡ facts_of s.list n x
+  marked x l = get_or_from_slice_get (facts_of_nodes s.list s.temps n) x (facts_of s.list n x) (record { uses = 0; made = false })
+      (listed_at (25 + s.temps) (facts_of s.list n) x l)
 
-  mark_made : (x : ℕ) → 25 ≤ x → (mark_of s.list n x).made ≡ nat_le n (x - 25)
-  mark_made x l =
-      ap (λ b. (cond {A = Mark} b (record { uses = 0; made = false }) (record { uses = occurrences (temp (x - 25)) s.list; made = nat_le n (x - 25) })).made)
+  facts_made : (x : ℕ) → 25 ≤ x → (facts_of s.list n x).made ≡ nat_le n (x - 25)
+  facts_made x l =
+      ap (λ b. (cond {A = NodeFacts} b (record { uses = 0; made = false }) (record { uses = occurrences (temp (x - 25)) s.list; made = nat_le n (x - 25) })).made)
       (le-ltb x 25 l)
 
   is_node : (x : ℕ) → x < 25 + s.temps → x < r.graph.nodes
@@ -312,9 +312,10 @@ module _ (rule : Rule) (n : ℕ) (s : BetweenRounds) (round : Round) (r : IsRoun
       stands : StandsWell p (end p round)
       stands = stands_all (start p) round.steps (stands_at_start p) r.run.steps
 
-      handed_in : (mark_at p (end p round) (25 + t)).made ≡ false
+      handed_in : (facts_at p (end p round) (25 + t)).made ≡ false
       handed_in =
-          ap (λ (m : Mark). m.made) (marked (25 + t) (omega (arith, l, some))) ∙ (mark_made (25 + t) (omega arith) ∙ small ((25 + t) - 25) (omega (arith, l)))
+          ap (λ (m : NodeFacts). m.made) (marked (25 + t) (omega (arith, l, some)))
+              ∙ (facts_made (25 + t) (omega arith) ∙ small ((25 + t) - 25) (omega (arith, l)))
         where
           small : (j : ℕ) → j < n → nat_le n j ≡ false
           small j k = grind (arith, nat_tests)
@@ -325,13 +326,13 @@ module _ (rule : Rule) (n : ℕ) (s : BetweenRounds) (round : Round) (r : IsRoun
       by (inr h) low high =
           let big = ltb-false (get_or round.spilled i d) (25 + n) h in
           let inside : get_or round.spilled i d < 25 + s.temps = subst (λ m. get_or round.spilled i d < m) r.exact.nodes high in
-          let made : (mark_at p (end p round) (get_or round.spilled i d)).made ≡ true =
-          ap (λ (m : Mark). m.made) (marked (get_or round.spilled i d) inside) ∙
-          (mark_made (get_or round.spilled i d) low ∙ le-leb n (get_or round.spilled i d - 25) (omega (arith, big, low))) in
+          let made : (facts_at p (end p round) (get_or round.spilled i d)).made ≡ true =
+          ap (λ (m : NodeFacts). m.made) (marked (get_or round.spilled i d) inside) ∙
+          (facts_made (get_or round.spilled i d) low ∙ le-leb n (get_or round.spilled i d - 25) (omega (arith, big, low))) in
           clash
           (stands.well (25 + t) (is_node (25 + t) (omega (arith, l, some)))
           (subst (λ w. is_register w ≡ false) (sym under) (le-ltb (get_or round.spilled i d) 25 low))
-          (subst (λ w. (mark_at p (end p round) w).made ≡ true) (sym under) made)) handed_in
+          (subst (λ w. (facts_at p (end p round) w).made ≡ true) (sym under) made)) handed_in
 
 -- the temporaries of the last code are those handed in and more
 more_temps : (rule : Rule) (n : ℕ) {s t : BetweenRounds} {rounds : List Round} → AreRounds rule n s rounds t → n ≤ s.temps → n ≤ t.temps

@@ -18,10 +18,10 @@ use Rattle.tg_instr.specs.Uses.{operand_of, uses, defs, uses_of, defs_of}
 use Rattle.tg_instr.proofs.Tests.{left_holds, right_holds}
 use Rattle.tg_graph.specs.Interference.{is_register}
 use Rattle.tg_irc.specs.declared.moves.Move.{Move}
-use Rattle.tg_irc.specs.declared.candidates.Mark.{Mark}
+use Rattle.tg_irc.specs.declared.candidates.NodeFacts.{NodeFacts}
 use Rattle.tg_interference.specs.Nodes.{node_of}
 use Rattle.tg_interference.specs.Moves.{between, move_of, moves_of}
-use Rattle.tg_interference.specs.Marks.{temp, occurrences_in, occurrences, mark_of, marks_of}
+use Rattle.tg_interference.specs.Facts.{temp, occurrences_in, occurrences, facts_of, facts_of_nodes}
 
 -- Uses: those of temporaries with nodes below a number, which grow with the number by those of one.
 
@@ -56,25 +56,25 @@ total_more n list h =
     sum_splits (total (n + 1)) (total n) (occurrences_in (temp (n - 25)))
     (λ one. both_sum _ _ _ _ _ _ (count_more n (uses_of one) h) (count_more n (defs_of one) h)) list
 
-mark_uses : (list : List Instr) (originals n : ℕ) → (mark_of list originals n).uses ≤ occurrences (temp (n - 25)) list
-mark_uses list originals n = by (is_register n)
+facts_uses : (list : List Instr) (originals n : ℕ) → (facts_of list originals n).uses ≤ occurrences (temp (n - 25)) list
+facts_uses list originals n = by (is_register n)
   where
     by : (b : Bool) →
-        (cond {A = Mark} b (record { uses = 0; made = false }) (record { uses = occurrences (temp (n - 25)) list; made = nat_le originals (n - 25) })).uses ≤
+        (cond {A = NodeFacts} b (record { uses = 0; made = false }) (record { uses = occurrences (temp (n - 25)) list; made = nat_le originals (n - 25) })).uses ≤
         occurrences (temp (n - 25)) list
     by true = omega arith
     by false = omega arith
 
 few_in : (list : List Instr) (originals n : ℕ) →
-    sum_by (λ (m : Mark). m.uses) (map (mark_of list originals) (range_with_len 0 (25 + n))) ≤ sum_by (total (25 + n)) list
-few_in list originals zero = let z : sum_by (λ (m : Mark). m.uses) (map (mark_of list originals) (range_with_len 0 25)) ≡ 0 = refl in omega arith
+    sum_by (λ (m : NodeFacts). m.uses) (map (facts_of list originals) (range_with_len 0 (25 + n))) ≤ sum_by (total (25 + n)) list
+few_in list originals zero = let z : sum_by (λ (m : NodeFacts). m.uses) (map (facts_of list originals) (range_with_len 0 25)) ≡ 0 = refl in omega arith
 few_in list originals (suc n) =
     let e : (25 + n) + 1 ≡ 25 + suc n = omega arith in
-    let more = sum_by-map-range_with_len_more (λ (m : Mark). m.uses) (mark_of list originals) 0 (25 + n) (25 + n) (zero-add (25 + n)) in
-    let mark = mark_uses list originals (25 + n) in
+    let more = sum_by-map-range_with_len_more (λ (m : NodeFacts). m.uses) (facts_of list originals) 0 (25 + n) (25 + n) (zero-add (25 + n)) in
+    let mark = facts_uses list originals (25 + n) in
     let all = total_more (25 + n) list (omega arith) in
     let before = few_in list originals n in
-    subst (λ k. sum_by (λ (m : Mark). m.uses) (map (mark_of list originals) (range_with_len 0 k)) ≤ sum_by (total k) list)
+    subst (λ k. sum_by (λ (m : NodeFacts). m.uses) (map (facts_of list originals) (range_with_len 0 k)) ≤ sum_by (total k) list)
     e (omega (arith, more, mark, all, before))
 
 holder_few : (h : Holder) → length (operand_of h) ≤ 1
@@ -93,7 +93,7 @@ total_few n one =
     omega (arith, u, d, few)
 
 -- the uses of all nodes sum to at most 48 for each instruction
-pub uses_few : (list : List Instr) (temps originals : ℕ) → sum_by (λ (m : Mark). m.uses) (marks_of list temps originals) ≤ length list * 48
+pub uses_few : (list : List Instr) (temps originals : ℕ) → sum_by (λ (m : NodeFacts). m.uses) (facts_of_nodes list temps originals) ≤ length list * 48
 uses_few list temps originals =
     let a = few_in list originals temps in
     let b = sum_by-le (total (25 + temps)) 48 list (λ k one l. total_few (25 + temps) _) in

@@ -10,29 +10,29 @@ use Rattle.tg_instr.specs.declared.codes.Code.{Code}
 use Rattle.tg_irc.specs.declared.rounds.Round.{Round}
 use Rattle.tg_irc.specs.Policies.{Rule}
 use Rattle.tg_regalloc.specs.declared.allocations.Allocation.{Allocation}
-use Rattle.tg_regalloc.specs.declared.allocations.Home.{Home}
-use Rattle.tg_regalloc.specs.declared.allocations.Home.TheVariants.{Colour, Slot}
-use Rattle.tg_regalloc.specs.InFrame.{code_in_frame, homes_from}
+use Rattle.tg_regalloc.specs.declared.allocations.Location.{Location}
+use Rattle.tg_regalloc.specs.declared.allocations.Location.TheVariants.{Colour, Slot}
+use Rattle.tg_regalloc.specs.InFrame.{code_in_frame, locations_from}
 use Rattle.tg_regalloc.specs.Painting.{code_painted, colour_of}
 use Rattle.tg_regalloc.specs.Rewriting.{slotted, slot_after, slot_in, code_rewritten, temps_after}
-use Rattle.tg_regalloc.specs.Rounds.{BetweenRounds, stage_of, IsRoundOf, AreRounds, last_round, home_in, home_by}
+use Rattle.tg_regalloc.specs.Rounds.{BetweenRounds, stage_of, IsRoundOf, AreRounds, last_round, location_in, location_by}
 use Rattle.tg_regalloc.specs.Rounds.AreRounds.{last, more}
 use Rattle.tg_regalloc.specs.Allocations.{HasFrame, IsAllocation}
 use Rattle.tg_regalloc.proofs.RewrittenBelow.{temps_grow}
 use Rattle.tg_regalloc.proofs.Unspilled.{has_none}
 
--- in the slot that is known, or else in this home
-abbrev home_after : Option ℕ → Home → Home
-home_after None h = h
-home_after (Some k) h = Slot k
+-- in the slot that is known, or else in this location
+abbrev location_after : Option ℕ → Location → Location
+location_after None h = h
+location_after (Some k) h = Slot k
 
--- in the slot of an earlier round, or of this one, or else in this home
-two_slots : (a b : Option ℕ) (h : Home) → home_after a (elim b [ None ↦ h | Some k ↦ Slot k ]) ≡ home_after (option_or a b) h
+-- in the slot of an earlier round, or of this one, or else in this location
+two_slots : (a b : Option ℕ) (h : Location) → location_after a (elim b [ None ↦ h | Some k ↦ Slot k ]) ≡ location_after (option_or a b) h
 two_slots None None h = refl
 two_slots None (Some k) h = refl
 two_slots (Some k) b h = refl
 
-in_colour : (a : Option ℕ) (c : ℕ) → home_after a (Colour c) ≡ home_in a c
+in_colour : (a : Option ℕ) (c : ℕ) → location_after a (Colour c) ≡ location_in a c
 in_colour None c = refl
 in_colour (Some k) c = refl
 
@@ -53,13 +53,13 @@ clash : {b : Bool} → b ≡ true → b ≡ false → ⊥
 clash {b = true} e f = cc
 clash {b = false} e f = cc
 
--- what a round that spills makes of a stage, and of the homes with so many originals
-pub record Follows (originals : ℕ) (round : Round) (now next : BetweenRounds) (homes homes' : List (Option ℕ)) : Type 0 where
+-- what a round that spills makes of a stage, and of the locations with so many originals
+pub record Follows (originals : ℕ) (round : Round) (now next : BetweenRounds) (locations locations' : List (Option ℕ)) : Type 0 where
   pub list : next.list ≡ code_rewritten (slot_after originals now.slots round) now.list now.temps
   pub temps : next.temps ≡ temps_after (slot_after originals now.slots round) now.list now.temps
   pub slots : next.slots ≡ now.slots + length (slotted originals round)
-  pub size : length homes' ≡ length homes
-  pub stand : (t : ℕ) → t < originals → slot_in homes' t ≡ option_or (slot_in homes t) (slot_after originals now.slots round t)
+  pub size : length locations' ≡ length locations
+  pub stand : (t : ℕ) → t < originals → slot_in locations' t ≡ option_or (slot_in locations t) (slot_after originals now.slots round t)
 
 -- by the same rule, whatever slots there are
 pub again : (rule rule' : Rule) (originals slots : ℕ) (code : Code) (round : Round) → rule ≡ rule' → IsRoundOf rule originals (stage_of code 0) round →
@@ -68,32 +68,34 @@ again rule rule' originals slots code round e h =
     subst (λ (q : Rule). IsRoundOf q originals (stage_of code slots) round) e (record { graph = h.graph; exact = h.exact; run = h.run })
 
 module _ (rule : Rule) (code : Code) (frame : Frame) where
-  pub record IsUnderWay (now : BetweenRounds) (homes : List (Option ℕ)) (rounds : List Round) : Type 0 where
-    pub size : length homes ≡ code.temps
+  pub record IsUnderWay (now : BetweenRounds) (locations : List (Option ℕ)) (rounds : List Round) : Type 0 where
+    pub size : length locations ≡ code.temps
     pub more_temps : code.temps ≤ now.temps
     pub more_slots : frame.slots ≤ now.slots
     pub whole : (later : List Round) (end : BetweenRounds) → AreRounds rule code.temps now later end →
         AreRounds rule code.temps (stage_of code frame.slots) (rounds ++ later) end
     pub stand : (t : ℕ) → t < code.temps → (round : Round) (later : List Round) →
-        home_by code.temps frame.slots (rounds ++ round ∷ later) t ≡ home_after (slot_in homes t) (home_by code.temps now.slots (round ∷ later) t)
+        location_by code.temps frame.slots (rounds ++ round ∷ later) t ≡ location_after (slot_in locations t) (location_by code.temps now.slots (round ∷ later) t)
 
-  pub begins : (now : BetweenRounds) (homes : List (Option ℕ)) → now.list ≡ code.list → now.temps ≡ code.temps → now.slots ≡ frame.slots →
-      homes ≡ replicate code.temps None → IsUnderWay now homes []
-  begins now homes l m n h = record {
+  pub begins : (now : BetweenRounds) (locations : List (Option ℕ)) → now.list ≡ code.list → now.temps ≡ code.temps → now.slots ≡ frame.slots →
+      locations ≡ replicate code.temps None → IsUnderWay now locations []
+  begins now locations l m n h = record {
     size = ap length h ∙ length-replicate {A = Option ℕ} code.temps None;
     more_temps = omega (arith, m);
     more_slots = omega (arith, n);
     whole = λ later end a. subst (λ s. AreRounds rule code.temps s later end) (same_stage now (stage_of code frame.slots) l m n) a;
     stand = λ t k round later.
-        ap (λ s. home_by code.temps s (round ∷ later) t) (sym n)
-        ∙ ap (λ o. home_after o (home_by code.temps now.slots (round ∷ later) t)) (sym (ap (λ hs. slot_in hs t) h ∙ ap (λ f. f t) (has_none code.temps)));
+        ap (λ s. location_by code.temps s (round ∷ later) t) (sym n)
+        ∙ ap (λ o. location_after o (location_by code.temps now.slots (round ∷ later) t)) (sym (ap (λ hs. slot_in hs t) h
+        ∙ ap (λ f. f t) (has_none code.temps)));
   }
 
-  module _ (now : BetweenRounds) (homes : List (Option ℕ)) (rounds : List Round) (round : Round) (so_far : IsUnderWay now homes rounds)
+  module _ (now : BetweenRounds) (locations : List (Option ℕ)) (rounds : List Round) (round : Round) (so_far : IsUnderWay now locations rounds)
       (is_round : IsRoundOf rule code.temps now round) where
-    pub goes_on : (next : BetweenRounds) (homes' : List (Option ℕ)) → slotted code.temps round ≢ [] → Follows code.temps round now next homes homes' →
-        IsUnderWay next homes' (rounds ++ round ∷ [])
-    goes_on next homes' some f = record {
+    pub goes_on : (next : BetweenRounds) (locations' : List (Option ℕ)) → slotted code.temps round ≢ [] →
+        Follows code.temps round now next locations locations' →
+        IsUnderWay next locations' (rounds ++ round ∷ [])
+    goes_on next locations' some f = record {
       size = f.size ∙ so_far.size;
       more_temps = let a = so_far.more_temps in let b = temps_grow (slot_after code.temps now.slots round) now.list now.temps in let c = f.temps in omega arith;
       more_slots = let a = so_far.more_slots in let b = f.slots in omega arith;
@@ -102,12 +104,12 @@ module _ (rule : Rule) (code : Code) (frame : Frame) where
           (so_far.whole (round ∷ later) end
           (more now end round later is_round some (subst (λ s. AreRounds rule code.temps s later end) (same_stage next _ f.list f.temps f.slots) a)));
       stand = λ t l round' later.
-          ap (λ rs. home_by code.temps frame.slots rs t) (append_assoc rounds (round ∷ []) (round' ∷ later))
+          ap (λ rs. location_by code.temps frame.slots rs t) (append_assoc rounds (round ∷ []) (round' ∷ later))
           ∙ (so_far.stand t l round (round' ∷ later)
-          ∙ (two_slots (slot_in homes t) (slot_after code.temps now.slots round t)
-          (home_by code.temps (now.slots + length (slotted code.temps round)) (round' ∷ later) t)
-          ∙ (ap (λ o. home_after o (home_by code.temps (now.slots + length (slotted code.temps round)) (round' ∷ later) t)) (sym (f.stand t l))
-          ∙ ap (λ s. home_after (slot_in homes' t) (home_by code.temps s (round' ∷ later) t)) (sym f.slots))));
+          ∙ (two_slots (slot_in locations t) (slot_after code.temps now.slots round t)
+          (location_by code.temps (now.slots + length (slotted code.temps round)) (round' ∷ later) t)
+          ∙ (ap (λ o. location_after o (location_by code.temps (now.slots + length (slotted code.temps round)) (round' ∷ later) t)) (sym (f.stand t l))
+          ∙ ap (λ s. location_after (slot_in locations' t) (location_by code.temps s (round' ∷ later) t)) (sym f.slots))));
     }
 
     module _ (a : Allocation) (none : slotted code.temps round ≡ []) (has_frame : HasFrame frame a) (all : a.rounds ≡ rounds ++ round ∷ []) where
@@ -119,7 +121,8 @@ module _ (rule : Rule) (code : Code) (frame : Frame) where
           subst (λ rs. AreRounds rule code.temps (stage_of code frame.slots) rs now) (sym all) (so_far.whole (round ∷ []) now (last now round is_round none))
 
       pub ends_coloured : round.spilled ≡ [] → a.done.code.list ≡ code_painted (colour_of round) now.list →
-          a.registers ≡ map (λ t. home_in (slot_in homes t) (colour_of round t)) (range_with_len 0 (length homes)) → now.slots ≡ frame.slots + a.slots →
+          a.registers ≡ map (λ t. location_in (slot_in locations t) (colour_of round t)) (range_with_len 0 (length locations)) →
+          now.slots ≡ frame.slots + a.slots →
           IsFalse a.all_in_frame → IsAllocation rule code frame a
       ends_coloured spilled list registers slots coloured = record {
         end = now;
@@ -130,16 +133,16 @@ module _ (rule : Rule) (code : Code) (frame : Frame) where
           list = list ∙ ap (λ r. code_painted (colour_of r) now.list) (sym the_last);
           registers =
               registers
-              ∙ (ap (λ n. map (λ t. home_in (slot_in homes t) (colour_of round t)) (range_with_len 0 n)) so_far.size
-              ∙ (same_map (λ t. home_in (slot_in homes t) (colour_of round t)) (home_by code.temps frame.slots (rounds ++ round ∷ [])) 0 code.temps
-              (λ t l. sym (so_far.stand t (omega arith) round [] ∙ in_colour (slot_in homes t) (colour_of round t)))
-              ∙ ap (λ rs. map (home_by code.temps frame.slots rs) (range_with_len 0 code.temps)) (sym all)));
+              ∙ (ap (λ n. map (λ t. location_in (slot_in locations t) (colour_of round t)) (range_with_len 0 n)) so_far.size
+              ∙ (same_map (λ t. location_in (slot_in locations t) (colour_of round t)) (location_by code.temps frame.slots (rounds ++ round ∷ [])) 0 code.temps
+              (λ t l. sym (so_far.stand t (omega arith) round [] ∙ in_colour (slot_in locations t) (colour_of round t)))
+              ∙ ap (λ rs. map (location_by code.temps frame.slots rs) (range_with_len 0 code.temps)) (sym all)));
           slots = slots;
         };
         in_frame = λ h. absurd (clash h coloured);
       }
 
-      pub ends_in_frame : round.spilled ≢ [] → a.done.code.list ≡ code_in_frame frame.slots code.list → a.registers ≡ homes_from frame.slots code.temps →
+      pub ends_in_frame : round.spilled ≢ [] → a.done.code.list ≡ code_in_frame frame.slots code.list → a.registers ≡ locations_from frame.slots code.temps →
           a.slots ≡ code.temps → IsTrue a.all_in_frame → IsAllocation rule code frame a
       ends_in_frame spilled list registers slots in_frame = record {
         end = now;
@@ -158,13 +161,13 @@ module _ (rule : Rule) (code : Code) (frame : Frame) where
     module _ {E : Type 0} (none : slotted code.temps round ≡ []) where
       pub coloured_if : (r : Result Allocation E) → round.spilled ≡ [] → IfOk r (λ a. HasFrame frame a) → IfOk r (λ a. a.rounds ≡ rounds ++ round ∷ []) →
           IfOk r (λ a. a.done.code.list ≡ code_painted (colour_of round) now.list) →
-          IfOk r (λ a. a.registers ≡ map (λ t. home_in (slot_in homes t) (colour_of round t)) (range_with_len 0 (length homes))) →
+          IfOk r (λ a. a.registers ≡ map (λ t. location_in (slot_in locations t) (colour_of round t)) (range_with_len 0 (length locations))) →
           IfOk r (λ a. now.slots ≡ frame.slots + a.slots) → IfOk r (λ a. IsFalse a.all_in_frame) → IfOk r (λ a. IsAllocation rule code frame a)
       coloured_if (Ok a) spilled has_frame all list registers slots coloured = ends_coloured a none has_frame all spilled list registers slots coloured
       coloured_if (Err e) spilled has_frame all list registers slots coloured = tt
 
       pub in_frame_if : (r : Result Allocation E) → round.spilled ≢ [] → IfOk r (λ a. HasFrame frame a) → IfOk r (λ a. a.rounds ≡ rounds ++ round ∷ []) →
-          IfOk r (λ a. a.done.code.list ≡ code_in_frame frame.slots code.list) → IfOk r (λ a. a.registers ≡ homes_from frame.slots code.temps) →
+          IfOk r (λ a. a.done.code.list ≡ code_in_frame frame.slots code.list) → IfOk r (λ a. a.registers ≡ locations_from frame.slots code.temps) →
           IfOk r (λ a. a.slots ≡ code.temps) → IfOk r (λ a. IsTrue a.all_in_frame) → IfOk r (λ a. IsAllocation rule code frame a)
       in_frame_if (Ok a) spilled has_frame all list registers slots in_frame = ends_in_frame a none has_frame all spilled list registers slots in_frame
       in_frame_if (Err e) spilled has_frame all list registers slots in_frame = tt

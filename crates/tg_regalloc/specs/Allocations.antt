@@ -7,9 +7,9 @@ use Rattle.tg_instr.specs.declared.codes.Allocated.{Allocated}
 use Rattle.tg_instr.specs.declared.codes.Code.{Code}
 use Rattle.tg_irc.specs.Policies.{Rule}
 use Rattle.tg_regalloc.specs.declared.allocations.Allocation.{Allocation}
-use Rattle.tg_regalloc.specs.InFrame.{code_in_frame, homes_from}
+use Rattle.tg_regalloc.specs.InFrame.{code_in_frame, locations_from}
 use Rattle.tg_regalloc.specs.Painting.{code_painted, colour_of}
-use Rattle.tg_regalloc.specs.Rounds.{BetweenRounds, stage_of, AreRounds, home_by, last_round}
+use Rattle.tg_regalloc.specs.Rounds.{BetweenRounds, stage_of, AreRounds, location_by, last_round}
 
 -- the frame that was handed in, with slots added
 pub record HasFrame (frame : Frame) (a : Allocation) : Type 0 where
@@ -26,14 +26,14 @@ module _ (rule : Rule) (code : Code) (frame : Frame) (a : Allocation) where
     pub list : a.done.code.list ≡ code_painted (colour_of (last_round a.rounds)) end.list
     pub registers :
         a.registers ≡
-        map (home_by code.temps frame.slots a.rounds) (range_with_len 0 code.temps)
+        map (location_by code.temps frame.slots a.rounds) (range_with_len 0 code.temps)
     pub slots : end.slots ≡ frame.slots + a.slots
 
   -- the last round spilled, and what it spilled was made alone
   pub record IsAllInFrame : Type 0 where
     pub something_spilled : (last_round a.rounds).spilled ≢ []
     pub list : a.done.code.list ≡ code_in_frame frame.slots code.list
-    pub registers : a.registers ≡ homes_from frame.slots code.temps
+    pub registers : a.registers ≡ locations_from frame.slots code.temps
     pub slots : a.slots ≡ code.temps
 
   pub record IsAllocation : Type 0 where

@@ -19,7 +19,7 @@ use Rattle.tg_irc.specs.States.{Problem, problem, start}
 use Rattle.tg_irc.specs.Laws.{SpillsNothing, IsFrozenAtLast}
 use Rattle.tg_interference.specs.Pairs.{IsInterference}
 use Rattle.tg_interference.specs.Moves.{moves_of}
-use Rattle.tg_interference.specs.Marks.{marks_of}
+use Rattle.tg_interference.specs.Facts.{facts_of_nodes}
 use Rattle.tg_coalesce.specs.Standing.{graph_of}
 use Rattle.tg_regalloc.specs.declared.allocations.Allocation.{Allocation}
 use Rattle.tg_regalloc.specs.Rounds.{BetweenRounds, last_round}
@@ -69,10 +69,10 @@ ColourableNeedsOneRound =
 
 -- Moves.
 
--- what a round is given: an interference graph of the code with its moves and marks, and the rule
+-- what a round is given: an interference graph of the code with its moves and facts, and the rule
 abbrev pub problem_of : Rule → (originals : ℕ) → BetweenRounds → Interference → Problem
 problem_of rule originals s graph =
-    problem (graph_of graph) (moves_of s.list) (marks_of s.list s.temps originals) rule
+    problem (graph_of graph) (moves_of s.list) (facts_of_nodes s.list s.temps originals) rule
 
 -- each move of the code whose ends have two colours was constrained, or frozen when no Simplify was
 -- possible and every unsettled move failed its test

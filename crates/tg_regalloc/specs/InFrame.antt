@@ -9,8 +9,8 @@ use Rattle.tg_instr.specs.declared.instr.Instr.TheVariants.{Move, FrameLoad, Fra
 use Rattle.tg_instr.specs.declared.renaming.Named.{Named}
 use Rattle.tg_instr.specs.Lengths.{words}
 use Rattle.tg_instr.specs.Renaming.{named, renamed}
-use Rattle.tg_regalloc.specs.declared.allocations.Home.{Home}
-use Rattle.tg_regalloc.specs.declared.allocations.Home.TheVariants.{Slot}
+use Rattle.tg_regalloc.specs.declared.allocations.Location.{Location}
+use Rattle.tg_regalloc.specs.declared.allocations.Location.TheVariants.{Slot}
 
 -- a register stays; a temporary goes through this one
 abbrev pub through : ℕ → Opnd → Opnd
@@ -54,10 +54,10 @@ abbrev pub code_in_frame : (base : ℕ) → List Instr → List Instr
 code_in_frame base [] = []
 code_in_frame base (one ∷ rest) = instruction_in_frame base one ++ code_in_frame base rest
 
--- the home of each temporary from a number on
-abbrev pub homes_from : (base : ℕ) → (count : ℕ) → List Home
-homes_from base zero = []
-homes_from base (suc n) = homes_from base n ++ Slot (base + n) ∷ []
+-- the location of each temporary from a number on
+abbrev pub locations_from : (base : ℕ) → (count : ℕ) → List Location
+locations_from base zero = []
+locations_from base (suc n) = locations_from base n ++ Slot (base + n) ∷ []
 
 -- the code is at most four instructions for each, and at most ten words of code
 abbrev pub StaysShort : Type 0

@@ -13,10 +13,10 @@ use Rattle.tg_irc.specs.States.{problem}
 use Rattle.tg_irc.specs.Rounds.{IsRound}
 use Rattle.tg_interference.specs.Pairs.{IsInterference}
 use Rattle.tg_interference.specs.Moves.{moves_of}
-use Rattle.tg_interference.specs.Marks.{marks_of}
+use Rattle.tg_interference.specs.Facts.{facts_of_nodes}
 use Rattle.tg_coalesce.specs.Standing.{graph_of}
-use Rattle.tg_regalloc.specs.declared.allocations.Home.{Home}
-use Rattle.tg_regalloc.specs.declared.allocations.Home.TheVariants.{Colour, Slot}
+use Rattle.tg_regalloc.specs.declared.allocations.Location.{Location}
+use Rattle.tg_regalloc.specs.declared.allocations.Location.TheVariants.{Colour, Slot}
 use Rattle.tg_regalloc.specs.Rewriting.{slotted, slot_after, slot_in, code_rewritten, temps_after}
 use Rattle.tg_regalloc.specs.Painting.{colour_of, colour_in}
 
@@ -62,7 +62,8 @@ module _ (rule : Rule) (originals : ℕ) where
     pub graph : Interference
     pub exact : IsInterference s.list s.temps graph
     pub run : IsRound
-        (problem (graph_of graph) (moves_of s.list) (marks_of s.list s.temps originals) rule) round
+        (problem (graph_of graph) (moves_of s.list) (facts_of_nodes s.list s.temps originals) rule)
+        round
 
   -- from the first code to the last, which no round follows
   pub data AreRounds : BetweenRounds → List Round → BetweenRounds → Type 0 where
@@ -90,22 +91,22 @@ last_round (round ∷ []) = round
 last_round (round ∷ round' ∷ rounds) = last_round (round' ∷ rounds)
 
 -- in a slot, or else in a colour
-abbrev pub home_in : Option ℕ → (colour : ℕ) → Home
-home_in None c = Colour c
-home_in (Some k) c = Slot k
+abbrev pub location_in : Option ℕ → (colour : ℕ) → Location
+location_in None c = Colour c
+location_in (Some k) c = Slot k
 
 -- by a list of slots and one of colours
-abbrev pub homes_in : List (Option ℕ) → List (Option ℕ) → List Home
-homes_in slots colours =
-    map (λ t. home_in (slot_in slots t) (colour_in colours t)) (range_with_len 0 (length slots))
+abbrev pub locations_in : List (Option ℕ) → List (Option ℕ) → List Location
+locations_in slots colours =
+    map (λ t. location_in (slot_in slots t) (colour_in colours t)) (range_with_len 0 (length slots))
 
--- The home of an original: the slot of the first round that spilled its class, else its colour in
--- the last.
-abbrev pub home_by : (originals slots : ℕ) → List Round → (temp : ℕ) → Home
-home_by originals slots [] t = Colour 0
-home_by originals slots (round ∷ []) t = Colour (colour_of round t)
-home_by originals slots (round ∷ round' ∷ rounds) t =
+-- The location of an original: the slot of the first round that spilled its class, else its colour
+-- in the last.
+abbrev pub location_by : (originals slots : ℕ) → List Round → (temp : ℕ) → Location
+location_by originals slots [] t = Colour 0
+location_by originals slots (round ∷ []) t = Colour (colour_of round t)
+location_by originals slots (round ∷ round' ∷ rounds) t =
     elim (slot_after originals slots round t) [
-      | None ↦ home_by originals (slots + length (slotted originals round)) (round' ∷ rounds) t
+      | None ↦ location_by originals (slots + length (slotted originals round)) (round' ∷ rounds) t
       | Some k ↦ Slot k
     ]

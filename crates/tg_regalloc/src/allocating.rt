@@ -3,7 +3,7 @@ ghost use Rattle.std.specs.List.{list_all};
 ghost use Rattle.tg_instr.specs.Codes.{has_slots_below, is_allocated, names_registers};
 ghost use Rattle.tg_regalloc.specs.Allocations.{HasFrame, IsAllocation};
 ghost use Rattle.tg_regalloc.specs.Conditions.{is_fixed};
-ghost use Rattle.tg_regalloc.specs.InFrame.{code_in_frame, homes_from};
+ghost use Rattle.tg_regalloc.specs.InFrame.{code_in_frame, locations_from};
 
 use crate::allocations::Allocation;
 use crate::frames::in_frame;
@@ -68,7 +68,7 @@ fn all_in_frame(
     requires slots_below { IsTrue (list_all (has_slots_below frame.slots) code.now.list) }
     ensures code { IfOk result (λ a. a.done.code.list ≡ code_in_frame frame.slots code.now.list) }
     ensures frame { IfOk result (λ a. HasFrame frame a) }
-    ensures homes { IfOk result (λ a. a.registers ≡ homes_from frame.slots code.now.temps) }
+    ensures locations { IfOk result (λ a. a.registers ≡ locations_from frame.slots code.now.temps) }
     ensures slots { IfOk result (λ a. a.slots ≡ code.now.temps) }
     ensures rounds { IfOk result (λ a. a.rounds ≡ rounds.items ++ round ∷ []) }
     ensures all { IfOk result (λ a. IsTrue a.all_in_frame) }

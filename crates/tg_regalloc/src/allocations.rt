@@ -7,24 +7,24 @@ use tg_irc::Round;
 /// Where a temporary of the code that was handed in stands: in a colour, by its place among the
 /// colours, or in a slot.
 #[derive(Clone, Copy)]
-pub enum Home {
+pub enum Location {
     Colour(u8),
     Slot(u32),
 }
 
-/// The homes of temporaries, in the order of their numbers.
-pub type Homes = ListOf<Home>;
+/// The locations of temporaries, in the order of their numbers.
+pub type Locations = ListOf<Location>;
 
 /// Rounds, in the order in which they were made.
 pub type Rounds = ListOf<Round>;
 
-/// What an allocation gives: the code over registers with its frame, the home of each temporary of
-/// the code that was handed in, the rounds that were made, whether all temporaries stand in the
+/// What an allocation gives: the code over registers with its frame, the location of each temporary
+/// of the code that was handed in, the rounds that were made, whether all temporaries stand in the
 /// frame, and how many slots were added.
 #[derive(Drop)]
 pub struct Allocation {
     pub done: Allocated,
-    pub registers: Homes,
+    pub registers: Locations,
     pub rounds: Rounds,
     pub all_in_frame: bool,
     pub slots: u32,

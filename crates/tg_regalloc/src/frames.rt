@@ -7,9 +7,9 @@ ghost use Rattle.tg_instr.specs.Codes.{
   names_registers,
 };
 ghost use Rattle.tg_regalloc.specs.Conditions.{is_fixed};
-ghost use Rattle.tg_regalloc.specs.InFrame.{code_in_frame, homes_from};
+ghost use Rattle.tg_regalloc.specs.InFrame.{code_in_frame, locations_from};
 
-use crate::allocations::{Allocation, Home, Homes, Rounds};
+use crate::allocations::{Allocation, Location, Locations, Rounds};
 use crate::loading::put;
 use std::alloc::Global;
 use tg_base::Memory;
@@ -29,7 +29,7 @@ pub fn in_frame(alloc: Global, code: &Code, frame: Frame) -> Result<Allocation, 
     ensures params { IfOk result (λ a. a.done.frame.params ≡ frame.params) }
     ensures temps { IfOk result (λ a. a.done.frame.temps ≡ frame.temps) }
     ensures out { IfOk result (λ a. a.done.frame.out ≡ frame.out) }
-    ensures homes { IfOk result (λ a. a.registers ≡ homes_from frame.slots code.now.temps) }
+    ensures locations { IfOk result (λ a. a.registers ≡ locations_from frame.slots code.now.temps) }
     ensures slots { IfOk result (λ a. a.slots ≡ code.now.temps) }
     ensures rounds { IfOk result (λ a. a.rounds ≡ []) }
     ensures all { IfOk result (λ a. IsTrue a.all_in_frame) }
@@ -38,7 +38,7 @@ pub fn in_frame(alloc: Global, code: &Code, frame: Frame) -> Result<Allocation, 
 {
     let base = frame.slots;
     let list = instructions(alloc, code.list.as_slice(), base, code.temps)?;
-    let registers = homes(alloc, base, code.temps)?;
+    let registers = locations(alloc, base, code.temps)?;
     let mut frame = frame;
     frame.slots += code.temps;
     Ok(Allocation {
@@ -68,13 +68,13 @@ fn instructions(alloc: Global, code: &[Instr], base: u32, temps: u32) -> Result<
     Ok(list)
 }
 
-fn homes(alloc: Global, base: u32, count: u32) -> Result<Homes, Memory>
+fn locations(alloc: Global, base: u32, count: u32) -> Result<Locations, Memory>
     requires { base + count < 2 ^ 32 }
-    ensures { IfOk result (λ homes. homes ≡ homes_from base count) }
+    ensures { IfOk result (λ locations. locations ≡ locations_from base count) }
 {
-    let mut homes = Vec::new(alloc);
+    let mut locations = Vec::new(alloc);
     for temp in 0..count {
-        homes.push(Home::Slot(base + temp))?;
+        locations.push(Location::Slot(base + temp))?;
     }
-    Ok(Homes::from_vec(homes))
+    Ok(Locations::from_vec(locations))
 }

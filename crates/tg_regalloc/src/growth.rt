@@ -36,6 +36,6 @@ pub fn allocations_are_short()
 
 /// The law of how much of its code an allocation makes of each instruction, and how many
 /// temporaries spilling makes for it.
-pub fn allocations_grow_little()
+pub fn regalloc_is_bounded()
     ensures { AllocationsGrowLittle }
 {}

@@ -2,6 +2,6 @@ ghost use Rattle.tg_regalloc.specs.InFrame.{StaysShort};
 
 /// The law that code in the frame is at most four instructions, and at most ten words of code, for
 /// each instruction.
-pub fn code_stays_short()
+pub fn in_frame_is_bounded()
     ensures { StaysShort }
 {}

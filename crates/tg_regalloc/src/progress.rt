@@ -32,9 +32,9 @@ ghost use Rattle.tg_regalloc.specs.Rewriting.{
   slotted,
   temps_after,
 };
-ghost use Rattle.tg_regalloc.specs.Rounds.{IsOfTemps, CodeIsNumbered, home_in, homes_in};
+ghost use Rattle.tg_regalloc.specs.Rounds.{IsOfTemps, CodeIsNumbered, location_in, locations_in};
 
-use crate::allocations::{Allocation, Home, Homes, Rounds};
+use crate::allocations::{Allocation, Location, Locations, Rounds};
 use crate::painting::{colour_or_first, paint};
 use crate::rewriting::rewrite;
 use crate::stages::{check_size, slots_of};
@@ -49,7 +49,7 @@ use tg_irc::Round;
 #[derive(Drop)]
 pub struct Progress {
     pub code: Code,
-    pub homes: Vec<Option<u32>>,
+    pub locations: Vec<Option<u32>>,
     pub slots: u32,
     pub ghost registers: { IsTrue (list_all (names_registers is_fixed) code.list) },
     pub ghost slots_below: { IsTrue (list_all (has_slots_below slots) code.list) },
@@ -62,31 +62,37 @@ impl Progress {
         requires slots_below { IsTrue (list_all (has_slots_below slots) code.now.list) }
         ensures list { IfOk result (λ next. next.code.list ≡ code.now.list) }
         ensures temps { IfOk result (λ next. next.code.temps ≡ code.now.temps) }
-        ensures homes { IfOk result (λ next. next.homes.items ≡ replicate code.now.temps None) }
+        ensures locations { IfOk result (λ next.
+            next.locations.items ≡ replicate code.now.temps None) }
         ensures slots { IfOk result (λ next. next.slots ≡ slots) }
     {
         check_size(code)?;
-        let homes = vec![in alloc; None; code.temps as usize]?;
-        let code = rewrite(alloc, code, &homes)?;
-        Ok(Progress { code, homes, slots })
+        let locations = vec![in alloc; None; code.temps as usize]?;
+        let code = rewrite(alloc, code, &locations)?;
+        Ok(Progress {
+            code,
+            locations,
+            slots,
+        })
     }
 
     /// Behind a round that gives slots to these classes.
     pub fn spill(self, alloc: Global, round: &Round, classes: &[u32]) -> Result<Progress, Memory>
         requires small { CodeIsNumbered self.code }
-        requires homes { length self.homes.items ≤ self.code.temps }
+        requires locations { length self.locations.items ≤ self.code.temps }
         requires nodes { IsOfTemps self.code.temps round.now }
-        requires classes { classes.now ≡ slotted (length self.homes.items) round.now }
+        requires classes { classes.now ≡ slotted (length self.locations.items) round.now }
         ensures list { IfOk result (λ next. next.code.list ≡ code_rewritten
-            (slot_after (length self.homes.items) self.slots round.now)
+            (slot_after (length self.locations.items) self.slots round.now)
             self.code.list self.code.temps) }
         ensures temps { IfOk result (λ next. next.code.temps ≡ temps_after
-            (slot_after (length self.homes.items) self.slots round.now)
+            (slot_after (length self.locations.items) self.slots round.now)
             self.code.list self.code.temps) }
-        ensures size { IfOk result (λ next. length next.homes.items ≡ length self.homes.items) }
-        ensures homes { IfOk result (λ next. (t : ℕ) → t < length self.homes.items →
-            slot_in next.homes.items t ≡ option_or (slot_in self.homes.items t)
-            (slot_after (length self.homes.items) self.slots round.now t)) }
+        ensures size { IfOk result (λ next.
+            length next.locations.items ≡ length self.locations.items) }
+        ensures locations { IfOk result (λ next. (t : ℕ) → t < length self.locations.items →
+            slot_in next.locations.items t ≡ option_or (slot_in self.locations.items t)
+            (slot_after (length self.locations.items) self.slots round.now t)) }
         ensures slots { IfOk result (λ next. next.slots ≡ self.slots + length classes.now) }
     {
         let end = slots_behind(self.slots, classes.len())?;
@@ -94,11 +100,11 @@ impl Progress {
         let temps = &aliases[COLOURS as usize..];
         let slots = slots_of(alloc, self.slots, aliases.len(), temps, classes)?;
         let code = rewrite(alloc, &self.code, &slots)?;
-        let mut homes = self.homes;
-        fill_homes(&mut homes, &slots);
+        let mut locations = self.locations;
+        fill_locations(&mut locations, &slots);
         Ok(Progress {
             code,
-            homes,
+            locations,
             slots: end,
         })
     }
@@ -111,14 +117,14 @@ impl Progress {
         round: Round,
         rounds: Vec<Round>,
     ) -> Result<Allocation, Memory>
-        requires homes { length self.homes.items ≤ self.code.temps }
+        requires locations { length self.locations.items ≤ self.code.temps }
         requires nodes { IsOfTemps self.code.temps round }
         requires slots { frame.slots ≤ self.slots }
         ensures list { IfOk result (λ a.
             a.done.code.list ≡ code_painted (colour_of round) self.code.list) }
-        ensures homes { IfOk result (λ a. a.registers ≡
-            map (λ t. home_in (slot_in self.homes.items t) (colour_of round t))
-            (range_with_len 0 (length self.homes.items))) }
+        ensures locations { IfOk result (λ a. a.registers ≡
+            map (λ t. location_in (slot_in self.locations.items t) (colour_of round t))
+            (range_with_len 0 (length self.locations.items))) }
         ensures frame { IfOk result (λ a. HasFrame frame a) }
         ensures slots { IfOk result (λ a. self.slots ≡ frame.slots + a.slots) }
         ensures rounds { IfOk result (λ a. a.rounds ≡ rounds.items ++ round ∷ []) }
@@ -131,14 +137,14 @@ impl Progress {
 
     /// The code in the colours of a round, with no rounds behind it.
     fn colour(&self, alloc: Global, frame: Frame, round: &Round) -> Result<Allocation, Memory>
-        requires homes { length self.now.homes.items ≤ self.now.code.temps }
+        requires locations { length self.now.locations.items ≤ self.now.code.temps }
         requires nodes { IsOfTemps self.now.code.temps round.now }
         requires slots { frame.slots ≤ self.now.slots }
         ensures list { IfOk result (λ a.
             a.done.code.list ≡ code_painted (colour_of round.now) self.now.code.list) }
-        ensures homes { IfOk result (λ a. a.registers ≡
-            map (λ t. home_in (slot_in self.now.homes.items t) (colour_of round.now t))
-            (range_with_len 0 (length self.now.homes.items))) }
+        ensures locations { IfOk result (λ a. a.registers ≡
+            map (λ t. location_in (slot_in self.now.locations.items t) (colour_of round.now t))
+            (range_with_len 0 (length self.now.locations.items))) }
         ensures frame { IfOk result (λ a. HasFrame frame a) }
         ensures slots { IfOk result (λ a. self.now.slots ≡ frame.slots + a.slots) }
         ensures coloured { IfOk result (λ a. IsFalse a.all_in_frame) }
@@ -147,7 +153,7 @@ impl Progress {
     {
         let colours = &round.colours.as_slice()[COLOURS as usize..];
         let list = paint(alloc, self.code.list.as_slice(), colours)?;
-        let registers = homes_of(alloc, &self.homes, colours)?;
+        let registers = locations_of(alloc, &self.locations, colours)?;
         let slots = self.slots - frame.slots;
         let mut frame = frame;
         frame.slots = self.slots;
@@ -179,35 +185,39 @@ fn slots_behind(slots: u32, classes: usize) -> Result<u32, Memory>
 }
 
 /// Gives each original that has no slot yet the one that it has now.
-fn fill_homes(homes: &mut [Option<u32>], slots: &[Option<u32>])
-    requires { length homes.old ≤ length slots.now }
-    ensures { (t : ℕ) → t < length homes.old →
-        slot_in homes.new t ≡ option_or (slot_in homes.old t) (slot_in slots.now t) }
+fn fill_locations(locations: &mut [Option<u32>], slots: &[Option<u32>])
+    requires { length locations.old ≤ length slots.now }
+    ensures { (t : ℕ) → t < length locations.old →
+        slot_in locations.new t ≡ option_or (slot_in locations.old t) (slot_in slots.now t) }
 {
-    for at in 0..homes.len() {
-        if homes[at].is_none() {
-            homes[at] = slots[at];
+    for at in 0..locations.len() {
+        if locations[at].is_none() {
+            locations[at] = slots[at];
         }
     }
 }
 
-/// The home of each original: its slot, or else its colour.
-fn homes_of(alloc: Global, slots: &[Option<u32>], colours: &[Option<u8>]) -> Result<Homes, Memory>
+/// The location of each original: its slot, or else its colour.
+fn locations_of(
+    alloc: Global,
+    slots: &[Option<u32>],
+    colours: &[Option<u8>],
+) -> Result<Locations, Memory>
     requires { length slots.now ≤ length colours.now }
-    ensures { IfOk result (λ homes. homes ≡ homes_in slots.now colours.now) }
+    ensures { IfOk result (λ locations. locations ≡ locations_in slots.now colours.now) }
 {
-    let mut homes = Vec::with_capacity(alloc, slots.len())?;
+    let mut locations = Vec::with_capacity(alloc, slots.len())?;
     for at in 0..slots.len() {
-        homes.push(home_of(slots[at], colours[at]))?;
+        locations.push(location_of(slots[at], colours[at]))?;
     }
-    Ok(Homes::from_vec(homes))
+    Ok(Locations::from_vec(locations))
 }
 
-fn home_of(slot: Option<u32>, colour: Option<u8>) -> Home
-    ensures { result ≡ home_in slot (colour_or_first_of colour) }
+fn location_of(slot: Option<u32>, colour: Option<u8>) -> Location
+    ensures { result ≡ location_in slot (colour_or_first_of colour) }
 {
     match slot {
-        Some(slot) => Home::Slot(slot),
-        None => Home::Colour(colour_or_first(colour)),
+        Some(slot) => Location::Slot(slot),
+        None => Location::Colour(colour_or_first(colour)),
     }
 }

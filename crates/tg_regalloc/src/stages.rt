@@ -24,7 +24,7 @@ use tg_base::Memory;
 use tg_coalesce::color;
 use tg_graph::{COLOURS, Graph};
 use tg_instr::Code;
-use tg_interference::{interference, marks_of, moves_of};
+use tg_interference::{facts_of_nodes, interference, moves_of};
 use tg_irc::{Round, SpillPolicy, rounds_are_of_nodes};
 use tg_live::{flow, live};
 
@@ -61,9 +61,9 @@ pub fn color_code(
     check_size(code)?;
     rounds_are_of_nodes();
     let moves = moves_of(alloc, code)?;
-    let marks = marks_of(alloc, code, originals)?;
+    let facts = facts_of_nodes(alloc, code, originals)?;
     let graph = build_graph(alloc, code)?;
-    color(alloc, graph, moves.as_slice(), marks.as_slice(), policy)
+    color(alloc, graph, moves.as_slice(), facts.as_slice(), policy)
 }
 
 /// The interference graph of a code (Appel, chapter 11: `Build`).

@@ -9,7 +9,7 @@ use Rattle.tg_irc.specs.declared.moves.Move.{Move}
 use Rattle.tg_irc.specs.declared.steps.Step.{Step}
 use Rattle.tg_irc.specs.declared.steps.Step.TheVariants.{Simplify, Same, Constrain, Coalesce, Freeze, Spill}
 use Rattle.tg_irc.specs.declared.rounds.Round.{Round}
-use Rattle.tg_regalloc.specs.declared.allocations.Home.TheVariants.{Colour, Slot}
+use Rattle.tg_regalloc.specs.declared.allocations.Location.TheVariants.{Colour, Slot}
 use Rattle.tg_regalloc.specs.declared.allocations.Allocation.{Allocation}
 use Rattle.tg_regalloc_listing.specs.Listing.{listed}
 

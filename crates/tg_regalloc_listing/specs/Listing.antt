@@ -3,15 +3,15 @@
 use Rattle.std.specs.Prelude.{ℕ, ◌-◌, suc, Bool, true, false, List, [], ◌∷◌, ◌++◌, codes}
 use Rattle.std.specs.Prelude.{if◌then◌else◌, slice_index_or}
 use Rattle.std.specs.Fmt.{decimal}
-use Rattle.tg_isa.specs.Names.{name_of}
+use Rattle.tg_isa.specs.Names.{register_name}
 use Rattle.tg_graph.specs.Interference.{is_register}
 use Rattle.tg_irc.specs.declared.moves.Move.{Move}
 use Rattle.tg_irc.specs.declared.steps.Step.{Step}
 use Rattle.tg_irc.specs.declared.steps.Step.TheVariants.{Simplify, Same, Constrain, Coalesce}
 use Rattle.tg_irc.specs.declared.steps.Step.TheVariants.{Freeze, Spill}
 use Rattle.tg_irc.specs.declared.rounds.Round.{Round}
-use Rattle.tg_regalloc.specs.declared.allocations.Home.{Home}
-use Rattle.tg_regalloc.specs.declared.allocations.Home.TheVariants.{Colour, Slot}
+use Rattle.tg_regalloc.specs.declared.allocations.Location.{Location}
+use Rattle.tg_regalloc.specs.declared.allocations.Location.TheVariants.{Colour, Slot}
 use Rattle.tg_regalloc.specs.declared.allocations.Allocation.{Allocation}
 use Rattle.tg_regalloc.specs.Painting.{register_of}
 
@@ -20,7 +20,7 @@ abbrev pub temp_text : (temp : ℕ) → List ℕ
 temp_text t = 116 ∷ decimal t
 
 abbrev pub node_text : (node : ℕ) → List ℕ
-node_text x = if is_register x then name_of (register_of x) else temp_text (x - 25)
+node_text x = if is_register x then register_name (register_of x) else temp_text (x - 25)
 
 -- Steps.
 
@@ -71,20 +71,21 @@ abbrev pub rounds_lines : (number : ℕ) → List Round → List ℕ
 rounds_lines k [] = []
 rounds_lines k (round ∷ rounds) = round_lines k round ++ rounds_lines (suc k) rounds
 
--- Homes.
+-- Locations.
 
-abbrev pub home_line : (temp : ℕ) → Home → List ℕ
-home_line t (Colour c) =
-    codes "colour " ++ (temp_text t ++ (32 ∷ [] ++ (name_of (register_of c) ++ 10 ∷ [])))
-home_line t (Slot k) = codes "slot " ++ (temp_text t ++ (32 ∷ [] ++ (decimal k ++ 10 ∷ [])))
+abbrev pub location_line : (temp : ℕ) → Location → List ℕ
+location_line t (Colour c) =
+    codes "colour " ++ (temp_text t ++ (32 ∷ [] ++ (register_name (register_of c) ++ 10 ∷ [])))
+location_line t (Slot k) = codes "slot " ++ (temp_text t ++ (32 ∷ [] ++ (decimal k ++ 10 ∷ [])))
 
-abbrev pub home_lines : (temp : ℕ) → List Home → List ℕ
-home_lines t [] = []
-home_lines t (home ∷ homes) = home_line t home ++ home_lines (suc t) homes
+abbrev pub location_lines : (temp : ℕ) → List Location → List ℕ
+location_lines t [] = []
+location_lines t (location ∷ locations) =
+    location_line t location ++ location_lines (suc t) locations
 
-abbrev pub placed_lines : (all_in_frame : Bool) → List Home → List ℕ
-placed_lines true homes = codes "all in frame\n"
-placed_lines false homes = home_lines 0 homes
+abbrev pub placed_lines : (all_in_frame : Bool) → List Location → List ℕ
+placed_lines true locations = codes "all in frame\n"
+placed_lines false locations = location_lines 0 locations
 
 abbrev pub allocation_lines : Allocation → List ℕ
 allocation_lines a =

@@ -3,8 +3,8 @@
 //! Promises exactly the lines of `specs/Listing.antt`.
 #![tactic(auto)]
 
-mod homes;
 mod listing;
+mod locations;
 mod nodes;
 mod steps;
 

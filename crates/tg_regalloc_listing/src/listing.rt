@@ -1,7 +1,7 @@
 ghost use Rattle.std.specs.Prelude.{◌≡◌, ◌++◌, IfOk, OnOk};
 ghost use Rattle.tg_regalloc_listing.specs.Listing.{allocation_lines, listed, rounds_lines};
 
-use crate::homes::put_homes;
+use crate::locations::put_locations;
 use crate::nodes::put_number_line;
 use crate::steps::put_round;
 use std::alloc::Global;
@@ -28,7 +28,7 @@ fn put_allocation(text: &mut Vec<u8>, one: &Allocation) -> Result<(), Memory>
 {
     put_number_line(text, b"function ", one.done.frame.label.0 as usize)?;
     put_rounds(text, one.rounds.as_slice())?;
-    put_homes(text, one.all_in_frame, one.registers.as_slice())?;
+    put_locations(text, one.all_in_frame, one.registers.as_slice())?;
     put_number_line(text, b"slots ", one.slots as usize)
 }
 

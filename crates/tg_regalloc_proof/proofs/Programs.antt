@@ -14,7 +14,7 @@ use Rattle.tg_regalloc_proof.proofs.Cheaper.{functions_charged, to_charged, from
 use Rattle.tg_regalloc.specs.declared.allocations.Allocation.{Allocation}
 use Rattle.tg_regalloc.specs.Growth.{most_steps, steps, blocks_of, AreSmall, AllocationsGrowLittle}
 use Rattle.tg_regalloc.specs.Growth.AreSmall.{none, also}
-use Rattle.tg_regalloc_proof.specs.Laws.{AllocationsKeep, AllocationKeeps, Allocates, functions_over, function_over}
+use Rattle.tg_regalloc_proof.specs.Laws.{AllocationsKeep, RegallocIsCorrect, Allocates, functions_over, function_over}
 
 module _ (units : Instr → ℕ) (few : (one : Instr) → units one ≤ most_steps one) where
   abbrev words : Charge
@@ -54,7 +54,7 @@ module _ (units : Instr → ℕ) (few : (one : Instr) → units one ≤ most_ste
       (small_covered (grow rule o.code o.frame a o.allocation).small))
       (are_kept keep grow rule fs rest h.1)
 
-pub allocation_keeps : AllocationsKeep → AllocationsGrowLittle → AllocationKeeps
+pub allocation_keeps : AllocationsKeep → AllocationsGrowLittle → RegallocIsCorrect
 allocation_keeps keep grow rule fs allocations units e allocated few held =
     record {
       there = λ n right. (

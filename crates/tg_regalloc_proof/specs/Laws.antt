@@ -84,8 +84,8 @@ functions_over allocations = map function_over (codes_of allocations)
 -- 10 for a call): a program of allocations does what its functions did, with the same fuel and no
 -- more work than the most words of each instruction that was handed in. Its frames have to fit the
 -- sizes.
-abbrev pub AllocationKeeps : Type 0
-AllocationKeeps =
+abbrev pub RegallocIsCorrect : Type 0
+RegallocIsCorrect =
     (rule : Rule) (fs : List (Function (List Instr))) (allocations : List Allocation)
     (units : Instr → ℕ) (e : Surroundings) →
     AllZip (Allocates rule) fs allocations →

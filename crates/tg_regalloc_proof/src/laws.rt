@@ -3,11 +3,11 @@ ghost use Rattle.tg_regalloc_proof.specs.Keeping.{
   KeepsCompose,
   ProgramsAreKept,
 };
-ghost use Rattle.tg_regalloc_proof.specs.Laws.{AllocationKeeps, AllocationsKeep, FramesKeep};
+ghost use Rattle.tg_regalloc_proof.specs.Laws.{RegallocIsCorrect, AllocationsKeep, FramesKeep};
 ghost use Rattle.tg_regalloc_proof.specs.Replaced.{ReplacedKeep};
 
 use tg_interference::nodes_are_operands;
-use tg_regalloc::allocations_grow_little;
+use tg_regalloc::regalloc_is_bounded;
 
 /// The generic law: where a block stands for each instruction of a function, with operands in places
 /// of their own, and what interferes in places apart, the function may stand in the place of the
@@ -39,8 +39,8 @@ pub fn allocations_keep()
 /// same, with as much fuel, and with no more work than the most words of each instruction that was
 /// handed in.
 pub fn regalloc_is_correct()
-    ensures { AllocationKeeps }
+    ensures { RegallocIsCorrect }
 {
     allocations_keep();
-    allocations_grow_little();
+    regalloc_is_bounded();
 }

@@ -14,7 +14,7 @@ use Rattle.tg_tree.specs.Named.{
   function_labels,
   HasWords,
 }
-use Rattle.tg_tree.specs.Sizes.{tree_length, tree_room}
+use Rattle.tg_tree.specs.Sizes.{tree_length, tree_needs}
 use Rattle.tg_runtime.specs.Routines.{runtime}
 
 -- no two functions have one label, and each is below 32
@@ -36,14 +36,14 @@ is_own temps (constant n) = nat_lt n (2 ^ 32)
 abbrev pub most_length : ℕ
 most_length = 300
 
-abbrev pub most_room : ℕ
-most_room = 300
+abbrev pub most_needs : ℕ
+most_needs = 300
 
 pub record IsRoutine (f : Function Ts) : Type 0 where
   pub closed : IsClosed f.body
   pub own : IsTrue (list_all (is_own f.temps) (named_ts f.body []))
   pub short : tree_length f ≤ most_length
-  pub small : tree_room f ≤ most_room
+  pub small : tree_needs f ≤ most_needs
 
 abbrev pub AreRoutines : List (Function Ts) → Type 0
 AreRoutines [] = Unit {0}

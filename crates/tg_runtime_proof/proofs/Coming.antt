@@ -10,7 +10,7 @@ use Rattle.tg_tree.specs.declared.operators.Bin.TheVariants.{Add}
 use Rattle.tg_tree.specs.declared.operators.Rel.{Rel}
 use Rattle.tg_tree.specs.Tree.{Tx, Const, Temp, Binary, Load, LoadByte, Cond, Compare, Ts, Move, Store, StoreByte, If}
 use Rattle.tg_tree.specs.Tree.{Loop, Return}
-use Rattle.tg_tree.specs.Units.{Trees, lifted_units, statement_units, condition_units}
+use Rattle.tg_tree.specs.Units.{Trees, hoisted_units, statement_units, condition_units}
 use Rattle.tg_tree.specs.Shapes.{IsFlat}
 use Rattle.tg_tree.specs.Sizes.{expression_length}
 use Rattle.tg_tree.specs.Operators.{word, operate, holds}
@@ -137,7 +137,7 @@ module _ (setting : Setting) where
       Comes k (next (record w { memory = m }) t) e →
       Comes (1 + (units x + (units y + k))) (does setting (Store x y) z next w t) e
   store_comes k a v x y z next w t e m fx fy hx hy hs c =
-      let one : statement_units Trees (Store x y) ≡ 1 = ap (λ b. 1 + lifted_units Trees b) (flat_tested y fy) in
+      let one : statement_units Trees (Store x y) ≡ 1 = ap (λ b. 1 + hoisted_units Trees b) (flat_tested y fy) in
       let l = units x + (units y + k) in
       comes_within (statement_units Trees (Store x y) + l) (1 + l) _ e (omega (arith, one))
       (comes_working l (statement_units Trees (Store x y)) _ e
@@ -150,7 +150,7 @@ module _ (setting : Setting) where
       Comes k (next (record w { memory = m }) t) e →
       Comes (1 + (units x + (units y + k))) (does setting (StoreByte x y) z next w t) e
   store_byte_comes k a v x y z next w t e m fx fy hx hy hs c =
-      let one : statement_units Trees (StoreByte x y) ≡ 1 = ap (λ b. 1 + lifted_units Trees b) (flat_tested y fy) in
+      let one : statement_units Trees (StoreByte x y) ≡ 1 = ap (λ b. 1 + hoisted_units Trees b) (flat_tested y fy) in
       let l = units x + (units y + k) in
       comes_within (statement_units Trees (StoreByte x y) + l) (1 + l) _ e (omega (arith, one))
       (comes_working l (statement_units Trees (StoreByte x y)) _ e
@@ -163,7 +163,7 @@ module _ (setting : Setting) where
       Comes k (go (holds rel u v) w t) e →
       Comes (4 + (units x + (units y + k))) (tests (Compare rel x y) z go w t) e
   compare_comes k u v rel x y z go w t e fx fy hx hy c =
-      let four : condition_units Trees (Compare rel x y) ≡ 4 = ap (λ b. 4 + lifted_units Trees b) (flat_tested y fy) in
+      let four : condition_units Trees (Compare rel x y) ≡ 4 = ap (λ b. 4 + hoisted_units Trees b) (flat_tested y fy) in
       let l = units x + (units y + k) in
       comes_within (condition_units Trees (Compare rel x y) + l) (4 + l) _ e (omega (arith, four))
       (comes_working l (condition_units Trees (Compare rel x y)) _ e

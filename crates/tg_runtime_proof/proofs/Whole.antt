@@ -1,7 +1,7 @@
 -- The runtime serves: each of its functions does what its standard function does.
 use Rattle.tg_tree.specs.Actions.{World}
 use Rattle.tg_runtime_proof.specs.Settings.{Host, RunsBySteps}
-use Rattle.tg_runtime_proof.specs.Serving.{MayCall, RuntimeServes}
+use Rattle.tg_runtime_proof.specs.Serving.{MayCall, RuntimeIsCorrect}
 use Rattle.tg_runtime_proof.proofs.Serves.{Situation}
 use Rattle.tg_runtime_proof.proofs.Simples as simples
 use Rattle.tg_runtime_proof.proofs.Arrays as arrays
@@ -16,7 +16,7 @@ abbrev situation : (host : Host) (w : World) → RunsBySteps host → MayCall ho
 situation host w runs may =
     record { host = host; has = may.has; runs = runs; world = w; memory = may.memory }
 
-pub runtime_is_correct : RuntimeServes
+pub runtime_is_correct : RuntimeIsCorrect
 runtime_is_correct host w runs may =
     let call : Situation = situation host w runs may in
     record {

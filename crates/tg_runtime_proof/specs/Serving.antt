@@ -144,8 +144,8 @@ pub record MayCall (host : Host) (w : World) : Type 0 where
 
 -- The runtime serves, in any code that has it, whatever runs its bodies by steps, and for frames of
 -- any size.
-abbrev pub RuntimeServes : Type 0
-RuntimeServes = (host : Host) (w : World) → RunsBySteps host → MayCall host w → ServesWell host w
+abbrev pub RuntimeIsCorrect : Type 0
+RuntimeIsCorrect = (host : Host) (w : World) → RunsBySteps host → MayCall host w → ServesWell host w
 
 -- A code as it runs, with frames of these sizes, a floor of the stack and the heap's room: without
 -- static links, and with them, where each function has this level.

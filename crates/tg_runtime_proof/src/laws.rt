@@ -1,9 +1,9 @@
-ghost use Rattle.tg_runtime_proof.specs.Serving.{LinkedAreServed, RuntimeServes, TreesAreServed};
+ghost use Rattle.tg_runtime_proof.specs.Serving.{LinkedAreServed, RuntimeIsCorrect, TreesAreServed};
 
 /// The runtime serves: each of its functions does what the standard function (or the creation of an
 /// object) of its name does, in any code that has it and for frames of any size.
 pub fn runtime_is_correct()
-    ensures { RuntimeServes }
+    ensures { RuntimeIsCorrect }
 {}
 
 /// So its calls are served in a run of trees.

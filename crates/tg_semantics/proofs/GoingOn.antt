@@ -8,7 +8,7 @@ use Rattle.tg_semantics.specs.Values.{Value, normal, by_heap, add_heap, add_weig
 use Rattle.tg_semantics.specs.Evaluation.{eval, meaning, Job}
 use Rattle.tg_semantics.specs.Direct.{RunState, Result, gives, breaks, is_over, Direct, after, after_body, returned, fuelled, found, changed}
 use Rattle.tg_semantics.specs.Direct.{first_past, past_limit}
-use Rattle.tg_semantics.specs.Direct.{direct, told, outcome}
+use Rattle.tg_semantics.specs.Direct.{direct, told_outcome, outcome}
 use Rattle.tg_semantics.specs.Laws.{OutcomeGoesOn, so_far, NothingIsTakenBack}
 use Rattle.tg_semantics.proofs.Related.{Related, eval_same, meaning_same}
 
@@ -33,7 +33,7 @@ goes_on_on a b c g h = record {
 }
 
 -- the end doesn't matter
-pub whatever_end : (e e' : End Ending) (s s' : RunState) → OutcomeGoesOn (so_far s) (so_far s') → OutcomeGoesOn (told e s) (told e' s')
+pub whatever_end : (e e' : End Ending) (s s' : RunState) → OutcomeGoesOn (so_far s) (so_far s') → OutcomeGoesOn (told_outcome e s) (told_outcome e' s')
 whatever_end e e' s s' g = record {
   output = g.output;
   input = g.input;
@@ -160,7 +160,7 @@ module _ (heap stack : ℕ) where
   meaning_keeps n job =
       meaning_same Direct Direct (direct heap stack) (direct heap stack) Keep all_keep (λ m m' g s. fuelled_keeps s.fuel s m g) n job
 
-told_keeps : (o : Outcome Ending) (e : End Ending) (s : RunState) → OutcomeGoesOn o (so_far s) → OutcomeGoesOn o (told e s)
+told_keeps : (o : Outcome Ending) (e : End Ending) (s : RunState) → OutcomeGoesOn o (so_far s) → OutcomeGoesOn o (told_outcome e s)
 told_keeps o e s g = record { output = g.output; input = g.input; heap = g.heap; cost = g.cost; past_limit = g.past_limit; deepest = g.deepest }
 
 outcome_keeps : (o : Outcome Ending) (r : Result Value) → OutcomeGoesOn o (now r) → OutcomeGoesOn o (outcome r)

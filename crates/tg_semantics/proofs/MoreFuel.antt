@@ -6,10 +6,10 @@ use Rattle.std.proofs.lemmas.Bool.{cases_lt}
 use Rattle.tg_syntax.specs.Tree.{Exp}
 use Rattle.tg_simulation.specs.Outcomes.{End, ended, out_of_fuel, stuck, Outcome}
 use Rattle.tg_semantics.specs.Values.{Value, Entry, normal, by_heap, add_heap, Ending}
-use Rattle.tg_semantics.specs.Environments.{outermost}
+use Rattle.tg_semantics.specs.Environments.{outermost_entries}
 use Rattle.tg_semantics.specs.Evaluation.{meaning, program, Job}
 use Rattle.tg_semantics.specs.Direct.{RunState, Result, gives, breaks, is_over, Direct, after, after_body, returned, fuelled, found, changed, direct, begin}
-use Rattle.tg_semantics.specs.Direct.{told, outcome, evaluate}
+use Rattle.tg_semantics.specs.Direct.{told_outcome, outcome, evaluate}
 use Rattle.tg_semantics.specs.Laws.{OutcomeGoesOn, so_far, MoreFuelIsIdle, MoreFuelGoesOn, HasOneOutcome}
 use Rattle.tg_semantics.proofs.Related.{Related, run_same, run_program_same}
 use Rattle.tg_semantics.proofs.GoingOn.{goes_on, whatever_end, now, Keeps, after_keeps, loop_keeps, returned_keeps, fuelled_keeps, all_keep, meaning_keeps}
@@ -148,7 +148,7 @@ outcome_idle d n (is_over (ended e) s) r' g h = ap outcome g
 outcome_idle d n (is_over stuck s) r' g h = ap outcome g
 outcome_idle d n (is_over out_of_fuel s) r' g h = absurd (h refl)
 
-outcome_now : (e : End Ending) (s : RunState) (r : Result Value) → OutcomeGoesOn (so_far s) (now r) → OutcomeGoesOn (told e s) (outcome r)
+outcome_now : (e : End Ending) (s : RunState) (r : Result Value) → OutcomeGoesOn (so_far s) (now r) → OutcomeGoesOn (told_outcome e s) (outcome r)
 outcome_now e s (gives v s') g = whatever_end e (ended normal) s s' g
 outcome_now e s (breaks s') g = whatever_end e stuck s s' g
 outcome_now e s (is_over e' s') g = whatever_end e e' s s' g
@@ -165,13 +165,13 @@ outcome_goes_on d n (is_over out_of_fuel s) r' g = outcome_now out_of_fuel s r' 
 
 pub more_is_idle : MoreFuelIsIdle
 more_is_idle names body input heap stack fuel more h =
-    outcome_idle more fuel _ _ (program_longer heap stack more body (outermost names) fuel (begin input fuel) (omega arith)) h
+    outcome_idle more fuel _ _ (program_longer heap stack more body (outermost_entries names) fuel (begin input fuel) (omega arith)) h
 
 pub more_goes_on : MoreFuelGoesOn
 more_goes_on names body input heap stack fuel more =
-    outcome_goes_on more fuel (program Direct (direct heap stack) body (outermost names) fuel (begin input fuel))
-    (program Direct (direct heap stack) body (outermost names) (fuel + more) (begin input (fuel + more)))
-    (program_longer heap stack more body (outermost names) fuel (begin input fuel) (omega arith))
+    outcome_goes_on more fuel (program Direct (direct heap stack) body (outermost_entries names) fuel (begin input fuel))
+    (program Direct (direct heap stack) body (outermost_entries names) (fuel + more) (begin input (fuel + more)))
+    (program_longer heap stack more body (outermost_entries names) fuel (begin input fuel) (omega arith))
 
 above : (names : List (List ℕ)) (body : Exp) (input : List ℕ) (heap stack fuel fuel' : ℕ) → fuel ≤ fuel' →
     (evaluate names body input heap stack fuel).end ≢ out_of_fuel → evaluate names body input heap stack fuel' ≡ evaluate names body input heap stack fuel

@@ -6,7 +6,7 @@ use Rattle.tg_syntax.specs.Tree.{Exp, no_decs}
 use Rattle.tg_simulation.specs.Outcomes.{End, ended, stuck}
 use Rattle.tg_semantics.specs.Values.{int, nothing, elements, Ending, normal, by_index, by_chr, by_substring, by_size, by_heap, by_exit, add_object}
 use Rattle.tg_semantics.specs.Evaluation.{in_element, write_location}
-use Rattle.tg_semantics.specs.Direct.{RunState, Direct, gives, after, direct, begin, told, outcome, evaluate}
+use Rattle.tg_semantics.specs.Direct.{RunState, Direct, gives, after, direct, begin, told_outcome, outcome, evaluate}
 use Rattle.tg_semantics.proofs.Trees.{nil, break, num, text, bytes, simple, field, index, read, var, call, neg, ◌+'◌, ◌-'◌, ◌='◌, ◌<>'◌, ◌<'◌, ◌<='◌, ◌>'◌}
 use Rattle.tg_semantics.proofs.Trees.{◌&'◌, ◌or'◌, set, when, while, for, seq, array, make, fun, let_var, block, evaluated, does, on_heap, names}
 
@@ -174,5 +174,5 @@ with_array =
     record s { world = add_object (elements (int 0 ∷ [])) s.world }
 
 store_to_no_element : outcome (after (write_location Direct (direct 0 0) (in_element 0 1) (int 2) with_array) (λ done s. gives nothing s)) ≡
-    told stuck with_array
+    told_outcome stuck with_array
 store_to_no_element = refl

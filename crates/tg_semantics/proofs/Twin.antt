@@ -4,12 +4,12 @@ use Rattle.std.proofs.Common.{arith}
 use Rattle.std.specs.Prelude.{if◌then◌else◌}
 use Rattle.std.proofs.lemmas.List.{append-nil}
 use Rattle.tg_syntax.specs.Tree.{Exp}
-use Rattle.tg_simulation.specs.Outcomes.{End, ended, stuck, Outcome, first_written, writes, costs, passes_limit, reaches}
+use Rattle.tg_simulation.specs.Outcomes.{End, ended, stuck, Outcome, first_written, writes_first, costs, passes_limit, reaches}
 use Rattle.tg_semantics.specs.Values.{Value, normal, by_heap, add_heap, Ending}
-use Rattle.tg_semantics.specs.Environments.{outermost}
+use Rattle.tg_semantics.specs.Environments.{outermost_entries}
 use Rattle.tg_semantics.specs.Evaluation.{program}
 use Rattle.tg_semantics.specs.Direct.{Trace, RunState, Result, gives, breaks, is_over, Direct, after, after_body, returned, fuelled, found, changed, first_past}
-use Rattle.tg_semantics.specs.Direct.{past_limit, direct, begin, told, outcome, evaluate}
+use Rattle.tg_semantics.specs.Direct.{past_limit, direct, begin, told_outcome, outcome, evaluate}
 use Rattle.tg_semantics.specs.Passing.{Rest, Passing, over_in, ends, with_turn, with_found, passing, evaluate_passing}
 use Rattle.tg_semantics.proofs.Related.{Related, program_same}
 
@@ -82,7 +82,7 @@ earlier_written (Some p) output bytes later = refl
 earlier_written None output bytes None = refl
 earlier_written None output bytes (Some q) = ap Some (append_assoc output bytes q)
 
-write_same : (t : Trace) (bytes : List ℕ) (o : Outcome Ending) → since (record t { output = t.output ++ bytes }) o ≡ since t (writes bytes o)
+write_same : (t : Trace) (bytes : List ℕ) (o : Outcome Ending) → since (record t { output = t.output ++ bytes }) o ≡ since t (writes_first bytes o)
 write_same t bytes o = same_parts (append_assoc t.output bytes o.output) refl (earlier_written t.output_past_limit t.output bytes o.output_past_limit) refl
 
 spend_same : (t : Trace) (k : ℕ) (o : Outcome Ending) → since (record t { cost = t.cost + k }) o ≡ since t (costs k o)
@@ -142,7 +142,7 @@ earlier_none : (past : Option (List ℕ)) (output : List ℕ) → past ≡ earli
 earlier_none (Some p) output = refl
 earlier_none None output = refl
 
-told_same : (e : End Ending) (s : RunState) → told e s ≡ since s.trace (over_in s.world e)
+told_same : (e : End Ending) (s : RunState) → told_outcome e s ≡ since s.trace (over_in s.world e)
 told_same e s =
     let c : s.trace.cost ≡ s.trace.cost + 0 = omega arith in
     let d : s.trace.deepest ≡ max s.trace.deepest 0 = omega arith in
@@ -166,6 +166,6 @@ since_start o =
 pub twins : (names : List (List ℕ)) (body : Exp) (input : List ℕ) (heap stack fuel : ℕ) →
     evaluate names body input heap stack fuel ≡ evaluate_passing names body input heap stack fuel
 twins names body input heap stack fuel =
-    outcome_same (program Direct (direct heap stack) body (outermost names) fuel (begin input fuel)) ∙
-    program_as_passing heap stack body (outermost names) fuel (λ v. ends (ended normal)) (ends stuck) (begin input fuel) ∙
+    outcome_same (program Direct (direct heap stack) body (outermost_entries names) fuel (begin input fuel)) ∙
+    program_as_passing heap stack body (outermost_entries names) fuel (λ v. ends (ended normal)) (ends stuck) (begin input fuel) ∙
     since_start _

@@ -1,9 +1,9 @@
 -- What stands behind a unit of fuel, without a bound, and its equation.
 use Rattle.std.proofs.Common.{◌≡◌, ℕ, zero, suc, ◌+◌, ◌≤◌, Option, Some, None, Bool, true, false, nat_lt, refl, ap, arith, le_trans}
 use Rattle.std.specs.Prelude.{if◌then◌else◌}
-use Rattle.tg_simulation.specs.Outcomes.{ended, stuck, writes, costs, passes_limit, reaches}
-use Rattle.tg_semantics.specs.Values.{Value, normal, by_heap, SourceWorld, start, add_heap}
-use Rattle.tg_semantics.specs.Environments.{outermost}
+use Rattle.tg_simulation.specs.Outcomes.{ended, stuck, writes_first, costs, passes_limit, reaches}
+use Rattle.tg_semantics.specs.Values.{Value, normal, by_heap, SourceWorld, initial_world, add_heap}
+use Rattle.tg_semantics.specs.Environments.{outermost_entries}
 use Rattle.tg_semantics.specs.Evaluation.{meaning, Job}
 use Rattle.tg_semantics.specs.Passing.{Rest, Passing, ends, with_turn, with_found, passing}
 use Rattle.tg_semantics.specs.Laws.{behind, FuelUnfolds, ProgramUnfolds}
@@ -43,7 +43,7 @@ module _ (heap stack k : ℕ) where
     puts = λ place o go go' out out' hg ho w n le. hg _ _ n le;
     takes = λ bytes go go' out out' hg ho w n le. take_agree k (nat_lt heap (w.heap + bytes)) w (add_heap bytes w) (go tt) (go' tt) n le (hg tt);
     reads = λ go go' out out' hg ho w n le. hg _ _ n le;
-    writes = λ bytes go go' out out' hg ho w n le. ap (writes bytes) (hg tt w n le);
+    writes = λ bytes go go' out out' hg ho w n le. ap (writes_first bytes) (hg tt w n le);
     spends = λ c go go' out out' hg ho w n le. ap (costs c) (hg tt w n le);
     weighs = λ c go go' out out' hg ho w n le. ap (passes_limit (nat_lt stack (w.weight + c))) (hg tt _ n le);
     unweighs = λ c go go' out out' hg ho w n le. hg _ _ n le;
@@ -101,5 +101,5 @@ fuel_unfolds heap stack job go out w n =
 pub program_unfolds : ProgramUnfolds
 program_unfolds names body input heap stack fuel =
     run_program_same Passing Passing (passing heap stack) (passing heap stack) (Agree fuel) (all_agree heap stack fuel) (at heap stack fuel) (behind heap stack)
-    (λ j. turn_behind heap stack fuel fuel j (omega arith)) body (outermost names) (λ v. ends (ended normal)) (λ v. ends (ended normal)) (ends stuck)
-    (ends stuck) (λ a v i l. refl) (λ v i l. refl) (start input) fuel (omega arith)
+    (λ j. turn_behind heap stack fuel fuel j (omega arith)) body (outermost_entries names) (λ v. ends (ended normal)) (λ v. ends (ended normal)) (ends stuck)
+    (ends stuck) (λ a v i l. refl) (λ v i l. refl) (initial_world input) fuel (omega arith)

@@ -4,11 +4,12 @@ use Rattle.std.specs.Prelude.{ℕ, zero, suc, ◌+◌, max, List, [], ◌++◌, 
 use Rattle.std.specs.Prelude.{None, Bool, nat_lt, if◌then◌else◌}
 use Rattle.tg_syntax.specs.Tree.{Exp}
 use Rattle.tg_simulation.specs.Outcomes.{End, ended, out_of_fuel, stuck, Outcome}
-use Rattle.tg_semantics.specs.Values.{Value, normal, by_heap, SourceWorld, start, add_variable}
-use Rattle.tg_semantics.specs.Values.{put_variable, add_object, put_object, add_heap, drop_byte}
-use Rattle.tg_semantics.specs.Values.{add_weight, drop_weight, go_deeper, go_back, Ending}
+use Rattle.tg_semantics.specs.Values.{Value, normal, by_heap, SourceWorld, initial_world}
+use Rattle.tg_semantics.specs.Values.{add_variable, put_variable, add_object, put_object, add_heap}
+use Rattle.tg_semantics.specs.Values.{drop_byte, add_weight, drop_weight, go_deeper, go_back}
+use Rattle.tg_semantics.specs.Values.{Ending}
 use Rattle.tg_semantics.specs.Actions.{Actions}
-use Rattle.tg_semantics.specs.Environments.{outermost}
+use Rattle.tg_semantics.specs.Environments.{outermost_entries}
 use Rattle.tg_semantics.specs.Evaluation.{program}
 
 -- what a run has done so far
@@ -112,13 +113,13 @@ direct heap stack = record {
 abbrev pub begin : List ℕ → (fuel : ℕ) → RunState
 begin input fuel = record {
   fuel = fuel;
-  world = start input;
+  world = initial_world input;
   trace = record { output = []; cost = 0; output_past_limit = None; deepest = 0 };
 }
 
 -- what has come of a run that is over so
-abbrev pub told : End Ending → RunState → Outcome Ending
-told e s = record {
+abbrev pub told_outcome : End Ending → RunState → Outcome Ending
+told_outcome e s = record {
   end = e;
   output = s.trace.output;
   input = s.world.input;
@@ -130,13 +131,14 @@ told e s = record {
 
 -- of a program: a value is its end, and no `break` leaves it
 abbrev pub outcome : Result Value → Outcome Ending
-outcome (gives v s) = told (ended normal) s
-outcome (breaks s) = told stuck s
-outcome (is_over e s) = told e s
+outcome (gives v s) = told_outcome (ended normal) s
+outcome (breaks s) = told_outcome stuck s
+outcome (is_over e s) = told_outcome e s
 
 -- the outcome of a program with these names, on an input, with bytes of heap and of stack, and at
 -- most so much fuel
 abbrev pub evaluate :
     (names : List (List ℕ)) → Exp → (input : List ℕ) → (heap stack fuel : ℕ) → Outcome Ending
 evaluate names body input heap stack fuel =
-    outcome (program Direct (direct heap stack) body (outermost names) fuel (begin input fuel))
+    outcome
+    (program Direct (direct heap stack) body (outermost_entries names) fuel (begin input fuel))

@@ -82,5 +82,5 @@ abbrev pub outermost_from : ℕ → List (List ℕ) → List Entry
 outermost_from n [] = []
 outermost_from n (text ∷ names) = standards_of text n standards ++ outermost_from (suc n) names
 
-abbrev pub outermost : List (List ℕ) → List Entry
-outermost names = outermost_from 0 names
+abbrev pub outermost_entries : List (List ℕ) → List Entry
+outermost_entries names = outermost_from 0 names

@@ -46,9 +46,9 @@ pub data Job : Type 0 where
   repeat_for : (place high : ℕ) → (body : Exp) → Env → Job
 
 -- the functions of a group
-abbrev pub count : FunDecs → ℕ
-count no_functions = 0
-count (function _ _ _ _ rest) = suc (count rest)
+abbrev pub function_count : FunDecs → ℕ
+function_count no_functions = 0
+function_count (function _ _ _ _ rest) = suc (function_count rest)
 
 -- with a variable in front
 abbrev pub with_variable : (name place : ℕ) → Env → Env
@@ -386,7 +386,7 @@ module _ (Action : Type 0 → Type 0) (M : Actions Action) where
         place ← new_variable v
         declare rest (with_variable (name_of x) place env)
       declare (functions fs rest) env =
-          spend (count fs) >>
+          spend (function_count fs) >>
           declare rest (record env { entries = group env.level fs ∷ env.entries })
 
     -- parameters are variables of the call

@@ -2,10 +2,10 @@
 use Rattle.std.specs.Prelude.{◌≡◌, ◌≢◌, ◌≤◌, ℕ, suc, ◌+◌, List, ◌++◌, Some}
 use Rattle.tg_syntax.specs.Tree.{Exp}
 use Rattle.tg_simulation.specs.Outcomes.{ended, out_of_fuel, stuck, Outcome}
-use Rattle.tg_semantics.specs.Values.{Value, Env, Ending, normal, start}
-use Rattle.tg_semantics.specs.Environments.{outermost}
+use Rattle.tg_semantics.specs.Values.{Value, Env, Ending, normal, initial_world}
+use Rattle.tg_semantics.specs.Environments.{outermost_entries}
 use Rattle.tg_semantics.specs.Evaluation.{Job, eval, run, run_program, meaning}
-use Rattle.tg_semantics.specs.Direct.{RunState, Direct, direct, told, outcome, evaluate}
+use Rattle.tg_semantics.specs.Direct.{RunState, Direct, direct, told_outcome, outcome, evaluate}
 use Rattle.tg_semantics.specs.Passing.{Rest, Passing, passing, ends, evaluate_passing}
 
 -- evaluation by results and evaluation that passes along what comes next have one outcome
@@ -29,7 +29,7 @@ pub record OutcomeGoesOn (o o' : Outcome Ending) : Type 0 where
 
 -- each expression goes on from what was so far
 abbrev pub so_far : RunState → Outcome Ending
-so_far s = told out_of_fuel s
+so_far s = told_outcome out_of_fuel s
 
 abbrev pub NothingIsTakenBack : Type 0
 NothingIsTakenBack =
@@ -75,5 +75,5 @@ abbrev pub ProgramUnfolds : Type 0
 ProgramUnfolds =
     (names : List (List ℕ)) (body : Exp) (input : List ℕ) (heap stack fuel : ℕ) →
     evaluate_passing names body input heap stack fuel ≡
-    run_program Passing (passing heap stack) (behind heap stack) body (outermost names)
-    (λ v. ends (ended normal)) (ends stuck) (start input) fuel
+    run_program Passing (passing heap stack) (behind heap stack) body (outermost_entries names)
+    (λ v. ends (ended normal)) (ends stuck) (initial_world input) fuel

@@ -5,13 +5,14 @@ use Rattle.std.specs.Prelude.{ℕ, ◌+◌, List, [], length, take, Option, Some
 use Rattle.std.specs.Prelude.{if◌then◌else◌}
 use Rattle.tg_syntax.specs.Tree.{Exp}
 use Rattle.tg_simulation.specs.Runs.{Run, turn}
-use Rattle.tg_simulation.specs.Outcomes.{End, ended, out_of_fuel, stuck, Outcome, writes, costs}
-use Rattle.tg_simulation.specs.Outcomes.{passes_limit, reaches}
-use Rattle.tg_semantics.specs.Values.{Value, normal, by_heap, SourceWorld, start, add_variable}
-use Rattle.tg_semantics.specs.Values.{put_variable, add_object, put_object, add_heap, drop_byte}
-use Rattle.tg_semantics.specs.Values.{add_weight, drop_weight, go_deeper, go_back, Ending}
+use Rattle.tg_simulation.specs.Outcomes.{End, ended, out_of_fuel, stuck, Outcome, writes_first}
+use Rattle.tg_simulation.specs.Outcomes.{costs, passes_limit, reaches}
+use Rattle.tg_semantics.specs.Values.{Value, normal, by_heap, SourceWorld, initial_world}
+use Rattle.tg_semantics.specs.Values.{add_variable, put_variable, add_object, put_object, add_heap}
+use Rattle.tg_semantics.specs.Values.{drop_byte, add_weight, drop_weight, go_deeper, go_back}
+use Rattle.tg_semantics.specs.Values.{Ending}
 use Rattle.tg_semantics.specs.Actions.{Actions}
-use Rattle.tg_semantics.specs.Environments.{outermost}
+use Rattle.tg_semantics.specs.Environments.{outermost_entries}
 use Rattle.tg_semantics.specs.Evaluation.{program}
 
 -- what comes from a world on, by the fuel that is left
@@ -65,7 +66,7 @@ passing heap stack = record {
   take_heap = λ bytes go out w.
       if nat_lt heap (w.heap + bytes) then ends (ended by_heap) w else go tt (add_heap bytes w);
   read_byte = λ go out w. go (take 1 w.input) (drop_byte w);
-  write = λ bytes go out w n. writes bytes (go tt w n);
+  write = λ bytes go out w n. writes_first bytes (go tt w n);
   spend = λ k go out w n. costs k (go tt w n);
   weigh = λ k go out w n. passes_limit (nat_lt stack (w.weight + k)) (go tt (add_weight k w) n);
   unweigh = λ k go out w. go tt (drop_weight k w);
@@ -77,5 +78,5 @@ passing heap stack = record {
 abbrev pub evaluate_passing :
     (names : List (List ℕ)) → Exp → (input : List ℕ) → (heap stack fuel : ℕ) → Outcome Ending
 evaluate_passing names body input heap stack fuel =
-    program Passing (passing heap stack) body (outermost names) fuel
-    (λ v. ends (ended normal)) (ends stuck) (start input) fuel
+    program Passing (passing heap stack) body (outermost_entries names) fuel
+    (λ v. ends (ended normal)) (ends stuck) (initial_world input) fuel

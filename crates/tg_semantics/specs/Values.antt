@@ -50,8 +50,8 @@ pub record SourceWorld : Type 0 where
   pub weight : ℕ
   pub depth : ℕ
 
-abbrev pub start : List ℕ → SourceWorld
-start input = record {
+abbrev pub initial_world : List ℕ → SourceWorld
+initial_world input = record {
   variables = [];
   objects = [];
   input = input;

@@ -20,11 +20,11 @@ abbrev ends : Outcome RunEnd
 ends = record { end = ended HeapFull; output = []; input = []; heap = 8; cost = 5; output_past_limit = None; deepest = 2 }
 
 -- what was written when the limit was first passed
-first_passing : (outcome.writes (1 ∷ []) (passes_limit true (outcome.writes (2 ∷ []) (passes_limit true ends)))).output_past_limit ≡ Some (1 ∷ [])
+first_passing : (outcome.writes_first (1 ∷ []) (passes_limit true (outcome.writes_first (2 ∷ []) (passes_limit true ends)))).output_past_limit ≡ Some (1 ∷ [])
 first_passing = refl
 
 -- what isn't above the limit passes nothing
-not_passing : (passes_limit false (outcome.writes (2 ∷ []) (passes_limit true ends))).output_past_limit ≡ Some (2 ∷ [])
+not_passing : (passes_limit false (outcome.writes_first (2 ∷ []) (passes_limit true ends))).output_past_limit ≡ Some (2 ∷ [])
 not_passing = refl
 
 -- costs add up, and the greatest depth counts

@@ -16,7 +16,7 @@ module _ (stack a : ℕ) where
   empty_front : (ys : List ℕ) → IsPrefix [] ys
   empty_front ys = record { more = ys; whole = refl }
 
-  match_writes : (r : ℕ) (bytes : List ℕ) (o : Source) (p : Ran) → Matches stack a r o p → Matches stack a r (outcome.writes bytes o) (writes bytes p)
+  match_writes : (r : ℕ) (bytes : List ℕ) (o : Source) (p : Ran) → Matches stack a r o p → Matches stack a r (outcome.writes_first bytes o) (writes bytes p)
   match_writes r bytes o p (same e i f q w) = same (ap (λ l. bytes ++ l) e) i f q w
   match_writes r bytes o p (cut past e f g h w) =
       cut (bytes ++ past) (ap (first_written bytes) e) (longer_front bytes past p.output f) (longer_front bytes p.output o.output g) h w
@@ -54,7 +54,7 @@ module _ (stack a : ℕ) where
   match_credit r s o p le (unsaid e) = unsaid e
 
   pub follows_writing : (r n : ℕ) (bytes : List ℕ) (c : Run Source) (d : Run Ran) →
-      Follows stack a r n c d → Follows stack a r n (λ i. outcome.writes bytes (c i)) (λ j. writes bytes (d j))
+      Follows stack a r n c d → Follows stack a r n (λ i. outcome.writes_first bytes (c i)) (λ j. writes bytes (d j))
   follows_writing r n bytes c d h i le = let x = h i le in (x.0, x.1, match_writes r bytes (c i) (d x.0) x.2)
 
   pub follows_paying : (r n k : ℕ) (c : Run Source) (d : Run Ran) → Follows stack a (r + a * k) n c d → Follows stack a r n (λ i. costs k (c i)) d

@@ -5,9 +5,9 @@ use Rattle.std.specs.Prelude.{ℕ, ◌≡◌, ◌<◌, List, ◌++◌, All}
 abbrev pub AreBytes : List ℕ → Type 0
 AreBytes bytes = All (λ b. b < 256) bytes
 
--- a front of a list
-pub record IsPrefix (xs ys : List ℕ) : Type 0 where
-  pub more : List ℕ
+-- a prefix of a list
+pub record IsPrefix {A : Type 0} (xs ys : List A) : Type 0 where
+  pub more : List A
   pub whole : ys ≡ xs ++ more
 
 -- the bytes of stack that an open activation has at least: a frame of two words

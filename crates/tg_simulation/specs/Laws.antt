@@ -65,7 +65,7 @@ abbrev pub FollowsWriting : Type 0
 FollowsWriting =
     (stack a r n : ℕ) (bytes : List ℕ) (c : Run Source) (d : Run Ran) →
     Follows stack a r n c d →
-    Follows stack a r n (λ i. outcome.writes bytes (c i)) (λ j. writes bytes (d j))
+    Follows stack a r n (λ i. outcome.writes_first bytes (c i)) (λ j. writes bytes (d j))
 
 -- the program pays for what the code may do
 abbrev pub FollowsPaying : Type 0

@@ -24,8 +24,8 @@ abbrev pub first_written : List ℕ → Option (List ℕ) → Option (List ℕ)
 first_written bytes None = None
 first_written bytes (Some output) = Some (bytes ++ output)
 
-abbrev pub writes : {Ending : Type 0} → List ℕ → Outcome Ending → Outcome Ending
-writes bytes o = record o {
+abbrev pub writes_first : {Ending : Type 0} → List ℕ → Outcome Ending → Outcome Ending
+writes_first bytes o = record o {
   output = bytes ++ o.output;
   output_past_limit = first_written bytes o.output_past_limit;
 }

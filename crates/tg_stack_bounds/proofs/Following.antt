@@ -3,7 +3,7 @@
 use Rattle.std.proofs.Common.{◌≡◌, ◌≤◌, ℕ, suc, ◌+◌, ◌-◌, ◌==◌, Bool, true, false, Option, Some, None, List, [], ◌∷◌, ◌++◌, length, refl, sym, ap}
 use Rattle.std.proofs.Common.{subst, arith}
 use Rattle.std.specs.Prelude.{if◌then◌else◌}
-use Rattle.tg_symbols.specs.Tables.{named}
+use Rattle.tg_symbols.specs.Tables.{looked_up}
 use Rattle.tg_syntax.specs.declared.tokens.Ident.{Ident}
 use Rattle.tg_syntax.specs.declared.trees.Param.{Param}
 use Rattle.tg_syntax.specs.Tree.{Exp, LValue, Exps, Inits, Decs, FunDecs, no_functions, function}
@@ -14,8 +14,9 @@ use Rattle.tg_types.specs.declared.notes.Note.{Note}
 use Rattle.tg_types.specs.declared.notes.Means.{Means}
 use Rattle.tg_types.specs.declared.notes.Means.TheVariants as means
 use Rattle.tg_types.specs.Types.{Ty, int_type, string_type, none_type, record_type, array_type, Shape}
-use Rattle.tg_types.specs.Scopes.{Signature, Binding, variable_at, function_at, standard_one, Scope, in_a_loop, in_no_loop, binding, name_of, at_of}
-use Rattle.tg_types.specs.Scopes.{outermost, entry, standard_bindings, standard_of}
+use Rattle.tg_semantics.specs.Environments.{name_of}
+use Rattle.tg_types.specs.Scopes.{Signature, Binding, variable_at, function_at, standard_one, Scope, in_a_loop, in_no_loop, binding, at_of}
+use Rattle.tg_types.specs.Scopes.{outermost_scope, entry, standard_bindings, standard_of}
 use Rattle.tg_types.specs.Groups.{with_functions, with_params}
 use Rattle.tg_types.specs.Has as Has
 use Rattle.tg_translate.specs.Scopes.{Findings}
@@ -42,13 +43,13 @@ module _ (table : LevelTable) (findings : Findings) (shapes : List (ℕ × Shape
   Tells (standard_one k) f = Unit {0}
 
   abbrev Agrees : List (ℕ × Binding) → Levels → Type 0
-  Agrees bindings seen = (x : ℕ) (b : Binding) → named x bindings ≡ Some b → Tells b (λ n. crossing n seen x)
+  Agrees bindings seen = (x : ℕ) (b : Binding) → looked_up x bindings ≡ Some b → Tells b (λ n. crossing n seen x)
 
   with_one : (y : ℕ) (b : Binding) (k : ℕ) (bindings : List (ℕ × Binding)) (seen : Levels) → Tells b (λ n. n - k) → Agrees bindings seen →
       Agrees ((y, b) ∷ bindings) (record { name = y; level = k } ∷ seen)
   with_one y b k bindings seen one h x c e = by (y == x) e
     where
-      by : (t : Bool) → (if t then Some b else named x bindings) ≡ Some c → Tells c (λ n. if t then n - k else crossing n seen x)
+      by : (t : Bool) → (if t then Some b else looked_up x bindings) ≡ Some c → Tells c (λ n. if t then n - k else crossing n seen x)
       by true i = subst (λ o. Tells o (λ n. n - k)) (some_is i) one
       by false i = h x c i
 
@@ -75,21 +76,21 @@ module _ (table : LevelTable) (findings : Findings) (shapes : List (ℕ × Shape
 
   -- the program's body sees standard functions alone
 
-  entry_tells : (x : ℕ) (b : Binding) (k : ℕ) (o : Option Standard) (rest : List (ℕ × Binding)) → (named x rest ≡ Some b → Tells b (λ n. 0)) →
-      named x (entry standard_one k o ++ rest) ≡ Some b → Tells b (λ n. 0)
+  entry_tells : (x : ℕ) (b : Binding) (k : ℕ) (o : Option Standard) (rest : List (ℕ × Binding)) → (looked_up x rest ≡ Some b → Tells b (λ n. 0)) →
+      looked_up x (entry standard_one k o ++ rest) ≡ Some b → Tells b (λ n. 0)
   entry_tells x b k None rest h e = h e
   entry_tells x b k (Some f) rest h e = by (k == x) e
     where
-      by : (t : Bool) → (if t then Some (standard_one f) else named x rest) ≡ Some b → Tells b (λ n. 0)
+      by : (t : Bool) → (if t then Some (standard_one f) else looked_up x rest) ≡ Some b → Tells b (λ n. 0)
       by true i = subst (λ o. Tells o (λ n. 0)) (some_is i) tt
       by false i = h i
 
-  standards_tell : (x : ℕ) (b : Binding) (k : ℕ) (names : List (List ℕ)) → named x (standard_bindings k names) ≡ Some b → Tells b (λ n. 0)
+  standards_tell : (x : ℕ) (b : Binding) (k : ℕ) (names : List (List ℕ)) → looked_up x (standard_bindings k names) ≡ Some b → Tells b (λ n. 0)
   standards_tell x b k [] e = cc
   standards_tell x b k (text ∷ names) e =
       entry_tells x b k (standard_of text standards) (standard_bindings (suc k) names) (λ h. standards_tell x b (suc k) names h) e
 
-  pub first_agrees : (names : List (List ℕ)) → Agrees (outermost names).bindings []
+  pub first_agrees : (names : List (List ℕ)) → Agrees (outermost_scope names).bindings []
   first_agrees names x b e = standards_tell x b 0 names e
 
   use_crosses : (n : ℕ) (seen : Levels) (x : Ident) (b : Binding) → Tells b (λ m. crossing m seen (name_of x)) →

@@ -5,13 +5,13 @@ use Rattle.std.proofs.Common.{eqb-true, append_assoc, append-nil}
 use Rattle.std.specs.Prelude.{if◌then◌else◌}
 use Rattle.std.specs.List.{AllZip}
 use Rattle.tg_frame.specs.declared.accesses.Access.{Access}
-use Rattle.tg_symbols.specs.Tables.{named}
+use Rattle.tg_symbols.specs.Tables.{looked_up}
 use Rattle.tg_syntax.specs.declared.trees.Param.{Param}
 use Rattle.tg_syntax.specs.Functions.{Measures}
 use Rattle.tg_syntax.specs.Tree.{FunDecs, no_functions, function}
 use Rattle.tg_tree.specs.Tree.{Ts, Function}
 use Rattle.tg_tree.specs.Units.{Trees}
-use Rattle.tg_tree.specs.Sizes.{statement_length, in_trees, statement_room}
+use Rattle.tg_tree.specs.Sizes.{statement_length, in_trees, statement_needs}
 use Rattle.tg_translate.specs.declared.homes.Home.{Home}
 use Rattle.tg_translate.specs.declared.homes.Callee.{Callee}
 use Rattle.tg_translate.specs.declared.wants.Want.{Want}
@@ -30,7 +30,7 @@ pub record IsPaid (m : Measures) (f : Function Ts) : Type 0 where
   pub out : f.out ≡ 0
   pub params : length f.params + m.size ≤ m.nodes + 1
   pub short : statement_length Trees f.body ≤ 90 * m.size + 4 * m.hops + 12
-  pub small : statement_room in_trees f.body ≤ 44 * m.size + 6 * m.hops
+  pub small : statement_needs in_trees f.body ≤ 44 * m.size + 6 * m.hops
 
 -- functions that are added, one for each of a text
 pub record Adds (ms : List Measures) (fs gs : List (Function Ts)) : Type 0 where
@@ -56,7 +56,7 @@ adds_none fs = record { added = []; behind = sym (append-nil fs); paid = tt }
 
 -- what a body of these measures is
 abbrev pub IsPaidBody : (nodes hops : ℕ) → Ts → Type 0
-IsPaidBody nodes hops x = (statement_length Trees x ≤ 90 * nodes + 4 * hops + 12) × (statement_room in_trees x ≤ 44 * nodes + 6 * hops)
+IsPaidBody nodes hops x = (statement_length Trees x ≤ 90 * nodes + 4 * hops + 12) × (statement_needs in_trees x ≤ 44 * nodes + 6 * hops)
 
 module _ (table : LevelTable) where
   abbrev Keeps : TranslationState → Type 0
@@ -140,7 +140,7 @@ module _ (table : LevelTable) where
     callee = h.callee;
   }
     where
-      by : (x : ℕ) (k : Home) (b : Bool) → (at == x) ≡ b → (if b then Some home else named x s.homes) ≡ Some k → k.level ≡ table.variables x
+      by : (x : ℕ) (k : Home) (b : Bool) → (at == x) ≡ b → (if b then Some home else looked_up x s.homes) ≡ Some k → k.level ≡ table.variables x
       by x k true i f = let same : at ≡ x = eqb-true at x i in let is : home ≡ k = cc in cc
       by x k false i f = h.home x k f
 
@@ -151,7 +151,7 @@ module _ (table : LevelTable) where
     callee = λ x k i. by x k (at == x) refl i;
   }
     where
-      by : (x : ℕ) (k : Callee) (b : Bool) → (at == x) ≡ b → (if b then Some callee else named x s.callees) ≡ Some k →
+      by : (x : ℕ) (k : Callee) (b : Bool) → (at == x) ≡ b → (if b then Some callee else looked_up x s.callees) ≡ Some k →
           k.level ≡ table.functions x
       by x k true i f = let same : at ≡ x = eqb-true at x i in let is : callee ≡ k = cc in cc
       by x k false i f = h.callee x k f

@@ -2,7 +2,7 @@
 -- variables and functions are declared, than by its name. What a translation has found keeps to the
 -- table.
 use Rattle.std.specs.Prelude.{◌≡◌, ◌≤◌, ◌+◌, ℕ, suc, List, [], ◌∷◌, Option, Some}
-use Rattle.tg_symbols.specs.Tables.{named}
+use Rattle.tg_symbols.specs.Tables.{looked_up}
 use Rattle.tg_syntax.specs.declared.trees.Param.{Param}
 use Rattle.tg_syntax.specs.Functions.{Levels, crossed, own, own_params, own_functions, own_decs}
 use Rattle.tg_syntax.specs.Tree.{Exp, Nil, Break, Int, Text, Read, Call, Neg, Binary, Make, Fill, Assign, If, When, While, For, Let, Seq}
@@ -24,8 +24,8 @@ pub record LevelTable : Type 0 where
 module _ (table : LevelTable) where
   -- a state whose homes and callees have the levels of the table
   pub record Keeps (s : TranslationState) : Type 0 where
-    pub home : (at : ℕ) (k : Home) → named at s.homes ≡ Some k → k.level ≡ table.variables at
-    pub callee : (at : ℕ) (k : Callee) → named at s.callees ≡ Some k → k.level ≡ table.functions at
+    pub home : (at : ℕ) (k : Home) → looked_up at s.homes ≡ Some k → k.level ≡ table.variables at
+    pub callee : (at : ℕ) (k : Callee) → looked_up at s.callees ≡ Some k → k.level ≡ table.functions at
 
   -- the levels that a use crosses, by the table, are at most those that it crosses by its name
   abbrev pub Crosses : (level most : ℕ) → Option Means → Type 0

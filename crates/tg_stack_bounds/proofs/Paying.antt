@@ -5,7 +5,7 @@ use Rattle.std.proofs.Common.{length-append, append-nil, refl, sym, ap, ◌∙�
 use Rattle.std.specs.Prelude.{◌||◌, ◌-◌, if◌then◌else◌}
 use Rattle.tg_frame.specs.declared.accesses.Access.{Access}
 use Rattle.tg_frame.specs.declared.accesses.Access.TheVariants.{InTemp, InFrame}
-use Rattle.tg_symbols.specs.Tables.{named}
+use Rattle.tg_symbols.specs.Tables.{looked_up}
 use Rattle.tg_syntax.specs.declared.trees.Op.{Op}
 use Rattle.tg_syntax.specs.declared.trees.Op.TheVariants as op
 use Rattle.tg_syntax.specs.Functions.{Measures}
@@ -37,12 +37,13 @@ use Rattle.tg_translate.specs.Scopes.{no_value, nowhere, frame_at, home_place, v
 use Rattle.tg_translate.specs.Returning.{given_back}
 use Rattle.tg_translate.specs.Functions.{gives_nothing, closing}
 use Rattle.tg_translate.specs.Translate.{connective, with_left, chosen_arm, choice, assignment, declaration_of, Begun}
-use Rattle.tg_translate_laws.proofs.Spreading.{tx_length, tx_room, cond_length, cond_room, ts_length, ts_room, stms_length, stms_room, txs_room}
+use Rattle.tg_translate_laws.proofs.Spreading.{tx_length, tx_needs, cond_length, cond_needs, ts_length, ts_needs, stms_length, stms_needs, txs_needs}
 use Rattle.tg_translate_laws.proofs.Spreading.{less_ts, given_back_most}
-use Rattle.tg_translate_laws.proofs.Sizing.{most_arguments, made_length, made_room, place_length, place_room, held_length, held_room, followed_size, put_size}
-use Rattle.tg_translate_laws.proofs.Sizing.{dropped_size, test_size, statement_size, deliver_size, behind_size, tested_size, chosen_size, own_place_size}
-use Rattle.tg_translate_laws.proofs.Sizing.{read_size, store_size, operand_size, read_held_size, field_size, element_size, routine_size, comparison_size}
-use Rattle.tg_translate_laws.proofs.Sizing.{binary_size, product_size, divide_size, quotient_size, count_size, lifted_at_most, arguments_at_most}
+use Rattle.tg_translate_laws.proofs.Sizing.{most_arguments, made_length, made_needs, place_length, place_needs, held_length, held_needs, followed_size}
+use Rattle.tg_translate_laws.proofs.Sizing.{put_size, dropped_size, test_size, statement_size, deliver_size, behind_size, tested_size, chosen_size}
+use Rattle.tg_translate_laws.proofs.Sizing.{own_place_size, read_size, store_size, operand_size, read_held_size, field_size, element_size, routine_size}
+use Rattle.tg_translate_laws.proofs.Sizing.{comparison_size, binary_size, product_size, divide_size, quotient_size, count_size, lifted_at_most}
+use Rattle.tg_translate_laws.proofs.Sizing.{arguments_at_most}
 use Rattle.tg_stack_bounds.proofs.Leading.{LevelTable, Keeps, Crosses}
 use Rattle.tg_stack_bounds.proofs.Giving.{Gives, bind, then_quiet, given, weaken, any_fresh, any_arms, any_declared, IsPaidBody}
 
@@ -74,50 +75,50 @@ calls most n = weight (1 + n.nodes) (most + n.hops)
 
 -- What a text of so many nodes pays for.
 
-abbrev pub Most : (length room most_length most_room : ℕ) → Type 0
+abbrev pub Most : (length room most_length most_needs : ℕ) → Type 0
 Most k r l m = (k ≤ l) × (r ≤ m)
 
 abbrev pub PaidTx : Weight → Tx → Type 0
-PaidTx n x = Most (tx_length x + 6) (tx_room x + 10) (90 * n.nodes + 4 * n.hops) (44 * n.nodes + 6 * n.hops)
+PaidTx n x = Most (tx_length x + 6) (tx_needs x + 10) (90 * n.nodes + 4 * n.hops) (44 * n.nodes + 6 * n.hops)
 
 abbrev pub PaidCond : Weight → Cond → Type 0
-PaidCond n c = Most (cond_length c) (cond_room c) (90 * n.nodes + 4 * n.hops) ((44 * n.nodes + 6 * n.hops) + 6)
+PaidCond n c = Most (cond_length c) (cond_needs c) (90 * n.nodes + 4 * n.hops) ((44 * n.nodes + 6 * n.hops) + 6)
 
 abbrev pub PaidTs : Weight → Ts → Type 0
-PaidTs n s = Most (ts_length s + 4) (ts_room s + 10) (90 * n.nodes + 4 * n.hops) (44 * n.nodes + 6 * n.hops)
+PaidTs n s = Most (ts_length s + 4) (ts_needs s + 10) (90 * n.nodes + 4 * n.hops) (44 * n.nodes + 6 * n.hops)
 
 abbrev pub Paid : Weight → Made → Type 0
-Paid n m = Most (made_length m + 6) (made_room m + 10) (90 * n.nodes + 4 * n.hops) (44 * n.nodes + 6 * n.hops)
+Paid n m = Most (made_length m + 6) (made_needs m + 10) (90 * n.nodes + 4 * n.hops) (44 * n.nodes + 6 * n.hops)
 
 abbrev pub PaidPlace : Weight → Storage → Type 0
-PaidPlace n p = Most (place_length p) (place_room p) (90 * n.nodes + 4 * n.hops) (44 * n.nodes + 6 * n.hops)
+PaidPlace n p = Most (place_length p) (place_needs p) (90 * n.nodes + 4 * n.hops) (44 * n.nodes + 6 * n.hops)
 
 abbrev pub PaidRead : Weight → Tx → Type 0
-PaidRead n x = Most (tx_length x) (tx_room x) ((90 * n.nodes + 4 * n.hops) + 1) ((44 * n.nodes + 6 * n.hops) + 2)
+PaidRead n x = Most (tx_length x) (tx_needs x) ((90 * n.nodes + 4 * n.hops) + 1) ((44 * n.nodes + 6 * n.hops) + 2)
 
 abbrev pub PaidTxs : Weight → Txs → Txs → Type 0
 PaidTxs n before xs =
-    Most (most_arguments xs) (txs_room xs) (most_arguments before + (90 * n.nodes + 4 * n.hops)) (txs_room before + (44 * n.nodes + 6 * n.hops))
+    Most (most_arguments xs) (txs_needs xs) (most_arguments before + (90 * n.nodes + 4 * n.hops)) (txs_needs before + (44 * n.nodes + 6 * n.hops))
 
 abbrev pub PaidFields : Weight → HeldAll → HeldAll → Type 0
 PaidFields n before all =
-    Most (held_length all) (held_room all) (held_length before + (90 * n.nodes + 4 * n.hops)) (held_room before + (44 * n.nodes + 6 * n.hops))
+    Most (held_length all) (held_needs all) (held_length before + (90 * n.nodes + 4 * n.hops)) (held_needs before + (44 * n.nodes + 6 * n.hops))
 
 abbrev pub PaidStms : Weight → Stms → Stms → Type 0
 PaidStms n before ss =
-    Most (stms_length ss) (stms_room ss) (stms_length before + (90 * n.nodes + 4 * n.hops)) (stms_room before + (44 * n.nodes + 6 * n.hops))
+    Most (stms_length ss) (stms_needs ss) (stms_length before + (90 * n.nodes + 4 * n.hops)) (stms_needs before + (44 * n.nodes + 6 * n.hops))
 
 abbrev pub PaidBegun : Weight → Stms → Begun → Type 0
 PaidBegun n before b =
-    Most (stms_length b.before + made_length b.last) (stms_room b.before + made_room b.last)
-    (stms_length before + ((90 * n.nodes + 4 * n.hops) + 2)) (stms_room before + ((44 * n.nodes + 6 * n.hops) + 2))
+    Most (stms_length b.before + made_length b.last) (stms_needs b.before + made_needs b.last)
+    (stms_length before + ((90 * n.nodes + 4 * n.hops) + 2)) (stms_needs before + ((44 * n.nodes + 6 * n.hops) + 2))
 
 module _ (table : LevelTable) where
   -- Values.
 
   -- at most as long, and of as much room, as what it is made of
   abbrev AsMade : Made → Tx → Type 0
-  AsMade m x = Most (tx_length x) (tx_room x) (made_length m) (made_room m)
+  AsMade m x = Most (tx_length x) (tx_needs x) (made_length m) (made_needs m)
 
   value_size : (m : Made) (s : TranslationState) → Keeps table s → Gives table s [] (AsMade m) (value_of m s)
   value_size (value x) s sound = given table s sound x (omega arith, omega arith)
@@ -148,8 +149,8 @@ module _ (table : LevelTable) where
 
   abbrev IsHeld : (before : Stms) → Tx → Held → Type 0
   IsHeld before x h =
-      Most (stms_length h.before + 2 * tx_length (operand h.operand)) (stms_room h.before + tx_room (operand h.operand))
-      (stms_length before + (tx_length x + 2)) (stms_room before + (tx_room x + 1))
+      Most (stms_length h.before + 2 * tx_length (operand h.operand)) (stms_needs h.before + tx_needs (operand h.operand))
+      (stms_length before + (tx_length x + 2)) (stms_needs before + (tx_needs x + 1))
 
   keep_size : (before : Stms) (x : Tx) (s : TranslationState) → Keeps table s → Gives table s [] (IsHeld before x) (keep before x s)
   keep_size before x s sound =
@@ -175,7 +176,7 @@ module _ (table : LevelTable) where
   -- What an operator of two values adds to them.
 
   abbrev Added : (length room : ℕ) (x y : Tx) → Made → Type 0
-  Added k r x y m = Most (made_length m) (made_room m) (tx_length x + (tx_length y + k)) (tx_room x + (tx_room y + r))
+  Added k r x y m = Most (made_length m) (made_needs m) (tx_length x + (tx_length y + k)) (tx_needs x + (tx_needs y + r))
 
   product_added : (direct : Bool) (x y : Tx) (s : TranslationState) → Keeps table s → Gives table s [] (Added 88 52 x y) (product direct x y s)
   product_added direct x y s sound =
@@ -245,7 +246,7 @@ module _ (table : LevelTable) where
       (omega (arith, h.0, k.0, e.0, i.0, j.0), omega (arith, h.1, k.1, e.1, i.1, j.1, p.1, q.1)))
 
   assign_size : (p : Storage) (m : Made) (s : TranslationState) → Keeps table s →
-      Gives table s [] (λ x. Most (ts_length x) (ts_room x) (place_length p + (made_length m + 3)) (place_room p + made_room m))
+      Gives table s [] (λ x. Most (ts_length x) (ts_needs x) (place_length p + (made_length m + 3)) (place_needs p + made_needs m))
       (assign p m s)
   assign_size (in_temp t) m s sound = given table s sound (put_in t m) (let h = put_size t m in (omega (arith, h.0), omega (arith, h.1)))
   assign_size (at_address ss a) m s sound =
@@ -256,8 +257,8 @@ module _ (table : LevelTable) where
 
   abbrev HeldAs : Stms → Tx → HeldAt → Type 0
   HeldAs before x h =
-      Most (stms_length h.before + tx_length (held_address h.address)) (stms_room h.before + tx_room (held_address h.address))
-      (stms_length before + (tx_length x + 2)) (stms_room before + (tx_room x + 1))
+      Most (stms_length h.before + tx_length (held_address h.address)) (stms_needs h.before + tx_needs (held_address h.address))
+      (stms_length before + (tx_length x + 2)) (stms_needs before + (tx_needs x + 1))
 
   beside_size : (before : Stms) (x : Tx) (o : Bin) (k : ℕ) (s : TranslationState) → Keeps table s →
       Gives table s [] (HeldAs before (tree.Binary o x (Const k))) (hold_base before x (λ p. Beside p o k) s)
@@ -279,7 +280,7 @@ module _ (table : LevelTable) where
   hold_address_size before x s sound = at_size before x s sound
 
   hold_place_size : (p : Storage) (s : TranslationState) → Keeps table s →
-      Gives table s [] (λ q. Most (place_length (place_held q)) (place_room (place_held q)) (place_length p + 2) (place_room p + 1))
+      Gives table s [] (λ q. Most (place_length (place_held q)) (place_needs (place_held q)) (place_length p + 2) (place_needs p + 1))
       (hold_place p s)
   hold_place_size (in_temp t) s sound = given table s sound (held_in_temp t) (omega arith, omega arith)
   hold_place_size (at_address ss a) s sound =
@@ -314,7 +315,7 @@ module _ (table : LevelTable) where
 
   abbrev BehindOf : Stms → Made → Made → Type 0
   BehindOf ss m x =
-      Most (made_length x) (made_room x) (stms_length ss + (made_length m + 4)) (stms_room ss + (made_room m + 2))
+      Most (made_length x) (made_needs x) (stms_length ss + (made_length m + 4)) (stms_needs ss + (made_needs m + 2))
 
   behind_value : (ss : Stms) (m : Made) (s : TranslationState) → Keeps table s →
       Gives table s [] (BehindOf ss m) (after (value_of m s) (λ x. give (value_behind ss x)))
@@ -344,14 +345,14 @@ module _ (table : LevelTable) where
 
   -- a frame further out, by the levels that are crossed
 
-  frame_out_size : (kept : Bool) (hops : ℕ) → (tx_length (frame_out kept hops) ≤ 1 + 4 * hops) × (tx_room (frame_out kept hops) ≤ 2 + 6 * hops)
+  frame_out_size : (kept : Bool) (hops : ℕ) → (tx_length (frame_out kept hops) ≤ 1 + 4 * hops) × (tx_needs (frame_out kept hops) ≤ 2 + 6 * hops)
   frame_out_size kept zero = (omega arith, omega arith)
   frame_out_size true (suc zero) = (omega arith, omega arith)
   frame_out_size false (suc zero) = (omega arith, omega arith)
   frame_out_size kept (suc (suc n)) = let h = frame_out_size kept (suc n) in (omega (arith, h.0), omega (arith, h.1))
 
   place_in_size : (frame : Tx) (a : Access) →
-      (place_length (place_in frame a) ≤ tx_length frame + 3) × (place_room (place_in frame a) ≤ tx_room frame + 4)
+      (place_length (place_in frame a) ≤ tx_length frame + 3) × (place_needs (place_in frame a) ≤ tx_needs frame + 4)
   place_in_size frame (InTemp t) = (omega arith, omega arith)
   place_in_size frame (InFrame k) = (omega arith, omega arith)
 
@@ -369,7 +370,7 @@ module _ (table : LevelTable) where
       Gives table s [] (PaidPlace (uses most)) (variable_place c meaning s)
   paid_variable c most None s sound l = given table s sound nowhere (omega arith, omega arith)
   paid_variable c most (Some (means.Variable at)) s sound l =
-      given table s sound (home_place c (named at s.homes)) (home_paid c most at (named at s.homes) (sound.home at) l)
+      given table s sound (home_place c (looked_up at s.homes)) (home_paid c most at (looked_up at s.homes) (sound.home at) l)
   paid_variable c most (Some other) s sound l = given table s sound nowhere (omega arith, omega arith)
 
   callee_paid : (n : Weight) (c : Within) (most at : ℕ) (xs : Txs) (callee : Option Callee) → ((k : Callee) → callee ≡ Some k →
@@ -391,7 +392,7 @@ module _ (table : LevelTable) where
       given table s sound (constructs.call_routine (routine_of f) xs)
       (let k = routine_size (routine_of f) xs in (omega (arith, h.0, k.0), omega (arith, h.1, k.1)))
   paid_call n c most (Some (means.Function at)) xs s sound l h =
-      given table s sound (call_declared c xs (named at s.callees)) (callee_paid n c most at xs (named at s.callees) (sound.callee at) l h)
+      given table s sound (call_declared c xs (looked_up at s.callees)) (callee_paid n c most at xs (looked_up at s.callees) (sound.callee at) l h)
   paid_call n c most (Some other) xs s sound l h = given table s sound no_value (omega arith, omega arith)
 
   -- Operators: the left side is made, and the right one is translated for what it is to be.
@@ -459,7 +460,7 @@ module _ (table : LevelTable) where
 
   pub paid_count : (n m k : Weight) (home : Access) (x y : Tx) (turn : Ts) (s : TranslationState) → Keeps table s → PaidTx n x → PaidTx m y →
       PaidTs k turn →
-      Gives table s [] (λ z. Most (ts_length z + 8) (ts_room z + 12) (90 * (1 + n.nodes + m.nodes + k.nodes) + 4 * (n.hops + m.hops + k.hops))
+      Gives table s [] (λ z. Most (ts_length z + 8) (ts_needs z + 12) (90 * (1 + n.nodes + m.nodes + k.nodes) + 4 * (n.hops + m.hops + k.hops))
       (44 * (1 + n.nodes + m.nodes + k.nodes) + 6 * (n.hops + m.hops + k.hops)))
       (count home x y turn s)
   paid_count n m k home x y turn s sound h i j =

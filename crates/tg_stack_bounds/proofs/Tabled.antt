@@ -6,9 +6,9 @@ use Rattle.std.specs.Prelude.{if◌then◌else◌}
 use Rattle.std.specs.Ordering.{nat_cmp}
 use Rattle.std.specs.FinSet.{FinSet}
 use Rattle.std.proofs.lemmas.Bool.{eqb-true, eq-eqb}
-use Rattle.tg_symbols.specs.Tables.{named}
+use Rattle.tg_symbols.specs.Tables.{looked_up}
 use Rattle.tg_frame.specs.declared.accesses.Access.TheVariants.{InTemp}
-use Rattle.tg_types.specs.Scopes.{outermost, at_of}
+use Rattle.tg_types.specs.Scopes.{outermost_scope, at_of}
 use Rattle.tg_types.specs.Programs.{CheckedProgram, IsAccepted}
 use Rattle.tg_types.proofs.Derivations.{checked_has_type}
 use Rattle.tg_types.proofs.NotesFound.{notes_are_found}
@@ -17,7 +17,7 @@ use Rattle.tg_translate.specs.declared.homes.Callee.{Callee}
 use Rattle.tg_translate.specs.declared.wants.Want.TheVariants as want
 use Rattle.tg_translate.specs.Functions as functions
 use Rattle.tg_translate_laws.specs.Laws.{findings_in}
-use Rattle.tg_translate_proof.specs.Tables.{Table, IsBehind}
+use Rattle.tg_translate_proof.specs.Tables.{Table, IsSuffix}
 use Rattle.tg_translate_proof.specs.Laws.{findings_of}
 use Rattle.tg_translate_proof.proofs.Programs.{first_state}
 use Rattle.tg_translate_proof.proofs.Covering.{Declares, HasVariable, HasFunction, IsWeighed}
@@ -32,25 +32,25 @@ abbrev padded : {A : Type 0} → (at : ℕ) → Option A → A → List (ℕ × 
 padded at (Some _) a xs = xs
 padded at None a xs = (at, a) ∷ xs
 
-padded_behind : {A : Type 0} (at : ℕ) (o : Option A) (a : A) (xs : List (ℕ × A)) → IsBehind (padded at o a xs) xs
+padded_behind : {A : Type 0} (at : ℕ) (o : Option A) (a : A) (xs : List (ℕ × A)) → IsSuffix (padded at o a xs) xs
 padded_behind at (Some b) a xs = record { more = []; whole_is = refl }
 padded_behind at None a xs = record { more = (at, a) ∷ []; whole_is = refl }
 
-named_here : {A : Type 0} (at : ℕ) (a : A) (xs : List (ℕ × A)) → named at ((at, a) ∷ xs) ≡ Some a
-named_here at a xs = ap (λ t. if t then Some a else named at xs) (eq-eqb at at refl)
+named_here : {A : Type 0} (at : ℕ) (a : A) (xs : List (ℕ × A)) → looked_up at ((at, a) ∷ xs) ≡ Some a
+named_here at a xs = ap (λ t. if t then Some a else looked_up at xs) (eq-eqb at at refl)
 
 tail_is : {A : Type 0} {x y : A} {xs ys : List A} → x ∷ xs ≡ y ∷ ys → xs ≡ ys
 tail_is e = cc
 
-one_more_once : {A : Type 0} (at : ℕ) (a : A) (xs : List (ℕ × A)) → named at xs ≡ None → Once xs → Once ((at, a) ∷ xs)
-one_more_once at a xs e once k c [] rest is there = ap (λ l. named k l) is ∙ there
+one_more_once : {A : Type 0} (at : ℕ) (a : A) (xs : List (ℕ × A)) → looked_up at xs ≡ None → Once xs → Once ((at, a) ∷ xs)
+one_more_once at a xs e once k c [] rest is there = ap (λ l. looked_up k l) is ∙ there
 one_more_once at a xs e once k c (m ∷ more) rest is there = by (at == k) refl (once k c more rest (tail_is is) there)
   where
-    by : (t : Bool) → (at == k) ≡ t → named k xs ≡ Some c → (if t then Some a else named k xs) ≡ Some c
-    by true i h = let same : at ≡ k = eqb-true at k i in let none : named k xs ≡ None = ap (λ j. named j xs) (sym same) ∙ e in cc
+    by : (t : Bool) → (at == k) ≡ t → looked_up k xs ≡ Some c → (if t then Some a else looked_up k xs) ≡ Some c
+    by true i h = let same : at ≡ k = eqb-true at k i in let none : looked_up k xs ≡ None = ap (λ j. looked_up j xs) (sym same) ∙ e in cc
     by false i h = h
 
-padded_once : {A : Type 0} (at : ℕ) (o : Option A) (a : A) (xs : List (ℕ × A)) → named at xs ≡ o → Once xs → Once (padded at o a xs)
+padded_once : {A : Type 0} (at : ℕ) (o : Option A) (a : A) (xs : List (ℕ × A)) → looked_up at xs ≡ o → Once xs → Once (padded at o a xs)
 padded_once at (Some b) a xs e once = once
 padded_once at None a xs e once = one_more_once at a xs e once
 
@@ -78,33 +78,33 @@ module _ (p : CheckedProgram) (a : IsAccepted p) where
   callees = (last p a).callees
 
   abbrev pub levels : LevelTable
-  levels = record { variables = λ at. home_level (named at homes); functions = λ at. callee_level (named at callees) }
+  levels = record { variables = λ at. home_level (looked_up at homes); functions = λ at. callee_level (looked_up at callees) }
 
   abbrev wide : ℕ → Table
-  wide at = record { homes = padded at (named at homes) no_home homes; callees = padded at (named at callees) no_callee callees }
+  wide at = record { homes = padded at (looked_up at homes) no_home homes; callees = padded at (looked_up at callees) no_callee callees }
 
   variable_is : (at n : ℕ) → HasVariable (wide at) n at → n ≡ levels.variables at
-  variable_is at n has = by (named at homes) refl has
+  variable_is at n has = by (looked_up at homes) refl has
     where
-      by : (o : Option Home) → named at homes ≡ o → ((home : Home) → named at (padded at o no_home homes) ≡ Some home → home.level ≡ n) →
+      by : (o : Option Home) → looked_up at homes ≡ o → ((home : Home) → looked_up at (padded at o no_home homes) ≡ Some home → home.level ≡ n) →
           n ≡ home_level o
       by (Some home) e h = sym (h home e)
       by None e h = sym (h no_home (named_here at no_home homes))
 
   function_is : (at n : ℕ) → HasFunction (wide at) n at → n ≡ levels.functions at
-  function_is at n has = by (named at callees) refl has
+  function_is at n has = by (looked_up at callees) refl has
     where
-      by : (o : Option Callee) → named at callees ≡ o →
-          ((callee : Callee) → named at (padded at o no_callee callees) ≡ Some callee → callee.level ≡ n) → n ≡ callee_level o
+      by : (o : Option Callee) → looked_up at callees ≡ o →
+          ((callee : Callee) → looked_up at (padded at o no_callee callees) ≡ Some callee → callee.level ≡ n) → n ≡ callee_level o
       by (Some callee) e h = sym (h callee e)
       by None e h = sym (h no_callee (named_here at no_callee callees))
 
   in_wide : (at : ℕ) → InTable (wide at) (weights p a) (last p a)
   in_wide at = record {
-    homes = padded_behind at (named at homes) no_home homes;
-    callees = padded_behind at (named at callees) no_callee callees;
-    homes_once = padded_once at (named at homes) no_home homes refl (homes_once p a);
-    callees_once = padded_once at (named at callees) no_callee callees refl (callees_once p a);
+    homes = padded_behind at (looked_up at homes) no_home homes;
+    callees = padded_behind at (looked_up at callees) no_callee callees;
+    homes_once = padded_once at (looked_up at homes) no_home homes refl (homes_once p a);
+    callees_once = padded_once at (looked_up at callees) no_callee callees refl (callees_once p a);
   }
 
   fits : (at : ℕ) → Declares (HasVariable (wide at)) (IsWeighed (wide at) (weights p a)) 0 [] p.body
@@ -115,5 +115,5 @@ module _ (p : CheckedProgram) (a : IsAccepted p) where
   accepted_leads links =
       let d = checked_has_type p a in
       leads levels (findings_in p links) d.shapes p.notes (λ at. HasVariable (wide at)) (λ at. IsWeighed (wide at) (weights p a)) variable_is
-      (λ f n seen ps body h. function_is (at_of f) n h.0) (λ at m s. (notes_are_found p a at m).0 s) p.body (outermost p.names) d.type 0 [] d.has
+      (λ f n seen ps body h. function_is (at_of f) n h.0) (λ at m s. (notes_are_found p a at m).0 s) p.body (outermost_scope p.names) d.type 0 [] d.has
       (first_agrees levels (findings_in p links) d.shapes p.notes p.names) fits

@@ -25,12 +25,12 @@ use Rattle.tg_code_bounds.specs.Laws.{FramesAreSmall}
 use Rattle.tg_munch.specs.Lengths.{TemporariesAreFew, ShiftsAreLong}
 use Rattle.tg_stack_bounds.specs.Weights.{IsLight, FramesAreLight, FitsRuntime, AreWithinWeight, AcceptedTreesAreLight, ProgramFramesAreLight}
 
-pub frames_are_light : carried.LengthStays → carried.RoomStays → TemporariesAreFew → ShiftsAreLong →
+pub frames_are_light : carried.LengthStays → carried.NeedsStay → TemporariesAreFew → ShiftsAreLong →
     AllocationsAreShort → FramesAreLight
-frames_are_light length_stays room_stays few long short rule m f a may h light =
+frames_are_light length_stays needs_stay few long short rule m f a may h light =
     let g = flattened f in
     let grown = length_stays f may in
-    let room = room_stays f may in
+    let room = needs_stay f may in
     let drawn = few g in
     let shifts = long g in
     let spilled = (short rule h.code h.frame a h.allocation).slots in

@@ -8,7 +8,7 @@ use Rattle.tg_syntax.specs.Functions.{Measures, program_functions}
 use Rattle.tg_semantics.specs.Levels.{activation}
 use Rattle.tg_types.specs.Programs.{CheckedProgram, IsAccepted}
 use Rattle.tg_tree.specs.Tree.{Ts, Function}
-use Rattle.tg_tree.specs.Sizes.{tree_length, tree_room}
+use Rattle.tg_tree.specs.Sizes.{tree_length, tree_needs}
 use Rattle.tg_translate.specs.Translate.{translated}
 use Rattle.tg_translate_laws.specs.Laws.{findings_in}
 use Rattle.tg_flatten_proof.specs.Flattened.{MayBeFlattened}
@@ -22,7 +22,7 @@ use Rattle.tg_code_bounds.specs.Laws.{AreAllocationsOf}
 -- length together, and for each parameter of the frame a little.
 pub record IsLight (m : Measures) (f : Function Ts) : Type 0 where
   pub light :
-      7 * tree_room f + tree_length f + 8 * length f.params
+      7 * tree_needs f + tree_length f + 8 * length f.params
       ≤ 448 * m.nodes + 112 * m.hops + 1727
 
 -- a frame within what an activation of its function weighs

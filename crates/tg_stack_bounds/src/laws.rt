@@ -4,19 +4,19 @@ ghost use Rattle.tg_stack_bounds.specs.Weights.{
   ProgramFramesAreLight,
 };
 
-use tg_code_bounds::functions_are_short;
-use tg_flatten_proof::sizes_stay;
+use tg_code_bounds::functions_are_bounded;
+use tg_flatten_proof::flatten_is_bounded;
 use tg_munch::temporaries_are_few;
 use tg_regalloc::allocations_are_short;
 use tg_runtime::routines_are_closed;
-use tg_translate_laws::{bodies_are_closed, frames_are_small, temporaries_are_drawn};
+use tg_translate_laws::{bodies_are_closed, temporaries_are_drawn, translate_is_bounded};
 
 /// Law of the trees of an accepted program: each takes as much room and length as its nodes and the
 /// levels that it crosses pay for.
 pub fn trees_are_light()
     ensures { AcceptedTreesAreLight }
 {
-    frames_are_small();
+    translate_is_bounded();
 }
 
 /// Laws of the frames of functions that are allocated, by any policy, where their trees are light,
@@ -26,10 +26,10 @@ pub fn frames_are_light()
     ensures frames { FramesAreLight }
     ensures programs { ProgramFramesAreLight }
 {
-    sizes_stay();
+    flatten_is_bounded();
     temporaries_are_few();
     allocations_are_short();
-    functions_are_short();
+    functions_are_bounded();
     bodies_are_closed();
     temporaries_are_drawn();
     routines_are_closed();

@@ -144,8 +144,8 @@ abbrev pub padded : List ℕ → List ℕ
 padded bytes = bytes ++ replicate ((4 - length bytes % 4) % 4) 0
 
 -- the machine at the start of a program
-abbrev pub start : (code statics : List ℕ) (entry heap stack : ℕ) → MachineState
-start code statics entry heap stack = record {
+abbrev pub initial_machine : (code statics : List ℕ) (entry heap stack : ℕ) → MachineState
+initial_machine code statics entry heap stack = record {
   registers = slice_set (replicate 32 0) 29 stack_top;
   hi = 0;
   lo = 0;

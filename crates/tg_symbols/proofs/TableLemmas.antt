@@ -4,7 +4,7 @@ use Rattle.std.proofs.Common.{◌≡◌, ℕ, zero, suc, ◌+◌, ◌-◌, ◌<�
 use Rattle.std.proofs.Common.{refl, sym, ap, ◌∙◌, arith, length-drop, length-append, append_assoc}
 use Rattle.std.proofs.lemmas.List.{length-reverse, get_or-reverse, reverse-append}
 use Rattle.tg_symbols.specs.declared.tables.Entry.{Entry}
-use Rattle.tg_symbols.specs.Tables.{named}
+use Rattle.tg_symbols.specs.Tables.{looked_up}
 use Rattle.tg_symbols.specs.Tables.{top_of, placed_at, entries_of}
 
 abbrev pub pair : {V : Type 0} → Entry V → ℕ × V
@@ -30,18 +30,18 @@ at_top false e d es k o v f h =
     (f h).1 ∙ ap (λ j. Some (get_or (e ∷ es) j d).value) (sym i)
 
 pub named_top : {V : Type 0} (x : ℕ) (es : List (Entry V)) (k : ℕ) (d : Entry V) → top_of x es ≡ Some k →
-    named x (map pair es) ≡ Some (get_or es (length es - 1 - k) d).value
+    looked_up x (map pair es) ≡ Some (get_or es (length es - 1 - k) d).value
 named_top x [] k d h = grind arith
-named_top x (e ∷ es) k d h = at_top (e.name == x) e d es k (top_of x es) (named x (map pair es)) (λ i. (top_below x es k i, named_top x es k d i)) h
+named_top x (e ∷ es) k d h = at_top (e.name == x) e d es k (top_of x es) (looked_up x (map pair es)) (λ i. (top_below x es k i, named_top x es k d i)) h
 
 not_there : {V : Type 0} (b : Bool) (v : V) (n : ℕ) (o : Option ℕ) (w : Option V) → (o ≡ None → w ≡ None) → (if b then Some n else o) ≡ None →
     (if b then Some v else w) ≡ None
 not_there true v n o w f h = grind arith
 not_there false v n o w f h = f h
 
-pub named_none : {V : Type 0} (x : ℕ) (es : List (Entry V)) → top_of x es ≡ None → named x (map pair es) ≡ None
+pub named_none : {V : Type 0} (x : ℕ) (es : List (Entry V)) → top_of x es ≡ None → looked_up x (map pair es) ≡ None
 named_none x [] h = refl
-named_none x (e ∷ es) h = not_there (e.name == x) e.value (length es) (top_of x es) (named x (map pair es)) (named_none x es) h
+named_none x (e ∷ es) h = not_there (e.name == x) e.value (length es) (top_of x es) (looked_up x (map pair es)) (named_none x es) h
 
 placed_top : (b : Bool) (from n k : ℕ) (o p : Option ℕ) → (o ≡ Some k → (k < n) × (p ≡ Some (suc from + (n - 1 - k)))) → (if b then Some n else o) ≡ Some k →
     (if b then Some from else p) ≡ Some (from + (suc n - 1 - k))
@@ -69,7 +69,7 @@ placed_none x from (e ∷ es) h = nowhere (e.name == x) from (length es) (top_of
 
 -- by places from the oldest on
 pub named_by_place : {V : Type 0} (x : ℕ) (entries : List (Entry V)) (k : ℕ) (e : Entry V) → top_of x (reverse entries) ≡ Some k → e ≡ get_or entries k e →
-    named x (entries_of entries) ≡ Some e.value
+    looked_up x (entries_of entries) ≡ Some e.value
 named_by_place x entries k e h i =
     let b : k < length entries = omega (arith, top_below x (reverse entries) k h, length-reverse entries) in
     let j : length entries - 1 - (length (reverse entries) - 1 - k) ≡ k = omega (arith, b, length-reverse entries) in

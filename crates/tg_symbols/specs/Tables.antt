@@ -7,9 +7,9 @@ use Rattle.std.specs.HashMap.{HashMap}
 use Rattle.tg_symbols.specs.declared.tables.Entry.{Entry}
 
 -- what a name has: what the first entry of that name has
-abbrev pub named : {A : Type 0} → ℕ → List (ℕ × A) → Option A
-named x [] = None
-named x (entry ∷ rest) = if entry.0 == x then Some entry.1 else named x rest
+abbrev pub looked_up : {A : Type 0} → ℕ → List (ℕ × A) → Option A
+looked_up x [] = None
+looked_up x (entry ∷ rest) = if entry.0 == x then Some entry.1 else looked_up x rest
 
 -- the place of a name, from the newest on, counted from a number
 abbrev pub placed_at : {A : Type 0} → ℕ → (from : ℕ) → List (ℕ × A) → Option ℕ

@@ -1,7 +1,7 @@
 ghost use Rattle.std.specs.Prelude.{◌≡◌, ◌≤◌, [], ◌∷◌, ◌++◌, drop, length, List};
 ghost use Rattle.std.specs.Prelude.{OnOk, OnErr, IfOk};
 ghost use Rattle.std.specs.Option.{option_copied};
-ghost use Rattle.tg_symbols.specs.Tables.{named, placed_at};
+ghost use Rattle.tg_symbols.specs.Tables.{looked_up, placed_at};
 
 use std::alloc::Global;
 use std::collections::HashMap;
@@ -59,7 +59,7 @@ impl<V: Drop> Table<V> {
 
     /// What a name has, by its newest entry.
     pub fn get(&self, name: u32) -> Option<&V>
-        ensures { option_copied result ≡ named name self.now }
+        ensures { option_copied result ≡ looked_up name self.now }
     {
         // (the slice tells the proof how many entries there may be)
         let _ = self.entries.as_slice();

@@ -9,7 +9,7 @@ use Rattle.tg_syntax.specs.declared.tokens.Sign.{Sign}
 use Rattle.tg_syntax.specs.declared.tokens.Sign.TheVariants.{Comma, LeftParen, RightParen, Minus}
 use Rattle.tg_syntax.specs.declared.tokens.Token.TheVariants as token
 use Rattle.tg_syntax.specs.declared.faults.LexRule.TheVariants.{L1, L2, L3, L4, L5, L6}
-use Rattle.tg_syntax.specs.Spellings.{word_text, sign_text, is_digit, is_blank, HasTokenForm, nothing, plain, Escape}
+use Rattle.tg_syntax.specs.Spellings.{word_text, sign_text, is_digit, is_white_space, HasTokenForm, nothing, plain, Escape}
 use Rattle.tg_syntax.specs.Lexing.{Lexes, spanned, IsLongest, OpensComment, Closes}
 use Rattle.tg_syntax.specs.LexicalFaults.{HasLexicalFault, met, LeadsTo, here, illegal_byte, comment_not_closed, in_string, bad_escape, large_int}
 use Rattle.tg_syntax.specs.LexicalFaults.{control_byte, end_in_escape, line_in_escape, IsBegun}
@@ -97,15 +97,15 @@ digit_escape (Escape.control x h) a b c e d = absurd (cc)
 digit_escape (Escape.decimal x y z h le) a b c e d = let same : z ≡ c = cc in ap is_digit (sym same) ∙ (bytes_of_digits (x ∷ y ∷ z ∷ []) h).1.1.0
 digit_escape (Escape.blanks x more h) a b c e d = let same : x ≡ a = cc in absurd (no_digit x h.0 (ap is_digit same ∙ d))
   where
-    no_digit : (x : ℕ) → is_blank x ≡ true → is_digit x ≡ true → ⊥
+    no_digit : (x : ℕ) → is_white_space x ≡ true → is_digit x ≡ true → ⊥
     no_digit x b d = grind (arith, nat_tests)
 
-three_begun : {xs : List ℕ} → IsBegun xs → (a b c : ℕ) → xs ≡ a ∷ b ∷ c ∷ [] → is_blank a ≡ true
+three_begun : {xs : List ℕ} → IsBegun xs → (a b c : ℕ) → xs ≡ a ∷ b ∷ c ∷ [] → is_white_space a ≡ true
 three_begun IsBegun.backslash a b c e = absurd (cc)
 three_begun IsBegun.caret a b c e = absurd (cc)
 three_begun (IsBegun.digit x h) a b c e = absurd (cc)
 three_begun (IsBegun.digits x y h k) a b c e = absurd (cc)
-three_begun (IsBegun.blanks x more h) a b c e = let same : x ≡ a = cc in ap is_blank (sym same) ∙ h.0
+three_begun (IsBegun.blanks x more h) a b c e = let same : x ≡ a = cc in ap is_white_space (sym same) ∙ h.0
 
 pub newline_for_digit : HasLexicalFault (34 ∷ 92 ∷ 51 ∷ 57 ∷ 10 ∷ []) L3 0
 newline_for_digit =
@@ -130,13 +130,13 @@ control_in_string = met (omega arith) here (in_string (codes "a") (codes "a") (1
     (control_byte 127 (34 ∷ []) refl (λ e. cc)))
 
 -- L4: `\q`
-one_begun : {xs : List ℕ} → IsBegun xs → (a : ℕ) → xs ≡ a ∷ [] → (a == 94 || (is_digit a || is_blank a)) ≡ true
+one_begun : {xs : List ℕ} → IsBegun xs → (a : ℕ) → xs ≡ a ∷ [] → (a == 94 || (is_digit a || is_white_space a)) ≡ true
 one_begun IsBegun.backslash a e = absurd (cc)
-one_begun IsBegun.caret a e = let same : 94 ≡ a = cc in ap (λ a. a == 94 || (is_digit a || is_blank a)) (sym same)
-one_begun (IsBegun.digit x h) a e = let same : x ≡ a = cc in ap (λ a. a == 94 || (is_digit a || is_blank a)) (sym same)
-    ∙ or_right (x == 94) (or_left (is_digit x) (is_blank x) h)
+one_begun IsBegun.caret a e = let same : 94 ≡ a = cc in ap (λ a. a == 94 || (is_digit a || is_white_space a)) (sym same)
+one_begun (IsBegun.digit x h) a e = let same : x ≡ a = cc in ap (λ a. a == 94 || (is_digit a || is_white_space a)) (sym same)
+    ∙ or_right (x == 94) (or_left (is_digit x) (is_white_space x) h)
 one_begun (IsBegun.digits x y h k) a e = absurd (cc)
-one_begun (IsBegun.blanks x more h) a e = let same : x ≡ a = cc in ap (λ a. a == 94 || (is_digit a || is_blank a)) (sym same)
+one_begun (IsBegun.blanks x more h) a e = let same : x ≡ a = cc in ap (λ a. a == 94 || (is_digit a || is_white_space a)) (sym same)
     ∙ or_right (x == 94) (or_right (is_digit x) h.0)
 
 one_escape : {xs meant : List ℕ} → Escape xs meant → (a : ℕ) → xs ≡ a ∷ [] → (a == 113) ≡ false

@@ -21,10 +21,11 @@ pub data Dec : Type 0 where
   one_variable : Ident → Option Ident → Exp → Dec
   one_function : Ident → List Param → Option Ident → Exp → Dec
 
-abbrev pub alone : Dec → Decs
-alone (one_type d) = types (d ∷ []) no_decs
-alone (one_variable x t e) = variable x t e no_decs
-alone (one_function f params result e) = functions (function f params result e no_functions) no_decs
+abbrev pub one_declaration : Dec → Decs
+one_declaration (one_type d) = types (d ∷ []) no_decs
+one_declaration (one_variable x t e) = variable x t e no_decs
+one_declaration (one_function f params result e) =
+    functions (function f params result e no_functions) no_decs
 
 abbrev pub snoc_function : FunDecs → Ident → List Param → Option Ident → Exp → FunDecs
 snoc_function no_functions f params result e = function f params result e no_functions
@@ -34,16 +35,16 @@ snoc_function (function g ps r b rest) f params result e =
 -- behind one group alone: in it, where it is of its kind
 abbrev pub behind_types : List TypeDec → Dec → Decs
 behind_types ts (one_type d) = types (ts ++ d ∷ []) no_decs
-behind_types ts d = types ts (alone d)
+behind_types ts d = types ts (one_declaration d)
 
 abbrev pub behind_functions : FunDecs → Dec → Decs
 behind_functions fs (one_function f params result e) =
     functions (snoc_function fs f params result e) no_decs
-behind_functions fs d = functions fs (alone d)
+behind_functions fs d = functions fs (one_declaration d)
 
 -- behind all: in the last group, where that is of its kind
 abbrev pub snoc_dec : Decs → Dec → Decs
-snoc_dec no_decs d = alone d
+snoc_dec no_decs d = one_declaration d
 snoc_dec (types ts no_decs) d = behind_types ts d
 snoc_dec (functions fs no_decs) d = behind_functions fs d
 snoc_dec (types ts rest) d = types ts (snoc_dec rest d)

@@ -5,8 +5,8 @@ use Rattle.std.specs.Str.Parse.{IsNumeral, digits_value}
 use Rattle.tg_syntax.specs.declared.faults.LexRule.{LexRule}
 use Rattle.tg_syntax.specs.declared.faults.LexRule.TheVariants.{L1, L2, L3, L4, L5, L6, L7}
 use Rattle.tg_syntax.specs.declared.tokens.Token.{Token}
-use Rattle.tg_syntax.specs.Spellings.{Spells, HasTokenForm, IsQuoted, Escape, AllAre, is_blank}
-use Rattle.tg_syntax.specs.Spellings.{is_digit}
+use Rattle.tg_syntax.specs.Spellings.{Spells, HasTokenForm, IsQuoted, Escape, AllAre}
+use Rattle.tg_syntax.specs.Spellings.{is_white_space, is_digit}
 use Rattle.tg_syntax.specs.Lexing.{OpensComment, Closes, IsLongest}
 
 -- from a byte on, the text is tokens, blanks and comments up to another byte, where this rest of it
@@ -15,7 +15,7 @@ pub data LeadsTo : ℕ → List ℕ → ℕ → List ℕ → Type 0 where
   here : {at : ℕ} {text : List ℕ} → LeadsTo at text at text
   blank :
       {at to : ℕ} (b : ℕ) {text rest : List ℕ} →
-      IsTrue (is_blank b) → LeadsTo (at + 1) text to rest →
+      IsTrue (is_white_space b) → LeadsTo (at + 1) text to rest →
       LeadsTo at (b ∷ text) to rest
   comment :
       {at to : ℕ} (inside : List ℕ) {text rest : List ℕ} →
@@ -33,7 +33,7 @@ pub data IsBegun : List ℕ → Type 0 where
   caret : IsBegun (94 ∷ [])
   digit : (a : ℕ) → IsTrue (is_digit a) → IsBegun (a ∷ [])
   digits : (a b : ℕ) → IsTrue (is_digit a) → IsTrue (is_digit b) → IsBegun (a ∷ b ∷ [])
-  blanks : (b : ℕ) (more : List ℕ) → AllAre is_blank (b ∷ more) → IsBegun (b ∷ more)
+  blanks : (b : ℕ) (more : List ℕ) → AllAre is_white_space (b ∷ more) → IsBegun (b ∷ more)
 
 -- a byte with which an escape that was begun neither goes on nor ends
 pub record Misfits (begun : List ℕ) (b : ℕ) : Type 0 where
@@ -68,7 +68,7 @@ pub data FaultInString (quote at : ℕ) : List ℕ → LexRule → ℕ → Type 
 pub data FaultAt (at : ℕ) : List ℕ → LexRule → ℕ → Type 0 where
   illegal_byte :
       (b : ℕ) (rest : List ℕ) →
-      IsTrue (not (is_blank b)) → ((more : List ℕ) → HasTokenForm (b ∷ more) → ⊥) →
+      IsTrue (not (is_white_space b)) → ((more : List ℕ) → HasTokenForm (b ∷ more) → ⊥) →
       FaultAt at (b ∷ rest) L1 at
   comment_not_closed :
       (behind : List ℕ) →

@@ -3,7 +3,7 @@ use Rattle.std.specs.Prelude.{ℕ, suc, ◌+◌, ◌≡◌, ◌≢◌, List, [],
 use Rattle.tg_syntax.specs.declared.tokens.Token.{Token}
 use Rattle.tg_syntax.specs.declared.tokens.Token.TheVariants.{End}
 use Rattle.tg_syntax.specs.declared.tokens.Spanned.{Spanned}
-use Rattle.tg_syntax.specs.Spellings.{Spells, HasTokenForm, is_blank}
+use Rattle.tg_syntax.specs.Spellings.{Spells, HasTokenForm, is_white_space}
 
 -- the text begins with these two bytes
 abbrev pub BeginsWithPair : ℕ → ℕ → List ℕ → Type 0
@@ -43,7 +43,7 @@ pub data Lexes (names : List (List ℕ)) : ℕ → List ℕ → List Spanned →
   ends : (at : ℕ) → Lexes names at [] (spanned End at at ∷ [])
   blank :
       {at : ℕ} (b : ℕ) {rest : List ℕ} {tokens : List Spanned} →
-      IsTrue (is_blank b) → Lexes names (at + 1) rest tokens →
+      IsTrue (is_white_space b) → Lexes names (at + 1) rest tokens →
       Lexes names at (b ∷ rest) tokens
   comment :
       {at : ℕ} (inside : List ℕ) {rest : List ℕ} {tokens : List Spanned} →

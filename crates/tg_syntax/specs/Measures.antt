@@ -103,5 +103,5 @@ abbrev mutual
   inner_functions (function _ _ _ body rest) = size body + inner body + inner_functions rest
 
 -- a number, or the greatest of 32 bits where it is as large or larger
-abbrev pub capped : ℕ → ℕ
-capped n = min n 4294967295
+abbrev pub saturated : ℕ → ℕ
+saturated n = min n 4294967295

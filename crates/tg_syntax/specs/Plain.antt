@@ -35,14 +35,14 @@ abbrev mutual
   plain_kind Break s = Exp.Break s
   plain_kind (Int n) s = Exp.Int s n
   plain_kind (Text bytes) s = Exp.Text s bytes
-  plain_kind (Read v) s = Exp.Read s (plain_place v)
+  plain_kind (Read v) s = Exp.Read s (plain_lvalue v)
   plain_kind (Call f args) s = Exp.Call s f (plain_exps args)
   plain_kind (Neg' _ sa a) s = Exp.Neg s (plain_kind a sa)
   plain_kind (Binary' op at _ sa a _ sb b) s =
       Exp.Binary s op at (plain_kind a sa) (plain_kind b sb)
   plain_kind (Make name all) s = Exp.Make s name (plain_inits all)
   plain_kind (Fill' name _ sa a _ sb b) s = Exp.Fill s name (plain_kind a sa) (plain_kind b sb)
-  plain_kind (Assign' v _ sa a) s = Exp.Assign s (plain_place v) (plain_kind a sa)
+  plain_kind (Assign' v _ sa a) s = Exp.Assign s (plain_lvalue v) (plain_kind a sa)
   plain_kind (If' _ sc c _ sa a None') s = Exp.When s (plain_kind c sc) (plain_kind a sa)
   plain_kind (If' _ sc c _ sa a (Some' _ sb b)) s =
       Exp.If s (plain_kind c sc) (plain_kind a sa) (plain_kind b sb)
@@ -52,10 +52,10 @@ abbrev mutual
   plain_kind (Let' _ ds es) s = Exp.Let s (plain_decs ds) (plain_exps es)
   plain_kind (Seq es) s = Exp.Seq s (plain_exps es)
 
-  pub plain_place : Var → LValue
-  plain_place (Simple x) = LValue.Simple x
-  plain_place (Field' _ v f) = LValue.Field (plain_place v) f
-  plain_place (Index' _ v _ s e) = LValue.Index (plain_place v) (plain_kind e s)
+  pub plain_lvalue : Var → LValue
+  plain_lvalue (Simple x) = LValue.Simple x
+  plain_lvalue (Field' _ v f) = LValue.Field (plain_lvalue v) f
+  plain_lvalue (Index' _ v _ s e) = LValue.Index (plain_lvalue v) (plain_kind e s)
 
   pub plain_exps : CodeExps → Exps
   plain_exps (Exps' _ row) = plain_exp_row row

@@ -75,8 +75,8 @@ abbrev pub is_name_byte : ℕ → Bool
 is_name_byte b = is_letter b || (is_digit b || b == 95)
 
 -- a tab, a newline, a form feed, a carriage return or a space
-abbrev pub is_blank : ℕ → Bool
-is_blank b = b == 9 || (b == 10 || (b == 12 || (b == 13 || b == 32)))
+abbrev pub is_white_space : ℕ → Bool
+is_white_space b = b == 9 || (b == 10 || (b == 12 || (b == 13 || b == 32)))
 
 -- each byte of a list is of a class
 abbrev pub AllAre : (ℕ → Bool) → List ℕ → Type 0
@@ -109,7 +109,8 @@ pub data Escape : List ℕ → List ℕ → Type 0 where
       digits_value 10 (a ∷ b ∷ c ∷ []) ≤ 255 →
       Escape (a ∷ b ∷ c ∷ []) (digits_value 10 (a ∷ b ∷ c ∷ []) ∷ [])
   -- blanks up to a backslash mean nothing
-  blanks : (b : ℕ) (more : List ℕ) → AllAre is_blank (b ∷ more) → Escape (b ∷ more ++ 92 ∷ []) []
+  blanks :
+      (b : ℕ) (more : List ℕ) → AllAre is_white_space (b ∷ more) → Escape (b ∷ more ++ 92 ∷ []) []
 
 pub data IsQuoted : List ℕ → List ℕ → Type 0 where
   nothing : IsQuoted [] []

@@ -1,5 +1,5 @@
 ghost use Rattle.std.specs.Prelude.{◌≡◌, IfOk};
-ghost use Rattle.tg_syntax.specs.Plain.{plain, plain_place};
+ghost use Rattle.tg_syntax.specs.Plain.{plain, plain_lvalue};
 ghost use Rattle.tg_syntax.specs.Lists.{exps_of, inits_of, decs_of};
 ghost use Rattle.tg_syntax.specs.Tree.{
   Nil as PlainNil,
@@ -114,7 +114,7 @@ pub fn text(span: Span, bytes: Bytes) -> Exp
 
 /// What an l-value holds.
 pub fn read(span: Span, place: Var) -> Exp
-    ensures { plain result ≡ PlainRead span (plain_place place) }
+    ensures { plain result ≡ PlainRead span (plain_lvalue place) }
 {
     Exp {
         span,
@@ -134,7 +134,7 @@ pub fn make(span: Span, name: Ident, inits: Vec<Init>) -> Exp
 
 /// An assignment.
 pub fn assign(alloc: Global, span: Span, place: Var, value: Exp) -> Result<Exp, Memory>
-    ensures { IfOk result (λ e. plain e ≡ PlainAssign span (plain_place place) (plain value)) }
+    ensures { IfOk result (λ e. plain e ≡ PlainAssign span (plain_lvalue place) (plain value)) }
 {
     let value = Box::new(alloc, value)?;
     Ok(Exp {
@@ -155,7 +155,7 @@ pub fn let_in(span: Span, decs: Vec<Dec>, body: Vec<Exp>) -> Exp
 
 /// A field of a record.
 pub fn field(alloc: Global, of: Var, name: Ident) -> Result<Var, Memory>
-    ensures { IfOk result (λ v. plain_place v ≡ PlainField (plain_place of) name) }
+    ensures { IfOk result (λ v. plain_lvalue v ≡ PlainField (plain_lvalue of) name) }
 {
     let of = Box::new(alloc, of)?;
     Ok(Var::Field(of, name))

@@ -1,6 +1,6 @@
 ghost use Rattle.std.specs.Prelude.{◌≡◌, sum_by};
 ghost use Rattle.tg_syntax.specs.Measures.{
-  capped,
+  saturated,
   size,
   place_size,
   exps_size,
@@ -11,7 +11,7 @@ ghost use Rattle.tg_syntax.specs.Measures.{
 };
 ghost use Rattle.tg_syntax.specs.Plain.{
   plain,
-  plain_place,
+  plain_lvalue,
   plain_exps,
   plain_inits,
   plain_dec,
@@ -26,7 +26,7 @@ use crate::trees::{Dec, Exp, Exps, Form, FunDecs, Inits, Kind, TypeDec, TypeDecs
 /// is declared in the body its declaration and its parameters count, and its own body doesn't.
 #[cycle(nodes)]
 pub fn nodes(body: &Exp) -> u32
-    ensures { result ≡ capped (size (plain body.now)) }
+    ensures { result ≡ saturated (size (plain body.now)) }
 {
     match &body.kind {
         Kind::Nil | Kind::Break | Kind::Int(_) | Kind::Text(_) => 1,
@@ -63,7 +63,7 @@ pub fn nodes(body: &Exp) -> u32
 // The nodes of an l-value.
 #[cycle(nodes)]
 fn place_nodes(place: &Var) -> u32
-    ensures { result ≡ capped (place_size (plain_place place.now)) }
+    ensures { result ≡ saturated (place_size (plain_lvalue place.now)) }
 {
     match place {
         Var::Simple(_) => 1,
@@ -77,7 +77,7 @@ fn place_nodes(place: &Var) -> u32
 // The nodes of a list of expressions.
 #[cycle(nodes)]
 fn list_nodes(exps: &Exps) -> u32
-    ensures { result ≡ capped (exps_size (plain_exps exps.now)) }
+    ensures { result ≡ saturated (exps_size (plain_exps exps.now)) }
 {
     let mut sum = 0u32;
     for e in &exps.items {
@@ -89,7 +89,7 @@ fn list_nodes(exps: &Exps) -> u32
 // The nodes of a record's field initialisers.
 #[cycle(nodes)]
 fn init_nodes(inits: &Inits) -> u32
-    ensures { result ≡ capped (inits_size (plain_inits inits.now)) }
+    ensures { result ≡ saturated (inits_size (plain_inits inits.now)) }
 {
     let mut sum = 0u32;
     for init in &inits.items {
@@ -101,7 +101,7 @@ fn init_nodes(inits: &Inits) -> u32
 // The nodes of a group of types, of a variable or of a group of functions.
 #[cycle(nodes)]
 fn dec_nodes(dec: &Dec) -> u32
-    ensures { result ≡ capped (decs_size (plain_dec dec.now no_decs)) }
+    ensures { result ≡ saturated (decs_size (plain_dec dec.now no_decs)) }
 {
     match dec {
         Dec::Types(types) => types_nodes(types),
@@ -111,7 +111,7 @@ fn dec_nodes(dec: &Dec) -> u32
 }
 
 fn types_nodes(types: &TypeDecs) -> u32
-    ensures { result ≡ capped (sum_by (λ d. type_size (plain_type d)) types.now) }
+    ensures { result ≡ saturated (sum_by (λ d. type_size (plain_type d)) types.now) }
 {
     let mut sum = 0u32;
     for dec in types.as_slice() {
@@ -121,7 +121,7 @@ fn types_nodes(types: &TypeDecs) -> u32
 }
 
 fn type_nodes(dec: &TypeDec) -> u32
-    ensures { result ≡ capped (type_size (plain_type dec.now)) }
+    ensures { result ≡ saturated (type_size (plain_type dec.now)) }
 {
     match &dec.form {
         Form::Alias(_) | Form::Array(_) => 2,
@@ -130,7 +130,7 @@ fn type_nodes(dec: &TypeDec) -> u32
 }
 
 fn functions_nodes(functions: &FunDecs) -> u32
-    ensures { result ≡ capped (functions_size (plain_functions functions.now)) }
+    ensures { result ≡ saturated (functions_size (plain_functions functions.now)) }
 {
     let mut sum = 0u32;
     for function in &functions.items {
@@ -142,7 +142,7 @@ fn functions_nodes(functions: &FunDecs) -> u32
 
 // A length, or the greatest number.
 fn count(length: usize) -> u32
-    ensures { result ≡ capped length }
+    ensures { result ≡ saturated length }
 {
     if length < 4294967295 {
         length as u32

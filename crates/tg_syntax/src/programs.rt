@@ -1,6 +1,6 @@
 ghost use Rattle.std.specs.Prelude.{◌≡◌};
 ghost use Rattle.tg_syntax.specs.Measures.{
-  capped,
+  saturated,
   inner,
   inner_place,
   inner_exps,
@@ -11,7 +11,7 @@ ghost use Rattle.tg_syntax.specs.Measures.{
 ghost use Rattle.tg_syntax.specs.Functions.{program_size};
 ghost use Rattle.tg_syntax.specs.Plain.{
   plain,
-  plain_place,
+  plain_lvalue,
   plain_exps,
   plain_inits,
   plain_dec,
@@ -25,7 +25,7 @@ use crate::trees::{Dec, Exp, Exps, FunDecs, Inits, Kind, Program, Var};
 /// The nodes of a program, which are those of all its bodies, or the greatest `u32` where there are
 /// as many or more.
 pub fn program_nodes(program: &Program) -> u32
-    ensures { result ≡ capped (program_size (plain program.now.body)) }
+    ensures { result ≡ saturated (program_size (plain program.now.body)) }
 {
     nodes(&program.body).saturating_add(inner_nodes(&program.body))
 }
@@ -33,7 +33,7 @@ pub fn program_nodes(program: &Program) -> u32
 // The nodes of the bodies that are declared in an expression.
 #[cycle(inner)]
 fn inner_nodes(e: &Exp) -> u32
-    ensures { result ≡ capped (inner (plain e.now)) }
+    ensures { result ≡ saturated (inner (plain e.now)) }
 {
     match &e.kind {
         Kind::Nil | Kind::Break | Kind::Int(_) | Kind::Text(_) => 0,
@@ -65,7 +65,7 @@ fn inner_nodes(e: &Exp) -> u32
 
 #[cycle(inner)]
 fn place_inner(place: &Var) -> u32
-    ensures { result ≡ capped (inner_place (plain_place place.now)) }
+    ensures { result ≡ saturated (inner_place (plain_lvalue place.now)) }
 {
     match place {
         Var::Simple(_) => 0,
@@ -76,7 +76,7 @@ fn place_inner(place: &Var) -> u32
 
 #[cycle(inner)]
 fn list_inner(exps: &Exps) -> u32
-    ensures { result ≡ capped (inner_exps (plain_exps exps.now)) }
+    ensures { result ≡ saturated (inner_exps (plain_exps exps.now)) }
 {
     let mut sum = 0u32;
     for e in &exps.items {
@@ -87,7 +87,7 @@ fn list_inner(exps: &Exps) -> u32
 
 #[cycle(inner)]
 fn init_inner(inits: &Inits) -> u32
-    ensures { result ≡ capped (inner_inits (plain_inits inits.now)) }
+    ensures { result ≡ saturated (inner_inits (plain_inits inits.now)) }
 {
     let mut sum = 0u32;
     for init in &inits.items {
@@ -98,7 +98,7 @@ fn init_inner(inits: &Inits) -> u32
 
 #[cycle(inner)]
 fn dec_inner(dec: &Dec) -> u32
-    ensures { result ≡ capped (inner_decs (plain_dec dec.now no_decs)) }
+    ensures { result ≡ saturated (inner_decs (plain_dec dec.now no_decs)) }
 {
     match dec {
         Dec::Types(_) => 0,
@@ -109,7 +109,7 @@ fn dec_inner(dec: &Dec) -> u32
 
 #[cycle(inner)]
 fn functions_inner(functions: &FunDecs) -> u32
-    ensures { result ≡ capped (inner_functions (plain_functions functions.now)) }
+    ensures { result ≡ saturated (inner_functions (plain_functions functions.now)) }
 {
     let mut sum = 0u32;
     for function in &functions.items {

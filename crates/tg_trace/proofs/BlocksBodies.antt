@@ -24,7 +24,7 @@ use Rattle.tg_tree.proofs.Linking.{programs_carried}
 use Rattle.tg_trace.specs.Block.{Block}
 use Rattle.tg_trace.specs.Cutting.{CutBlocks, draw, leads, next_mark, seal, branch, leaves, cut, cut_all, start, entered_by, placed_all, blocks_of}
 use Rattle.tg_trace.specs.Meaning.{run_block_body, block_going, block_run}
-use Rattle.tg_trace.specs.Carried.{added_work, in_blocks, code_in_blocks, IsCanonicalFunction, BlocksCarryBodies, BlocksKeepPrograms}
+use Rattle.tg_trace.specs.Carried.{added_work, in_blocks, code_in_blocks, IsCanonicalFunction, BlocksCarryBodies, BlocksAreCorrect}
 use Rattle.tg_trace.proofs.Rests.{take_all}
 use Rattle.tg_trace.proofs.BlocksPlaces.{opens, first, first_is, ahead, leads_to, from_place}
 use Rattle.tg_trace.proofs.BlocksKept.{Keeps, turn, turn_keeps, cut_keeps, get_front, get_seam, set_own, Fits}
@@ -223,5 +223,5 @@ module _ (code : Code Stms) (size : ℕ → ℕ) (floor room : ℕ) where
       begins_carried h entries_pay (all_carried code.functions h) n body [] stack_top _ _ (record { memory = begin code.literals; input = input }) 0
       (λ v w. simulates_stopping 1 0 n w.input (Ended (Exit (pos 0)))))
 
-pub blocks_keep_programs : BlocksKeepPrograms
+pub blocks_keep_programs : BlocksAreCorrect
 blocks_keep_programs code size floor room body input h = programs_kept code size floor room h body input

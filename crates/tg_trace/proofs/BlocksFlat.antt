@@ -7,7 +7,7 @@ use Rattle.tg_simulation.proofs.Simulations.{simulates_stopping, simulates_writi
 use Rattle.tg_simulation.proofs.Simulations.{simulates_turn, simulates_less}
 use Rattle.tg_tree.specs.Tree.{Tx, Const, Address, Temp, FrameAddress, Binary, Load, LoadByte, Call, Service, After, Txs, no_txs, tx, Ts, Move, Store}
 use Rattle.tg_tree.specs.Tree.{StoreByte, Do, If, Loop, Break, Fault, Seq, Return, Literal}
-use Rattle.tg_tree.specs.Shapes.{IsFlat, AreFlat, IsFlatSide, IsFlatStatement}
+use Rattle.tg_tree.specs.Shapes.{IsFlat, AreFlat, IsFlatOrEffect, IsFlatStatement}
 use Rattle.tg_tree.specs.Memory.{store, store_byte}
 use Rattle.tg_tree.specs.Units.{Canonical, expression_units, argument_units, statement_units}
 use Rattle.tg_tree.specs.Actions.{World, Temps, Activation, Around, Go, Next, Out, Back, wrong, charged, set_temp, with_memory, service}
@@ -55,7 +55,7 @@ module _ (room : ℕ) (ls : List Literal) (enter : Enter) (later later' : Point 
   same_values (tx x xs) f =
       λ i go w t. charged (argument_units Canonical xs) (same_value x f.0 i (λ v w1 t1. same_values xs f.1 i (λ vs w2 t2. go (v ∷ vs) w2 t2) w1 t1) w t)
 
-  same_side : (x : Tx) → IsFlatSide x → value Canonical room ls enter later x around_one ≡ value Canonical room ls enter later' x around_other
+  same_side : (x : Tx) → IsFlatOrEffect x → value Canonical room ls enter later x around_one ≡ value Canonical room ls enter later' x around_other
   same_side (Call label xs) f =
       λ i go w t. charged (expression_units Canonical (Call label xs))
       (same_values xs f i (λ vs w1 t1. enter_function Canonical room ls enter later label vs around_one go w1 t1) w t)

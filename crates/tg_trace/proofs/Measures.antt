@@ -4,8 +4,8 @@ use Rattle.tg_tree.specs.Tree as tree
 use Rattle.tg_tree.specs.Tree.{Tx, Cond, Compare, Not, Both, Either, Ts, Move, Store, StoreByte, Do, If, Loop, Break, Seq, Stms, no_stms, stm, Linear}
 use Rattle.tg_tree.specs.Tree.{Mark, Do'}
 use Rattle.tg_tree.specs.Units.{Canonical}
-use Rattle.tg_tree.specs.Sizes.{in_canonical, expression_length, condition_length, statement_length, statements_length, code_length, expression_room}
-use Rattle.tg_tree.specs.Sizes.{condition_room, statement_room, statements_room, code_room}
+use Rattle.tg_tree.specs.Sizes.{in_canonical, expression_length, condition_length, statement_length, statements_length, code_length, expression_needs}
+use Rattle.tg_tree.specs.Sizes.{condition_needs, statement_needs, statements_needs, code_needs}
 use Rattle.tg_trace.specs.Cutting.{blocks_of}
 use Rattle.tg_trace.specs.Laying.{traced}
 use Rattle.tg_trace.proofs.Costs.{condition_cost, statement_cost, statements_cost, code_cost, traced_cost_no_more}
@@ -71,49 +71,49 @@ length_stays ss =
     let e = code_len_is (traced (blocks_of ss)) in
     omega (arith, h, k, e)
 
--- Rooms.
+-- Needs.
 abbrev room : Tx → ℕ
-room x = expression_room in_canonical x
+room x = expression_needs in_canonical x
 
-abbrev branch_room : Tx → Tx → ℕ
-branch_room x y = 1 + (room x + room y)
+abbrev branch_needs : Tx → Tx → ℕ
+branch_needs x y = 1 + (room x + room y)
 
 abbrev condition_takes : Cond → ℕ
-condition_takes d = condition_cost 0 0 (statement_room in_canonical) branch_room room (λ n. 0) d
+condition_takes d = condition_cost 0 0 (statement_needs in_canonical) branch_needs room (λ n. 0) d
 
 abbrev statement_takes : Ts → ℕ
-statement_takes s = statement_cost 0 0 (statement_room in_canonical) branch_room room (λ n. 0) s
+statement_takes s = statement_cost 0 0 (statement_needs in_canonical) branch_needs room (λ n. 0) s
 
 abbrev statements_take : Stms → ℕ
-statements_take ss = statements_cost 0 0 (statement_room in_canonical) branch_room room (λ n. 0) ss
+statements_take ss = statements_cost 0 0 (statement_needs in_canonical) branch_needs room (λ n. 0) ss
 
 abbrev code_takes : List Linear → ℕ
-code_takes code = code_cost 0 0 (statement_room in_canonical) branch_room room (λ n. 0) code
+code_takes code = code_cost 0 0 (statement_needs in_canonical) branch_needs room (λ n. 0) code
 
-condition_has_room : (d : Cond) → condition_takes d ≤ condition_room in_canonical d
-condition_has_room (Compare rel x y) = omega arith
-condition_has_room (Not d) = let h = condition_has_room d in omega (arith, h)
-condition_has_room (Both d e) = let h = condition_has_room d in let k = condition_has_room e in omega (arith, h, k)
-condition_has_room (Either d e) = let h = condition_has_room d in let k = condition_has_room e in omega (arith, h, k)
+condition_has_needs : (d : Cond) → condition_takes d ≤ condition_needs in_canonical d
+condition_has_needs (Compare rel x y) = omega arith
+condition_has_needs (Not d) = let h = condition_has_needs d in omega (arith, h)
+condition_has_needs (Both d e) = let h = condition_has_needs d in let k = condition_has_needs e in omega (arith, h, k)
+condition_has_needs (Either d e) = let h = condition_has_needs d in let k = condition_has_needs e in omega (arith, h, k)
 
 mutual
-  statement_has_room : (s : Ts) → statement_takes s ≤ statement_room in_canonical s
-  statement_has_room (Move i x) = omega arith
-  statement_has_room (Store x y) = omega arith
-  statement_has_room (StoreByte x y) = omega arith
-  statement_has_room (Do x) = omega arith
-  statement_has_room (If d s t) = let h = condition_has_room d in let k = statement_has_room s in let l = statement_has_room t in omega (arith, h, k, l)
-  statement_has_room (Loop s) = let h = statement_has_room s in omega (arith, h)
-  statement_has_room (Break k) = omega arith
-  statement_has_room (tree.Fault n) = omega arith
-  statement_has_room (Seq ss) = let h = statements_have_room ss in omega (arith, h)
-  statement_has_room (tree.Return x) = omega arith
+  statement_has_needs : (s : Ts) → statement_takes s ≤ statement_needs in_canonical s
+  statement_has_needs (Move i x) = omega arith
+  statement_has_needs (Store x y) = omega arith
+  statement_has_needs (StoreByte x y) = omega arith
+  statement_has_needs (Do x) = omega arith
+  statement_has_needs (If d s t) = let h = condition_has_needs d in let k = statement_has_needs s in let l = statement_has_needs t in omega (arith, h, k, l)
+  statement_has_needs (Loop s) = let h = statement_has_needs s in omega (arith, h)
+  statement_has_needs (Break k) = omega arith
+  statement_has_needs (tree.Fault n) = omega arith
+  statement_has_needs (Seq ss) = let h = statements_have_needs ss in omega (arith, h)
+  statement_has_needs (tree.Return x) = omega arith
 
-  statements_have_room : (ss : Stms) → statements_take ss ≤ statements_room in_canonical ss
-  statements_have_room no_stms = omega arith
-  statements_have_room (stm s ss) = let h = statement_has_room s in let k = statements_have_room ss in omega (arith, h, k)
+  statements_have_needs : (ss : Stms) → statements_take ss ≤ statements_needs in_canonical ss
+  statements_have_needs no_stms = omega arith
+  statements_have_needs (stm s ss) = let h = statement_has_needs s in let k = statements_have_needs ss in omega (arith, h, k)
 
-code_takes_is : (code : List Linear) → code_room in_canonical code ≡ code_takes code
+code_takes_is : (code : List Linear) → code_needs in_canonical code ≡ code_takes code
 code_takes_is [] = refl
 code_takes_is (Mark m ∷ rest) = let h = code_takes_is rest in omega (arith, h)
 code_takes_is (Do' s ∷ rest) = let h = code_takes_is rest in omega (arith, h)
@@ -122,9 +122,10 @@ code_takes_is (tree.Branch rel x y m ∷ rest) = let h = code_takes_is rest in o
 code_takes_is (tree.Fault' n ∷ rest) = let h = code_takes_is rest in omega (arith, h)
 code_takes_is (tree.Return' x ∷ rest) = let h = code_takes_is rest in omega (arith, h)
 
-pub room_stays : (ss : Stms) → code_room in_canonical (traced (blocks_of ss)) ≤ statements_room in_canonical ss
-room_stays ss =
-    let h : code_takes (traced (blocks_of ss)) ≤ statements_take ss + (0 + 0) = traced_cost_no_more 0 0 (statement_room in_canonical) branch_room room (λ n. 0) ss in
-    let k = statements_have_room ss in
+pub needs_stay : (ss : Stms) → code_needs in_canonical (traced (blocks_of ss)) ≤ statements_needs in_canonical ss
+needs_stay ss =
+    let h : code_takes (traced (blocks_of ss)) ≤ statements_take ss + (0 + 0) =
+        traced_cost_no_more 0 0 (statement_needs in_canonical) branch_needs room (λ n. 0) ss in
+    let k = statements_have_needs ss in
     let e = code_takes_is (traced (blocks_of ss)) in
     omega (arith, h, k, e)

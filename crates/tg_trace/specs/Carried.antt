@@ -68,8 +68,8 @@ code_in_blocks code = record {
 abbrev pub IsCanonicalFunction : Function Stms → Type 0
 IsCanonicalFunction f = AreCanonical f.body × AreClosed f.body
 
-abbrev pub BlocksKeepPrograms : Type 0
-BlocksKeepPrograms =
+abbrev pub BlocksAreCorrect : Type 0
+BlocksAreCorrect =
     (code : Code Stms) (size : ℕ → ℕ) (floor room body : ℕ) (input : List ℕ) →
     AllByRecursion IsCanonicalFunction code.functions →
     Preserves 1 added_work (canonical_run code size floor room body input)

@@ -3,8 +3,8 @@ use Rattle.std.specs.Prelude.{ℕ, ◌+◌, ◌≤◌, Bool, IsTrue, List, []}
 use Rattle.tg_tree.specs.Tree.{Stms}
 use Rattle.tg_tree.specs.Shapes.{AreCanonical, AreClosed, IsFlatCode, IsWellMarked}
 use Rattle.tg_tree.specs.Units.{Canonical}
-use Rattle.tg_tree.specs.Sizes.{in_canonical, statements_length, code_length, statements_room}
-use Rattle.tg_tree.specs.Sizes.{code_room}
+use Rattle.tg_tree.specs.Sizes.{in_canonical, statements_length, code_length, statements_needs}
+use Rattle.tg_tree.specs.Sizes.{code_needs}
 use Rattle.tg_tree.specs.Named.{Named, NamesAreAllowed, fault, named_stms, named_flat}
 use Rattle.tg_trace.specs.Block.{Block}
 use Rattle.tg_trace.specs.Cutting.{blocks_of}
@@ -36,10 +36,10 @@ LengthStays =
     (ss : Stms) →
     code_length (traced (blocks_of ss)) ≤ statements_length Canonical ss + added_length
 
-abbrev pub RoomStays : Type 0
-RoomStays =
+abbrev pub NeedsStay : Type 0
+NeedsStay =
     (ss : Stms) →
-    code_room in_canonical (traced (blocks_of ss)) ≤ statements_room in_canonical ss
+    code_needs in_canonical (traced (blocks_of ss)) ≤ statements_needs in_canonical ss
 
 -- The code names no function, literal, temporary, constant or fault that the statements don't name,
 -- but for a fault 0: whatever test all their names pass, its names pass.

@@ -57,8 +57,8 @@ TracesCarryBodies =
     functions flat bs (traced bs)
 
 -- so a program does: no run that doesn't go wrong takes more work than its blocks, or less fuel
-abbrev pub TracesKeepPrograms : Type 0
-TracesKeepPrograms =
+abbrev pub TracesAreCorrect : Type 0
+TracesAreCorrect =
     (code : Code (List Block)) (size : ℕ → ℕ) (floor room body : ℕ) (input : List ℕ) →
     AllByRecursion (λ f. MayBeLaid f.body) code.functions →
     Preserves 1 laying_work

@@ -3,7 +3,7 @@ ghost use Rattle.tg_trace.specs.Carried.{
   BlocksStayOver,
   BlocksOnlyGoOn,
   BlocksCarryBodies,
-  BlocksKeepPrograms,
+  BlocksAreCorrect,
 };
 ghost use Rattle.tg_trace.specs.Heads.{BlocksAreEntered, FalseSideFollows, JumpsAreBack};
 ghost use Rattle.tg_trace.specs.Laws.{
@@ -13,9 +13,9 @@ ghost use Rattle.tg_trace.specs.Laws.{
   CodeIsWellMarked,
   LengthStays,
   NamesStay,
-  RoomStays,
+  NeedsStay,
 };
-ghost use Rattle.tg_trace.specs.Traced.{TracesCarryBodies, TracesKeepPrograms};
+ghost use Rattle.tg_trace.specs.Traced.{TracesCarryBodies, TracesAreCorrect};
 
 /// Laws of the blocks into which statements are cut: those of canonical statements are flat, and
 /// those of a closed body lead to one another alone, with loops that are entered at their heads.
@@ -35,9 +35,9 @@ pub fn code_is_well_formed()
 
 /// Laws of both together: the code is at most two units longer than the statements, and has no more
 /// room than they have.
-pub fn sizes_stay()
+pub fn trace_is_bounded()
     ensures length { LengthStays }
-    ensures room { RoomStays }
+    ensures needs { NeedsStay }
 {}
 
 /// The law that the code names nothing that the statements don't name, but for a fault 0. So no
@@ -57,7 +57,7 @@ pub fn traces_go_on()
 /// their heads alone: each body if calls do, and so each program.
 pub fn traces_are_correct()
     ensures bodies { TracesCarryBodies }
-    ensures programs { TracesKeepPrograms }
+    ensures programs { TracesAreCorrect }
 {}
 
 /// The laws of runs of blocks: each is its own step, one that is over stays so with more fuel, and
@@ -73,5 +73,5 @@ pub fn blocks_run()
 /// activation on.
 pub fn blocks_are_correct()
     ensures bodies { BlocksCarryBodies }
-    ensures programs { BlocksKeepPrograms }
+    ensures programs { BlocksAreCorrect }
 {}

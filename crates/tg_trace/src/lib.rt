@@ -18,6 +18,6 @@ pub use cutting::blocks;
 pub use flows::{Block, Blocks, End};
 pub use laws::{
     blocks_are_correct, blocks_are_well_formed, blocks_run, code_is_well_formed, names_stay,
-    sizes_stay, traces_are_correct, traces_go_on,
+    trace_is_bounded, traces_are_correct, traces_go_on,
 };
 pub use traces::trace;

@@ -4,7 +4,7 @@ use Rattle.std.specs.Prelude.{codes, nat_eq}
 use Rattle.std.specs.List.{list_any}
 use Prim.Native.String.{String}
 use Rattle.tg_base.specs.declared.ids.Span.{Span}
-use Rattle.tg_symbols.specs.Tables.{named}
+use Rattle.tg_symbols.specs.Tables.{looked_up}
 use Rattle.tg_syntax.specs.declared.tokens.Ident.{Ident}
 use Rattle.tg_syntax.specs.declared.trees.Param.{Param}
 use Rattle.tg_syntax.specs.declared.trees.Op.{Op}
@@ -50,7 +50,7 @@ meanings =
 
 abbrev pub findings : (escaping links : List ℕ) → Findings
 findings escaping links = record {
-  meaning = λ at. named at meanings;
+  meaning = λ at. looked_up at meanings;
   escapes = λ at. list_any (nat_eq at) escaping;
   keeps_link = λ at. list_any (nat_eq at) links;
 }

@@ -21,7 +21,7 @@ use Rattle.tg_tree.specs.Tree.{Ts, Move, Store, Do, If, Loop, Break, Fault, Seq,
 use Rattle.tg_tree.specs.Forms.{nothing, when}
 use Rattle.tg_tree.specs.Plain.{plain_tx}
 use Rattle.tg_tree.specs.Lists.{stms_of}
-use Rattle.tg_translate.specs.declared.places.Storage.{Storage as CodePlace}
+use Rattle.tg_translate.specs.declared.places.Storage.{Storage as CodeStorage}
 use Rattle.tg_translate.specs.declared.places.Storage.TheVariants as code
 use Rattle.tg_translate.specs.declared.held.HeldAddress.{HeldAddress}
 use Rattle.tg_translate.specs.declared.held.HeldAddress.TheVariants.{InOwnFrame, Beside, At}
@@ -108,9 +108,9 @@ pub data Storage : Type 0 where
   in_temp : ℕ → Storage
   at_address : Stms → Tx → Storage
 
-abbrev pub plain_place : CodePlace → Storage
-plain_place (code.InTemp t) = in_temp t.0
-plain_place (code.AtAddress before a) = at_address (stms_of before.items) (plain_tx a)
+abbrev pub plain_storage : CodeStorage → Storage
+plain_storage (code.InTemp t) = in_temp t.0
+plain_storage (code.AtAddress before a) = at_address (stms_of before.items) (plain_tx a)
 
 abbrev pub place_in : (frame : Tx) → Access → Storage
 place_in frame (InTemp t) = in_temp t.0

@@ -4,7 +4,7 @@
 use Rattle.std.specs.Prelude.{ℕ, ◌+◌, List, [], ◌∷◌, ◌++◌, map, Bool, Option, if◌then◌else◌}
 use Rattle.tg_frame.specs.declared.accesses.Access.{Access}
 use Rattle.tg_frame.specs.Homes.{next_home}
-use Rattle.tg_symbols.specs.Tables.{named}
+use Rattle.tg_symbols.specs.Tables.{looked_up}
 use Rattle.tg_tree.specs.Tree.{Ts, Function, Literal}
 use Rattle.tg_tree.specs.Plain.{plain_function, plain_fragment, plain_literal}
 use Rattle.tg_translate.specs.declared.states.TranslationState.{TranslationState as CodeState}
@@ -91,7 +91,7 @@ abbrev pub declare_callee : (at : ℕ) → Callee → Translates (Unit {0})
 declare_callee at callee = λ s. drawn tt (record s { callees = (at, callee) ∷ s.callees })
 
 abbrev pub home_at : (at : ℕ) → Translates (Option Home)
-home_at at = λ s. drawn (named at s.homes) s
+home_at at = λ s. drawn (looked_up at s.homes) s
 
 abbrev pub callee_at : (at : ℕ) → Translates (Option Callee)
-callee_at at = λ s. drawn (named at s.callees) s
+callee_at at = λ s. drawn (looked_up at s.callees) s

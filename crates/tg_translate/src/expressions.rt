@@ -1,7 +1,7 @@
 ghost use Rattle.std.specs.Prelude.{◌≡◌, [], IfOk, OnOk, is_some};
 ghost use Rattle.tg_syntax.specs.Plain.{
   plain,
-  plain_place as plain_var,
+  plain_lvalue as plain_var,
   plain_exps,
   plain_inits,
   plain_dec,
@@ -14,7 +14,7 @@ ghost use Rattle.tg_tree.specs.Tree.{no_txs, no_stms};
 ghost use Rattle.tg_tree.specs.Lists.{txs_of, stms_of};
 ghost use Rattle.tg_translate.specs.States.{drawn, state_of};
 ghost use Rattle.tg_translate.specs.Wants.{plain_made};
-ghost use Rattle.tg_translate.specs.Constructs.{plain_place};
+ghost use Rattle.tg_translate.specs.Constructs.{plain_storage};
 ghost use Rattle.tg_translate.specs.Scopes.{findings_of};
 ghost use Rattle.tg_translate.specs.Translate as translation;
 ghost use Rattle.tg_translate.specs.Parts as parts;
@@ -314,7 +314,7 @@ fn assigned(
     within: Within,
 ) -> Result<Ts, Memory>
     ensures { IfOk result (λ s.
-        parts.assigned_in (findings_of findings.now) (plain_place place) (plain e.now) within
+        parts.assigned_in (findings_of findings.now) (plain_storage place) (plain e.now) within
         (state_of state.old) ≡ drawn (plain_ts s) (state_of state.new)) }
 {
     let made = expression(findings, state, e, want_for(&place), within)?;
@@ -331,7 +331,7 @@ fn updated(
     within: Within,
 ) -> Result<Ts, Memory>
     ensures { IfOk result (λ s.
-        parts.updated_in (findings_of findings.now) (plain_place place) (plain e.now) within
+        parts.updated_in (findings_of findings.now) (plain_storage place) (plain e.now) within
         (state_of state.old) ≡ drawn (plain_ts s) (state_of state.new)) }
 {
     let held = hold_place(state, place)?;
@@ -427,7 +427,7 @@ fn locate(
 ) -> Result<Storage, Memory>
     ensures { IfOk result (λ p.
         translation.locate (findings_of findings.now) (plain_var place.now) within
-        (state_of state.old) ≡ drawn (plain_place p) (state_of state.new)) }
+        (state_of state.old) ≡ drawn (plain_storage p) (state_of state.new)) }
 {
     match place {
         Var::Simple(x) => Ok(variable_place(state, within, findings.meaning(x.span.from))?),
@@ -456,7 +456,7 @@ fn indexed(
 ) -> Result<Storage, Memory>
     ensures { IfOk result (λ p.
         parts.indexed (findings_of findings.now) (plain_tx array) (plain index.now) within
-        (state_of state.old) ≡ drawn (plain_place p) (state_of state.new)) }
+        (state_of state.old) ≡ drawn (plain_storage p) (state_of state.new)) }
 {
     let value = value(findings, state, index, within)?;
     Ok(element_place(state, assigns_nothing(index), array, value)?)

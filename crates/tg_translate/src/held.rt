@@ -4,7 +4,7 @@ ghost use Rattle.tg_tree.specs.Lists.{stms_of};
 ghost use Rattle.tg_tree.specs.Tree as tree;
 ghost use Rattle.tg_translate.specs.States.{drawn, state_of};
 ghost use Rattle.tg_translate.specs.Constructs as constructs;
-ghost use Rattle.tg_translate.specs.Constructs.{plain_place, plain_held};
+ghost use Rattle.tg_translate.specs.Constructs.{plain_storage, plain_held};
 
 use crate::operands::{Operand, hold};
 use crate::places::Storage;
@@ -94,7 +94,7 @@ fn hold_sides(
 /// A place is kept, to be read first and then assigned.
 pub(crate) fn hold_place(state: &mut TranslationState, place: Storage) -> Result<HeldPlace, Memory>
     ensures { IfOk result (λ h.
-        constructs.hold_place (plain_place place) (state_of state.old) ≡
+        constructs.hold_place (plain_storage place) (state_of state.old) ≡
         drawn (plain_held h) (state_of state.new)) }
 {
     match place {
@@ -119,7 +119,7 @@ pub(crate) fn read_held(alloc: Global, place: &HeldPlace) -> Result<Tx, Memory>
 
 /// The place that is kept, to be assigned.
 pub(crate) fn place_held(alloc: Global, place: HeldPlace) -> Result<Storage, Memory>
-    ensures { IfOk result (λ p. plain_place p ≡ constructs.place_held (plain_held place)) }
+    ensures { IfOk result (λ p. plain_storage p ≡ constructs.place_held (plain_held place)) }
 {
     match place {
         HeldPlace::InTemp(temp) => Ok(Storage::InTemp(temp)),

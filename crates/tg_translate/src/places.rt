@@ -5,7 +5,7 @@ ghost use Rattle.tg_tree.specs.Lists.{stms_of};
 ghost use Rattle.tg_translate.specs.States.{drawn, state_of};
 ghost use Rattle.tg_translate.specs.Wants.{plain_made};
 ghost use Rattle.tg_translate.specs.Constructs as constructs;
-ghost use Rattle.tg_translate.specs.Constructs.{plain_place};
+ghost use Rattle.tg_translate.specs.Constructs.{plain_storage};
 ghost use Rattle.tg_translate.specs.Scopes as scopes;
 ghost use Rattle.tg_translate.specs.Scopes.{findings_of};
 
@@ -31,7 +31,7 @@ pub(crate) enum Storage {
 
 /// A home in the activation with this frame address.
 fn place_in(alloc: Global, frame: Tx, access: Access) -> Result<Storage, Memory>
-    ensures { IfOk result (λ p. plain_place p ≡ constructs.place_in (plain_tx frame) access) }
+    ensures { IfOk result (λ p. plain_storage p ≡ constructs.place_in (plain_tx frame) access) }
 {
     match access {
         Access::InTemp(temp) => Ok(Storage::InTemp(temp)),
@@ -55,7 +55,7 @@ pub(crate) fn frame_at(alloc: Global, within: Within, level: u32) -> Result<Tx, 
 }
 
 fn home_place(alloc: Global, within: Within, home: Option<Home>) -> Result<Storage, Memory>
-    ensures { IfOk result (λ p. plain_place p ≡ scopes.home_place within home) }
+    ensures { IfOk result (λ p. plain_storage p ≡ scopes.home_place within home) }
 {
     match home {
         Some(home) => {
@@ -68,7 +68,7 @@ fn home_place(alloc: Global, within: Within, home: Option<Home>) -> Result<Stora
 
 /// The place of what isn't declared, of which an accepted program has nothing.
 fn nowhere(alloc: Global) -> Storage
-    ensures { plain_place result ≡ scopes.nowhere }
+    ensures { plain_storage result ≡ scopes.nowhere }
 {
     Storage::AtAddress(Vec::new(alloc), Tx::Const(0))
 }
@@ -80,7 +80,7 @@ pub(crate) fn variable_place(
     meaning: Option<Means>,
 ) -> Result<Storage, Memory>
     ensures { IfOk result (λ p. scopes.variable_place within meaning (state_of state.now) ≡
-        drawn (plain_place p) (state_of state.now)) }
+        drawn (plain_storage p) (state_of state.now)) }
 {
     match meaning {
         Some(Means::Variable(at)) => {
@@ -109,14 +109,14 @@ pub(crate) fn declare_variable(
 
 /// A home in the activation at work.
 pub(crate) fn own_place(alloc: Global, access: Access) -> Result<Storage, Memory>
-    ensures { IfOk result (λ p. plain_place p ≡ constructs.own_place access) }
+    ensures { IfOk result (λ p. plain_storage p ≡ constructs.own_place access) }
 {
     Ok(place_in(alloc, Tx::FrameAddress, access)?)
 }
 
 /// The value that stands in a place.
 pub(crate) fn read(alloc: Global, place: Storage) -> Result<Tx, Memory>
-    ensures { IfOk result (λ x. plain_tx x ≡ constructs.read (plain_place place)) }
+    ensures { IfOk result (λ x. plain_tx x ≡ constructs.read (plain_storage place)) }
 {
     match place {
         Storage::InTemp(temp) => Ok(Tx::Temp(temp)),
@@ -150,7 +150,7 @@ fn store_at(before: Vec<Ts>, address: Tx, value: Tx) -> Result<Ts, Memory>
 /// A value is put into a place.
 pub(crate) fn assign_value(place: Storage, value: Tx) -> Result<Ts, Memory>
     ensures { IfOk result (λ s. plain_ts s ≡
-        constructs.assign_value (plain_place place) (plain_tx value)) }
+        constructs.assign_value (plain_storage place) (plain_tx value)) }
 {
     match place {
         Storage::InTemp(temp) => Ok(Ts::Move(temp, value)),
@@ -162,7 +162,7 @@ pub(crate) fn assign_value(place: Storage, value: Tx) -> Result<Ts, Memory>
 /// temporary.
 pub(crate) fn assign(state: &mut TranslationState, place: Storage, made: Made) -> Result<Ts, Memory>
     ensures { IfOk result (λ s.
-        constructs.assign (plain_place place) (plain_made made) (state_of state.old) ≡
+        constructs.assign (plain_storage place) (plain_made made) (state_of state.old) ≡
         drawn (plain_ts s) (state_of state.new)) }
 {
     match place {
@@ -176,7 +176,7 @@ pub(crate) fn assign(state: &mut TranslationState, place: Storage, made: Made) -
 
 /// What a place wants of the value that is put into it.
 pub(crate) fn want_for(place: &Storage) -> Want
-    ensures { result ≡ constructs.want_for (plain_place place.now) }
+    ensures { result ≡ constructs.want_for (plain_storage place.now) }
 {
     match place {
         Storage::InTemp(temp) => Want::Into(*temp),
@@ -202,7 +202,7 @@ pub(crate) fn field_place(
 ) -> Result<Storage, Memory>
     ensures { IfOk result (λ p.
         constructs.field_place field (plain_tx record_) (state_of state.old) ≡
-        drawn (plain_place p) (state_of state.new)) }
+        drawn (plain_storage p) (state_of state.new)) }
 {
     let mut before = Vec::new(state.alloc);
     let held = hold(state, true, &mut before, record_)?;
@@ -215,7 +215,7 @@ fn field_of(
     mut before: Vec<Ts>,
     held: Operand,
 ) -> Result<Storage, Memory>
-    ensures { IfOk result (λ p. plain_place p ≡
+    ensures { IfOk result (λ p. plain_storage p ≡
         constructs.field_of field (stms_of before.items) (constructs.operand held)) }
 {
     push(&mut before, nil_check(alloc, held.tree())?)?;
@@ -233,7 +233,7 @@ pub(crate) fn element_place(
 ) -> Result<Storage, Memory>
     ensures { IfOk result (λ p.
         constructs.element_place direct (plain_tx array) (plain_tx index) (state_of state.old) ≡
-        drawn (plain_place p) (state_of state.new)) }
+        drawn (plain_storage p) (state_of state.new)) }
 {
     let mut before = Vec::new(state.alloc);
     let array = hold(state, direct, &mut before, array)?;
@@ -247,7 +247,7 @@ fn element_of(
     array: Operand,
     index: Operand,
 ) -> Result<Storage, Memory>
-    ensures { IfOk result (λ p. plain_place p ≡
+    ensures { IfOk result (λ p. plain_storage p ≡
         constructs.element_of (stms_of before.items) (constructs.operand array)
         (constructs.operand index)) }
 {

@@ -1,5 +1,5 @@
 ghost use Rattle.std.specs.Prelude.{◌≡◌, ◌&&◌};
-ghost use Rattle.tg_syntax.specs.Plain.{plain, plain_place, plain_exps, plain_inits};
+ghost use Rattle.tg_syntax.specs.Plain.{plain, plain_lvalue, plain_exps, plain_inits};
 ghost use Rattle.tg_translate.specs.Purity as purity;
 
 use tg_syntax::{Exp, Exps, Inits, Kind, Var};
@@ -26,7 +26,7 @@ pub(crate) fn assigns_nothing(e: &Exp) -> bool
 
 #[cycle(purity)]
 fn place_assigns_nothing(place: &Var) -> bool
-    ensures { result ≡ purity.place_assigns_nothing (plain_place place.now) }
+    ensures { result ≡ purity.place_assigns_nothing (plain_lvalue place.now) }
 {
     match place {
         Var::Simple(_) => true,

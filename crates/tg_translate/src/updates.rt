@@ -1,5 +1,5 @@
 ghost use Rattle.std.specs.Prelude.{◌≡◌};
-ghost use Rattle.tg_syntax.specs.Plain.{plain, plain_place as plain_var};
+ghost use Rattle.tg_syntax.specs.Plain.{plain, plain_lvalue as plain_var};
 ghost use Rattle.tg_translate.specs.Scopes.{findings_of};
 ghost use Rattle.tg_translate.specs.Updates as updates;
 

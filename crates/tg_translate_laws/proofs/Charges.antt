@@ -3,7 +3,7 @@ use Rattle.std.proofs.Common.{◌≡◌, ◌≤◌, ◌+◌, ℕ, suc, Bool, tru
 use Rattle.std.specs.Prelude.{◌==◌, ◌||◌, if◌then◌else◌}
 use Rattle.std.proofs.lemmas.List.{map-append}
 use Rattle.tg_frame.specs.declared.accesses.Access.{Access}
-use Rattle.tg_symbols.specs.Tables.{named}
+use Rattle.tg_symbols.specs.Tables.{looked_up}
 use Rattle.tg_syntax.specs.declared.trees.Op.{Op}
 use Rattle.tg_syntax.specs.declared.trees.Op.TheVariants as op
 use Rattle.tg_syntax.specs.Tree.{FunDecs, no_functions, function}
@@ -170,14 +170,14 @@ module _ (n : ℕ) where
 
   pub place_takes : (c : Within) (meaning : Option Means) (s : TranslationState) → c.level ≤ n → Takes (draws 0) (IsPlace n) s (variable_place c meaning s)
   place_takes c None s l = gives s nowhere (tt, tt)
-  place_takes c (Some (means.Variable at)) s l = gives s (home_place c (named at s.homes)) (home_near n c (named at s.homes) l)
+  place_takes c (Some (means.Variable at)) s l = gives s (home_place c (looked_up at s.homes)) (home_near n c (looked_up at s.homes) l)
   place_takes c (Some other) s l = gives s nowhere (tt, tt)
 
   pub call_takes : (c : Within) (meaning : Option Means) (xs : Txs) (s : TranslationState) → c.level ≤ n → AreTxs n xs →
       Takes (draws 0) (IsTx n) s (call c meaning xs s)
   call_takes c None xs s l h = gives s no_value tt
   call_takes c (Some (means.Standard f)) xs s l h = gives s (call_routine (routine_of f) xs) h
-  call_takes c (Some (means.Function at)) xs s l h = gives s (call_declared c xs (named at s.callees)) (declared_near n c xs (named at s.callees) l h)
+  call_takes c (Some (means.Function at)) xs s l h = gives s (call_declared c xs (looked_up at s.callees)) (declared_near n c xs (looked_up at s.callees) l h)
   call_takes c (Some other) xs s l h = gives s no_value tt
 
   pub closing_takes : (has_result : Bool) (m : Made) (s : TranslationState) → IsMade n m → Takes (draws 1) (IsTs n) s (closing has_result m s)

@@ -2,7 +2,7 @@
 use Rattle.std.proofs.Common.{◌≡◌, ◌≢◌, ◌<◌, ◌≤◌, ◌+◌, ℕ, zero, suc, Bool, true, false, Some, List, [], ◌∷◌, map, refl, ap, ◌∙◌, subst, arith, inl, inr}
 use Rattle.std.specs.Prelude.{IsTrue}
 use Rattle.std.specs.List.{Contains}
-use Rattle.tg_symbols.specs.Tables.{named}
+use Rattle.tg_symbols.specs.Tables.{looked_up}
 use Rattle.tg_syntax.specs.declared.trees.Param.{Param}
 use Rattle.tg_syntax.specs.Tree.{Decs, no_decs, types, variable, functions}
 use Rattle.tg_frame.specs.declared.accesses.Access.{Access}
@@ -149,14 +149,14 @@ module _ (asks : Asks) where
   -- Parameters are declared.
 
   abbrev pub AllDrawn : (temps at : ℕ) → List (ℕ × Home) → Type 0
-  AllDrawn n at homes = (home : Home) → named at homes ≡ Some home → IsDrawn asks n home.access
+  AllDrawn n at homes = (home : Home) → looked_up at homes ≡ Some home → IsDrawn asks n home.access
 
   abbrev pub AllSlots : List (ℕ × Home) → Type 0
-  AllSlots homes = (at : ℕ) (home : Home) → asks.findings.escapes at ≡ true → named at homes ≡ Some home → IsTrue
+  AllSlots homes = (at : ℕ) (home : Home) → asks.findings.escapes at ≡ true → looked_up at homes ≡ Some home → IsTrue
       (is_slot home.access)
 
   pub record Homed (params : List Param) (temps : ℕ) (old new : List (ℕ × Home)) : Type 0 where
-    pub others : (at : ℕ) → (Contains (params_of params) at → ⊥) → named at new ≡ named at old
+    pub others : (at : ℕ) → (Contains (params_of params) at → ⊥) → looked_up at new ≡ looked_up at old
     pub stays : (at : ℕ) → AllDrawn temps at old → AllDrawn temps at new
     pub drawn : (at : ℕ) → Contains (params_of params) at → AllDrawn temps at new
     pub slots : AllSlots old → AllSlots new

@@ -3,7 +3,7 @@ use Rattle.std.proofs.Common.{◌≡◌, ℕ, List, [], ◌∷◌, map, None, tr
 use Rattle.std.specs.Prelude.{zero, suc, ◌+◌, ◌*◌, Some, codes, nat_eq}
 use Rattle.std.specs.List.{list_any}
 use Rattle.tg_base.specs.declared.ids.Span.{Span}
-use Rattle.tg_symbols.specs.Tables.{named}
+use Rattle.tg_symbols.specs.Tables.{looked_up}
 use Rattle.tg_syntax.specs.declared.tokens.Ident.{Ident}
 use Rattle.tg_syntax.specs.declared.trees.Op.TheVariants as op
 use Rattle.tg_syntax.specs.Functions.{program_functions}
@@ -36,7 +36,7 @@ meanings = (1, means.Variable 1) ∷ (11, means.Function 11) ∷ (30, means.Stan
 
 abbrev findings : (escaping : List ℕ) → Findings
 findings escaping = record {
-  meaning = λ at. named at meanings;
+  meaning = λ at. looked_up at meanings;
   escapes = λ at. list_any (nat_eq at) escaping;
   keeps_link = λ at. false;
 }
@@ -45,7 +45,7 @@ findings escaping = record {
 -- keeps its static link
 abbrev nested_findings : Findings
 nested_findings = record {
-  meaning = λ at. named at ((2, means.Variable 2) ∷ (12, means.Function 12) ∷ meanings);
+  meaning = λ at. looked_up at ((2, means.Variable 2) ∷ (12, means.Function 12) ∷ meanings);
   escapes = λ at. list_any (nat_eq at) (1 ∷ 2 ∷ []);
   keeps_link = λ at. list_any (nat_eq at) (11 ∷ []);
 }

@@ -2,7 +2,7 @@
 use Rattle.std.proofs.Common.{◌≡◌, ◌<◌, ◌≤◌, ◌+◌, ℕ, Bool, true, false, Some, List, [], ◌∷◌, map, refl, ◌∙◌, inl, inr, arith}
 use Rattle.std.specs.Prelude.{◌⊎◌, IsTrue}
 use Rattle.std.specs.List.{Contains}
-use Rattle.tg_symbols.specs.Tables.{named}
+use Rattle.tg_symbols.specs.Tables.{looked_up}
 use Rattle.tg_frame.specs.declared.accesses.Access.{Access}
 use Rattle.tg_frame.specs.declared.accesses.Access.TheVariants.{InTemp, InFrame}
 use Rattle.tg_frame.specs.Homes.{is_slot}
@@ -78,7 +78,7 @@ module _ (asks : Asks) where
     pub name : t.frame.label ≡ s.frame.label
     pub callees : (l : ℕ) → Contains (callee_labels s) l → Contains (callee_labels t) l
     pub literals : (l : ℕ) → Contains (literal_labels s) l → Contains (literal_labels t) l
-    pub homes : asks.temps → (at : ℕ) → Contains kept at → named at t.homes ≡ named at s.homes
+    pub homes : asks.temps → (at : ℕ) → Contains kept at → looked_up at t.homes ≡ looked_up at s.homes
 
   -- where each label that was drawn between stands once more
   pub record Step (kept : List ℕ) (s t : TranslationState) : Type 0 where
@@ -92,10 +92,10 @@ module _ (asks : Asks) where
     pub unused : (l : ℕ) → s.label ≤ l → times (λ k. k.label) l s.literals ≡ 0
     pub functions : Each (FineFunction (callee_labels s) (literal_labels s)) s.functions
     pub owned :
-        asks.temps → (at : ℕ) (home : Home) → Contains c.own at → named at s.homes ≡ Some home → IsDrawn s.frame.temps
+        asks.temps → (at : ℕ) (home : Home) → Contains c.own at → looked_up at s.homes ≡ Some home → IsDrawn s.frame.temps
         home.access
     pub slots :
-        asks.temps → (at : ℕ) (home : Home) → asks.findings.escapes at ≡ true → named at s.homes ≡ Some home → IsTrue (is_slot home.access)
+        asks.temps → (at : ℕ) (home : Home) → asks.findings.escapes at ≡ true → looked_up at s.homes ≡ Some home → IsTrue (is_slot home.access)
     pub link : asks.temps → 0 < c.within.level → c.within.link_in_slot ≡ false → 0 < s.frame.temps
     pub loops : asks.breaks → c.in_loop ≡ true → c.within.leave < c.loops
 
@@ -186,7 +186,7 @@ module _ (asks : Asks) where
 
   -- and have other homes, but for those that are kept
   pub rehomed : (kept : List ℕ) (s : TranslationState) (f : Frame) (homes : List (ℕ × Home)) → f.label ≡ s.frame.label → s.frame.temps ≤ f.temps →
-      (asks.temps → (at : ℕ) → Contains kept at → named at homes ≡ named at s.homes) → Step kept s (record s { frame = f; homes = homes })
+      (asks.temps → (at : ℕ) → Contains kept at → looked_up at homes ≡ looked_up at s.homes) → Step kept s (record s { frame = f; homes = homes })
   rehomed kept s f homes e h same = record {
     grows = record { label = omega arith; temps = h; name = e; callees = λ l k. k; literals = λ l k. k; homes = same };
     balance = λ n. refl;

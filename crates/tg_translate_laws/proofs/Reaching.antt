@@ -7,7 +7,7 @@ use Rattle.std.specs.Prelude.{◌⊎◌, ◌==◌, nat_lt, if◌then◌else◌}
 use Rattle.std.specs.List.{Contains}
 use Rattle.std.proofs.lemmas.Bool.Decides.{nat_tests}
 use Rattle.std.proofs.lemmas.List.Elements.{Contains-append_cases}
-use Rattle.tg_symbols.specs.Tables.{named}
+use Rattle.tg_symbols.specs.Tables.{looked_up}
 use Rattle.tg_syntax.specs.declared.tokens.Ident.{Ident}
 use Rattle.tg_syntax.specs.declared.trees.Param.{Param}
 use Rattle.tg_syntax.specs.Tree.{Form, Alias, Fields, Array, TypeDec, Exp, Nil, Break, Int, Text, Read, Call, Neg, Binary, Make, Fill, Assign, If}
@@ -22,7 +22,8 @@ use Rattle.tg_types.specs.declared.notes.Note.{Note}
 use Rattle.tg_types.specs.declared.notes.Means.{Means}
 use Rattle.tg_types.specs.declared.notes.Means.TheVariants as means
 use Rattle.tg_types.specs.Types.{Ty, int_type, string_type, none_type, record_type, array_type, Shape}
-use Rattle.tg_types.specs.Scopes.{Signature, Binding, variable_at, function_at, Scope, in_a_loop, in_no_loop, binding, name_of, at_of}
+use Rattle.tg_semantics.specs.Environments.{name_of}
+use Rattle.tg_types.specs.Scopes.{Signature, Binding, variable_at, function_at, Scope, in_a_loop, in_no_loop, binding, at_of}
 use Rattle.tg_types.specs.Groups.{with_functions, with_params}
 use Rattle.tg_types.specs.Has as Has
 use Rattle.tg_translate.specs.Scopes.{Findings}
@@ -154,13 +155,13 @@ pub record Here : Type 0 where
 
 pub record Seeing (at : ℕ) (x : ℕ) (seen : Seen) (level : ℕ) (own : List ℕ) : Type 0 where
   pub declared : ℕ
-  pub as_one : named x seen ≡ Some (a_variable at declared)
+  pub as_one : looked_up x seen ≡ Some (a_variable at declared)
   pub outer : declared ≤ level
   pub whose : (declared < level) ⊎ Contains own at
 
 abbrev Agrees : (bindings : List (ℕ × Binding)) → Seen → (level : ℕ) → (own : List ℕ) → Type 0
 Agrees bindings seen level own =
-    (x at : ℕ) (t : Ty) (loop : Bool) → named x bindings ≡ Some (variable_at at t loop) → Seeing at x seen level own
+    (x at : ℕ) (t : Ty) (loop : Bool) → looked_up x bindings ≡ Some (variable_at at t loop) → Seeing at x seen level own
 
 pub record Stands (scope : Scope) (h : Here) : Type 0 where
   pub agrees : Agrees scope.bindings h.seen (length h.within) h.own
@@ -221,10 +222,10 @@ with_one n at t loop bindings seen level own c h x b u lo e =
     same_test : (x n : ℕ) → n ≡ x → (n == x) ≡ true
     same_test x n e = grind (arith, nat_tests)
 
-    same_name : (x n at b level : ℕ) (seen : Seen) → n ≡ x → at ≡ b → named x ((n, a_variable at level) ∷ seen) ≡ Some
+    same_name : (x n at b level : ℕ) (seen : Seen) → n ≡ x → at ≡ b → looked_up x ((n, a_variable at level) ∷ seen) ≡ Some
         (a_variable b level)
     same_name x n at b level seen e i =
-        ap (λ v. if v then Some (a_variable at level) else named x seen) (same_test x n e) ∙ ap
+        ap (λ v. if v then Some (a_variable at level) else looked_up x seen) (same_test x n e) ∙ ap
         (λ z. Some (a_variable z level)) i
 
 with_function : (n at : ℕ) (s : Signature) (bindings : List (ℕ × Binding)) (seen : Seen) (level : ℕ) (own : List ℕ) →
@@ -283,7 +284,7 @@ module _ (shapes : List (ℕ × Shape)) (notes : List Note) (findings : Findings
   outer_escapes at level deeper own false e l h = absurd (grind (arith, nat_tests, e, l))
 
   variable_reached : (at x : ℕ) (h : Here) (after : List Use) → Seeing at x h.seen (length h.within) h.own →
-      AllEscape (used h.within (named x h.seen) after) → Contains h.own at ⊎ (findings.escapes at ≡ true)
+      AllEscape (used h.within (looked_up x h.seen) after) → Contains h.own at ⊎ (findings.escapes at ≡ true)
   variable_reached at x h after k g =
       elim k.whose [
         | inl l ↦ (let escape : AllEscape (used h.within (Some (a_variable at k.declared)) after) =
@@ -351,7 +352,7 @@ module _ (shapes : List (ℕ × Shape)) (notes : List Note) (findings : Findings
       reaches _ scope _ h after (Has.call {f = f} {args = args} {sig = sig} c e k i hs) s d u =
           all_reach args sig.params scope (later (f.span.from ∷ h.before) h) after hs
           (stands_on scope h (f.span.from ∷ h.before) (more _ here) s) d
-          (unused h.within (named f.name.0 h.seen) (exps_uses args h.within h.seen after) u)
+          (unused h.within (looked_up f.name.0 h.seen) (exps_uses args h.within h.seen after) u)
       reaches _ scope _ h after (Has.neg {a = a} k) s d u = reaches a scope int_type h after k s d u
       reaches _ scope _ h after (Has.ints {at = at} {a = x} {b = y} i k l) s d u =
           let end = at ∷ beginnings x h.before in
@@ -451,7 +452,7 @@ module _ (shapes : List (ℕ × Shape)) (notes : List Note) (findings : Findings
           let k = s.agrees x.name.0 at t loop e in (
             subst (λ m. IsInReach findings h.own m) (sym (says (at_of x) (means.Variable at) i))
                 (variable_reached at x.name.0 h after k u),
-            unused h.within (named x.name.0 h.seen) after u,
+            unused h.within (looked_up x.name.0 h.seen) after u,
           )
       place_reaches _ scope _ h after (Has.field {v = v} {f = f} at fs n k e g p i) s d u = place_reaches v scope
           (record_type at) h after k s d.1 u

@@ -4,7 +4,7 @@ use Rattle.std.proofs.Common.{arith, inl, inr}
 use Rattle.std.specs.Prelude.{◌==◌, ◌⊎◌, if◌then◌else◌, IsTrue}
 use Rattle.std.specs.List.{Contains}
 use Rattle.std.proofs.lemmas.Bool.Decides.{nat_tests}
-use Rattle.tg_symbols.specs.Tables.{named}
+use Rattle.tg_symbols.specs.Tables.{looked_up}
 use Rattle.tg_frame.specs.declared.accesses.Access.{Access}
 use Rattle.tg_frame.specs.declared.accesses.Access.TheVariants.{InTemp, InFrame}
 use Rattle.tg_frame.specs.Homes.{is_slot}
@@ -28,20 +28,20 @@ use Rattle.tg_translate_laws.proofs.Constructing as constructing
 -- What has a name in a table.
 
 named_either : {A : Type 0} (x at : ℕ) (h v : A) (rest : List (ℕ × A)) (b : Bool) → (at == x) ≡ b →
-    (if b then Some h else named x rest) ≡ Some v → ((at ≡ x) × (h ≡ v)) ⊎ ((at ≢ x) × (named x rest ≡ Some v))
+    (if b then Some h else looked_up x rest) ≡ Some v → ((at ≡ x) × (h ≡ v)) ⊎ ((at ≢ x) × (looked_up x rest ≡ Some v))
 named_either x at h v rest true e k = inl (grind (arith, nat_tests, e), cc)
 named_either x at h v rest false e k = inr (grind (arith, nat_tests, e), k)
 
 pub named_cases : {A : Type 0} (x at : ℕ) (h v : A) (rest : List (ℕ × A)) →
-    named x ((at, h) ∷ rest) ≡ Some v → ((at ≡ x) × (h ≡ v)) ⊎ ((at ≢ x) × (named x rest ≡ Some v))
+    looked_up x ((at, h) ∷ rest) ≡ Some v → ((at ≡ x) × (h ≡ v)) ⊎ ((at ≢ x) × (looked_up x rest ≡ Some v))
 named_cases x at h v rest k = named_either x at h v rest (at == x) refl k
 
 other_test : (x at : ℕ) → at ≢ x → (at == x) ≡ false
 other_test x at h = grind (arith, nat_tests)
 
-pub named_other : {A : Type 0} (x at : ℕ) (h : A) (rest : List (ℕ × A)) → at ≢ x → named x ((at, h) ∷ rest) ≡ named x
+pub named_other : {A : Type 0} (x at : ℕ) (h : A) (rest : List (ℕ × A)) → at ≢ x → looked_up x ((at, h) ∷ rest) ≡ looked_up x
     rest
-named_other x at h rest ne = ap (λ b. if b then Some h else named x rest) (other_test x at ne)
+named_other x at h rest ne = ap (λ b. if b then Some h else looked_up x rest) (other_test x at ne)
 
 pub more_contained : (x y : ℕ) (xs : List ℕ) → Contains xs y → Contains (x ∷ xs) y
 more_contained x y xs c = (suc c.0, omega (arith, c.1), c.2)
@@ -60,7 +60,7 @@ pushed_contained label xs x n c =
     let k = times-append label n xs (x ∷ []) in
     counted_contains label (xs ++ x ∷ []) n (omega (arith, h, k))
 
-named_callee : (at : ℕ) (callee : Callee) (xs : List (ℕ × Callee)) → named at xs ≡ Some callee → Contains
+named_callee : (at : ℕ) (callee : Callee) (xs : List (ℕ × Callee)) → looked_up at xs ≡ Some callee → Contains
     (map (λ e. e.1.label.0) xs) callee.label.0
 named_callee at callee [] e = cc
 named_callee at callee (entry ∷ rest) e =
@@ -83,12 +83,12 @@ module _ (asks : Asks) where
 
   reached : (c : Where) (s : TranslationState) (at : ℕ) (home : Home) → Ready asks c s →
       (asks.temps → Contains c.own at ⊎ (asks.findings.escapes at ≡ true)) →
-      named at s.homes ≡ Some home → asks.temps → IsDrawn asks s.frame.temps home.access ⊎ IsTrue (is_slot home.access)
+      looked_up at s.homes ≡ Some home → asks.temps → IsDrawn asks s.frame.temps home.access ⊎ IsTrue (is_slot home.access)
   reached c s at home r h e t = elim (h t) [ inl o ↦ inl (r.owned t at home o e) | inr k ↦ inr (r.slots t at home k e) ]
 
   home_good : (c : Where) (s : TranslationState) (at : ℕ) (found : Option Home) → Ready asks c s →
       (asks.temps → Contains c.own at ⊎ (asks.findings.escapes at ≡ true)) →
-      named at s.homes ≡ found → GoodPlace asks c.loops s (home_place c.within found)
+      looked_up at s.homes ≡ found → GoodPlace asks c.loops s (home_place c.within found)
   home_good c s at None r h e = (tt, tt)
   home_good c s at (Some home) r h e =
       constructing.place_in_good asks c.loops s (frame_at c.within home.level) home.access
@@ -101,13 +101,13 @@ module _ (asks : Asks) where
   variable_yields c s None r h = given nowhere r
       (tt, tt)
   variable_yields c s (Some (means.Variable at)) r h =
-      given (home_place c.within (named at s.homes)) r
-      (home_good c s at (named at s.homes) r h refl)
+      given (home_place c.within (looked_up at s.homes)) r
+      (home_good c s at (looked_up at s.homes) r h refl)
   variable_yields c s (Some other) r h = given nowhere r
       (tt, tt)
 
   callee_good : (c : Where) (s : TranslationState) (at : ℕ) (xs : Txs) (found : Option Callee) → Ready asks c s → GoodTxs asks c.loops s xs →
-      named at s.callees ≡ found → GoodTx asks c.loops s (call_declared c.within xs found)
+      looked_up at s.callees ≡ found → GoodTx asks c.loops s (call_declared c.within xs found)
   callee_good c s at xs None r h e = tt
   callee_good c s at xs (Some callee) r h e = (
     inr (named_callee at callee s.callees e),
@@ -121,8 +121,8 @@ module _ (asks : Asks) where
       given (constructs.call_routine (routine_of f) xs) r
       (constructing.routine_good asks c.loops s (routine_of f) xs h)
   call_yields c s (Some (means.Function at)) xs r h =
-      given (call_declared c.within xs (named at s.callees)) r
-      (callee_good c s at xs (named at s.callees) r h refl)
+      given (call_declared c.within xs (looked_up at s.callees)) r
+      (callee_good c s at xs (looked_up at s.callees) r h refl)
   call_yields c s (Some other) xs r h = given no_value r tt
 
   -- A literal draws its label.

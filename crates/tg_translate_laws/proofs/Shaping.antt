@@ -17,10 +17,10 @@ use Rattle.tg_escape.specs.Uses.{Use, uses_of}
 use Rattle.tg_escape.specs.Escaping.{escapes_by, escapes_of}
 use Rattle.tg_semantics.specs.declared.standards.Standard.{Standard}
 use Rattle.tg_semantics.specs.Environments.{standards}
-use Rattle.tg_symbols.specs.Tables.{named}
+use Rattle.tg_symbols.specs.Tables.{looked_up}
 use Rattle.tg_types.specs.Types.{Ty}
 use Rattle.tg_types.specs.Laws.{CheckedHasType, NotesAreFound}
-use Rattle.tg_types.specs.Scopes.{Binding, variable_at, standard_one, standard_of, standard_bindings, entry, outermost}
+use Rattle.tg_types.specs.Scopes.{Binding, variable_at, standard_one, standard_of, standard_bindings, entry, outermost_scope}
 use Rattle.tg_runtime.specs.Laws.{AreRoutines, is_own, LabelsInOrder, AllAreRoutines}
 use Rattle.tg_runtime.specs.Routines.{runtime}
 use Rattle.tg_tree.specs.Memory.{string_text}
@@ -78,7 +78,7 @@ pub checked_bodies_are_closed : CheckedHasType → CheckedBodiesAreClosed
 checked_bodies_are_closed typed p escapes links f a =
     let d = typed p a in
     bodies_are_closed (found p.notes escapes links) p.body f
-    (breaks_stand d.shapes p.notes p.body (outermost p.names) d.type false refl d.has)
+    (breaks_stand d.shapes p.notes p.body (outermost_scope p.names) d.type false refl d.has)
 
 pub temporaries_are_drawn : TemporariesAreDrawn
 temporaries_are_drawn findings e f h =
@@ -88,7 +88,7 @@ temporaries_are_drawn findings e f h =
 -- In the outermost scope no name is a variable's.
 
 no_standard : (x at : ℕ) (t : Ty) (loop : Bool) (n : ℕ) (o : Option Standard) (rest : List (ℕ × Binding)) →
-    (named x rest ≡ Some (variable_at at t loop) → ⊥) → named x (entry standard_one n o ++ rest) ≡ Some
+    (looked_up x rest ≡ Some (variable_at at t loop) → ⊥) → looked_up x (entry standard_one n o ++ rest) ≡ Some
     (variable_at at t loop) → ⊥
 no_standard x at t loop n None rest h e = h e
 no_standard x at t loop n (Some f) rest h e =
@@ -97,7 +97,7 @@ no_standard x at t loop n (Some f) rest h e =
       | inr q ↦ h q.1
     ]
 
-no_variable : (x at : ℕ) (t : Ty) (loop : Bool) (n : ℕ) (names : List (List ℕ)) → named x (standard_bindings n names) ≡
+no_variable : (x at : ℕ) (t : Ty) (loop : Bool) (n : ℕ) (names : List (List ℕ)) → looked_up x (standard_bindings n names) ≡
     Some (variable_at at t loop) → ⊥
 no_variable x at t loop n [] e = cc
 no_variable x at t loop n (text ∷ names) e =
@@ -127,7 +127,7 @@ checked_reaches typed noted p links a =
     let body = p.body in
     let d = typed p a in
     let set : FinSet nat_cmp = from_list (escapes_of body) in
-    (reaches d.shapes p.notes (findings_in p links) (λ at m s. (noted p a at m).0 s) body (outermost p.names) d.type
+    (reaches d.shapes p.notes (findings_in p links) (λ at m s. (noted p a at m).0 s) body (outermost_scope p.names) d.type
     (record { seen = []; within = []; own = []; around = []; before = [] }) [] d.has
     (record {
       agrees = λ x at t loop e. absurd (no_variable x at t loop 0 p.names e);

@@ -3,7 +3,7 @@
 use Rattle.std.proofs.Common.{◌≤◌, ◌+◌, ◌*◌, ℕ, Bool, true, false, Option, Some, None, [], ◌∷◌, ◌++◌, arith, length-append}
 use Rattle.std.specs.Prelude.{◌==◌, ◌||◌, if◌then◌else◌, max}
 use Rattle.tg_frame.specs.declared.accesses.Access.{Access}
-use Rattle.tg_symbols.specs.Tables.{named}
+use Rattle.tg_symbols.specs.Tables.{looked_up}
 use Rattle.tg_syntax.specs.declared.trees.Op.{Op}
 use Rattle.tg_syntax.specs.declared.trees.Op.TheVariants as op
 use Rattle.tg_syntax.specs.Measures.{size, place_size, exps_size, inits_size, decs_size}
@@ -18,7 +18,7 @@ use Rattle.tg_tree.specs.Tree as tree
 use Rattle.tg_tree.specs.Tree.{Tx, Const, Temp, FrameAddress, After, Txs, no_txs, tx, Cond, Ts, Move, Stms, no_stms, stm}
 use Rattle.tg_tree.specs.Forms.{nothing}
 use Rattle.tg_tree.specs.Units.{Trees}
-use Rattle.tg_tree.specs.Sizes.{statement_length, in_trees, statement_room}
+use Rattle.tg_tree.specs.Sizes.{statement_length, in_trees, statement_needs}
 use Rattle.tg_tree.specs.Lists.{join_txs}
 use Rattle.tg_translate.specs.declared.homes.Within.{Within}
 use Rattle.tg_translate.specs.declared.operands.Operand.TheVariants.{Number, Kept}
@@ -45,10 +45,10 @@ use Rattle.tg_translate.specs.Translate.{behind_read, locate, values, fields, se
 use Rattle.tg_translate.specs.Constructs as constructs
 use Rattle.tg_translate_laws.specs.Depths as depths
 use Rattle.tg_translate_laws.proofs.Actions.{answer}
-use Rattle.tg_translate_laws.proofs.Spreading.{tx_length, tx_room, cond_length, cond_room, ts_length, ts_room, stms_length, stms_room, txs_room}
+use Rattle.tg_translate_laws.proofs.Spreading.{tx_length, tx_needs, cond_length, cond_needs, ts_length, ts_needs, stms_length, stms_needs, txs_needs}
 use Rattle.tg_translate_laws.proofs.Spreading.{tx_depth, txs_depth, cond_depth, ts_depth, stms_depth, less_ts, given_back_most}
 use Rattle.tg_translate_laws.proofs.Sizing.{most_arguments}
-use Rattle.tg_translate_laws.proofs.Sizing.{made_length, made_room, made_depth, place_length, place_room, place_depth, held_length, held_room, followed_size}
+use Rattle.tg_translate_laws.proofs.Sizing.{made_length, made_needs, made_depth, place_length, place_needs, place_depth, held_length, held_needs, followed_size}
 use Rattle.tg_translate_laws.proofs.Sizing.{joined_size, put_size, dropped_size, test_size, statement_size, deliver_size, behind_size, tested_size}
 use Rattle.tg_translate_laws.proofs.Sizing.{chosen_size, own_place_size, home_size, read_size, store_size, operand_size, read_held_size, field_size}
 use Rattle.tg_translate_laws.proofs.Sizing.{element_size, record_size, routine_size, make_array_size, comparison_size, binary_size, product_size, divide_size}
@@ -74,54 +74,54 @@ anything d = record { value = tt }
 
 -- What a text of so many nodes pays for.
 
-abbrev pub Most : (length room depth most_length most_room most_depth : ℕ) → Type 0
+abbrev pub Most : (length room depth most_length most_needs most_depth : ℕ) → Type 0
 Most k r d l m n = (k ≤ l) × (r ≤ m) × (d ≤ n)
 
 abbrev PaidTx : ℕ → Tx → Type 0
-PaidTx n x = Most (tx_length x + 6) (tx_room x + 2) (tx_depth x) (145 * n) (201 * n) (8 * n + 60)
+PaidTx n x = Most (tx_length x + 6) (tx_needs x + 2) (tx_depth x) (145 * n) (201 * n) (8 * n + 60)
 
 abbrev PaidCond : ℕ → Cond → Type 0
-PaidCond n c = Most (cond_length c) (cond_room c) (cond_depth c) (145 * n) (201 * n + 6) (8 * n + 62)
+PaidCond n c = Most (cond_length c) (cond_needs c) (cond_depth c) (145 * n) (201 * n + 6) (8 * n + 62)
 
 abbrev PaidTs : ℕ → Ts → Type 0
-PaidTs n s = Most (ts_length s + 4) (ts_room s + 2) (ts_depth s) (145 * n) (201 * n) (8 * n + 61)
+PaidTs n s = Most (ts_length s + 4) (ts_needs s + 2) (ts_depth s) (145 * n) (201 * n) (8 * n + 61)
 
 abbrev pub Paid : ℕ → Made → Type 0
-Paid n m = Most (made_length m + 6) (made_room m + 2) (made_depth m) (145 * n) (201 * n) (8 * n + 60)
+Paid n m = Most (made_length m + 6) (made_needs m + 2) (made_depth m) (145 * n) (201 * n) (8 * n + 60)
 
 abbrev pub SmallBody : ℕ → Ts → Type 0
 SmallBody n s =
-    Most (statement_length Trees s) (statement_room in_trees s) (depths.ts_depth s) (145 * n + 12) (201 * n) (8 * n + 62)
+    Most (statement_length Trees s) (statement_needs in_trees s) (depths.ts_depth s) (145 * n + 12) (201 * n) (8 * n + 62)
 
 abbrev PaidPlace : ℕ → Storage → Type 0
-PaidPlace n p = Most (place_length p) (place_room p) (place_depth p) (145 * n) (201 * n) (8 * n + 60)
+PaidPlace n p = Most (place_length p) (place_needs p) (place_depth p) (145 * n) (201 * n) (8 * n + 60)
 
 abbrev PaidRead : ℕ → Tx → Type 0
-PaidRead n x = Most (tx_length x) (tx_room x) (tx_depth x) (145 * n + 1) (201 * n + 2) (8 * n + 62)
+PaidRead n x = Most (tx_length x) (tx_needs x) (tx_depth x) (145 * n + 1) (201 * n + 2) (8 * n + 62)
 
 abbrev PaidTxs : ℕ → Txs → Txs → Type 0
 PaidTxs n before xs =
-    Most (most_arguments xs) (txs_room xs) (txs_depth xs) (most_arguments before + 145 * n) (txs_room before + 201 * n) (max (txs_depth before) (8 * n + 60))
+    Most (most_arguments xs) (txs_needs xs) (txs_depth xs) (most_arguments before + 145 * n) (txs_needs before + 201 * n) (max (txs_depth before) (8 * n + 60))
 
 abbrev PaidFields : ℕ → HeldAll → HeldAll → Type 0
 PaidFields n before all =
-    Most (held_length all) (held_room all) (stms_depth all.before) (held_length before + 145 * n) (held_room before + 201 * n)
+    Most (held_length all) (held_needs all) (stms_depth all.before) (held_length before + 145 * n) (held_needs before + 201 * n)
     (max (stms_depth before.before) (8 * n + 60))
 
 abbrev PaidStms : ℕ → Stms → Stms → Type 0
 PaidStms n before ss =
-    Most (stms_length ss) (stms_room ss) (stms_depth ss) (stms_length before + 145 * n) (stms_room before + 201 * n) (max (stms_depth before) (8 * n + 61))
+    Most (stms_length ss) (stms_needs ss) (stms_depth ss) (stms_length before + 145 * n) (stms_needs before + 201 * n) (max (stms_depth before) (8 * n + 61))
 
 abbrev PaidBegun : ℕ → Stms → Begun → Type 0
 PaidBegun n before b =
-    Most (stms_length b.before + made_length b.last) (stms_room b.before + made_room b.last) (max (stms_depth b.before) (made_depth b.last))
-    (stms_length before + (145 * n + 2)) (stms_room before + (201 * n + 2)) (max (stms_depth before) (8 * n + 61))
+    Most (stms_length b.before + made_length b.last) (stms_needs b.before + made_needs b.last) (max (stms_depth b.before) (made_depth b.last))
+    (stms_length before + (145 * n + 2)) (stms_needs before + (201 * n + 2)) (max (stms_depth before) (8 * n + 61))
 
 -- Values.
 
 -- at most as long, and of as much room, as what it is made of
 abbrev AsMade : Made → Tx → Type 0
-AsMade m x = Most (tx_length x) (tx_room x) (tx_depth x) (made_length m) (made_room m) (made_depth m)
+AsMade m x = Most (tx_length x) (tx_needs x) (tx_depth x) (made_length m) (made_needs m) (made_depth m)
 
 value_size : (m : Made) (s : TranslationState) → Gives (AsMade m) (value_of m s)
 value_size (value x) s = given s x (omega arith, omega arith, omega arith)
@@ -149,8 +149,8 @@ module _ (n : ℕ) {d : Translated Made} (h : Gives (Paid n) d) where
 
 abbrev IsHeld : (before : Stms) → Tx → Held → Type 0
 IsHeld before x h =
-    Most (stms_length h.before + 2 * tx_length (operand h.operand)) (stms_room h.before + tx_room (operand h.operand)) (stms_depth h.before)
-    (stms_length before + (tx_length x + 2)) (stms_room before + (tx_room x + 1)) (max (stms_depth before) (tx_depth x + 1))
+    Most (stms_length h.before + 2 * tx_length (operand h.operand)) (stms_needs h.before + tx_needs (operand h.operand)) (stms_depth h.before)
+    (stms_length before + (tx_length x + 2)) (stms_needs before + (tx_needs x + 1)) (max (stms_depth before) (tx_depth x + 1))
 
 keep_size : (before : Stms) (x : Tx) (s : TranslationState) → Gives (IsHeld before x) (keep before x s)
 keep_size before x s =
@@ -173,7 +173,7 @@ paid_next n direct all x s h =
 -- What an operator of two values adds to them.
 
 abbrev Added : (length room : ℕ) (x y : Tx) → Made → Type 0
-Added k r x y m = Most (made_length m) (made_room m) (made_depth m) (tx_length x + (tx_length y + k)) (tx_room x + (tx_room y + r))
+Added k r x y m = Most (made_length m) (made_needs m) (made_depth m) (tx_length x + (tx_length y + k)) (tx_needs x + (tx_needs y + r))
     (max (tx_depth x) (tx_depth y) + 7)
 
 product_added : (direct : Bool) (x y : Tx) (s : TranslationState) → Gives (Added 88 52 x y) (product direct x y s)
@@ -238,7 +238,7 @@ paid_element n m direct x y s h k =
     (omega (arith, h.0, k.0, e.0, i.0, j.0), omega (arith, h.1, k.1, e.1, i.1, j.1, p.1, q.1), omega (arith, h.2, k.2, e.2, i.2, j.2)))
 
 assign_size : (p : Storage) (m : Made) (s : TranslationState) →
-    Gives (λ x. Most (ts_length x) (ts_room x) (ts_depth x) (place_length p + (made_length m + 3)) (place_room p + made_room m)
+    Gives (λ x. Most (ts_length x) (ts_needs x) (ts_depth x) (place_length p + (made_length m + 3)) (place_needs p + made_needs m)
     (max (place_depth p) (made_depth m) + 2))
     (assign p m s)
 assign_size (in_temp t) m s = given s (put_in t m) (let h = put_size t m in (omega (arith, h.0), omega (arith, h.1), omega (arith, h.2)))
@@ -250,8 +250,8 @@ assign_size (at_address ss a) m s =
 
 abbrev HeldAs : Stms → Tx → HeldAt → Type 0
 HeldAs before x h =
-    Most (stms_length h.before + tx_length (held_address h.address)) (stms_room h.before + tx_room (held_address h.address))
-    (max (stms_depth h.before) (tx_depth (held_address h.address))) (stms_length before + (tx_length x + 2)) (stms_room before + (tx_room x + 1))
+    Most (stms_length h.before + tx_length (held_address h.address)) (stms_needs h.before + tx_needs (held_address h.address))
+    (max (stms_depth h.before) (tx_depth (held_address h.address))) (stms_length before + (tx_length x + 2)) (stms_needs before + (tx_needs x + 1))
     (max (stms_depth before) (tx_depth x) + 1)
 
 beside_size : (before : Stms) (x : Tx) (o : Bin) (k : ℕ) (s : TranslationState) →
@@ -274,7 +274,7 @@ hold_address_size before (tree.Binary o x (Const k)) s = beside_size before x o 
 hold_address_size before x s = at_size before x s
 
 hold_place_size : (p : Storage) (s : TranslationState) →
-    Gives (λ q. Most (place_length (place_held q)) (place_room (place_held q)) (place_depth (place_held q)) (place_length p + 2) (place_room p + 1)
+    Gives (λ q. Most (place_length (place_held q)) (place_needs (place_held q)) (place_depth (place_held q)) (place_length p + 2) (place_needs p + 1)
     (place_depth p + 1))
     (hold_place p s)
 hold_place_size (in_temp t) s = given s (held_in_temp t) (omega arith, omega arith, omega arith)
@@ -304,7 +304,7 @@ paid_declaration n escapes level at e s f =
 
 abbrev BehindOf : Stms → Made → Made → Type 0
 BehindOf ss m x =
-    Most (made_length x) (made_room x) (made_depth x) (stms_length ss + (made_length m + 4)) (stms_room ss + (made_room m + 2))
+    Most (made_length x) (made_needs x) (made_depth x) (stms_length ss + (made_length m + 4)) (stms_needs ss + (made_needs m + 2))
     (max (stms_depth ss) (made_depth m) + 4)
 
 behind_value : (ss : Stms) (m : Made) (s : TranslationState) → Gives (BehindOf ss m) (after (value_of m s) (λ x. give (value_behind ss x)))
@@ -333,7 +333,7 @@ paid_behind n w b s h = weaken (any_behind w b.before b.last s) λ x k. (omega (
 paid_variable : (c : Within) (meaning : Option Means) (s : TranslationState) → c.level ≤ 32 → Gives (PaidPlace 1) (variable_place c meaning s)
 paid_variable c None s l = given s nowhere (omega arith, omega arith, omega arith)
 paid_variable c (Some (means.Variable at)) s l =
-    given s (home_place c (named at s.homes)) (let h = home_size c (named at s.homes) l in (omega (arith, h.0), omega (arith, h.1), omega (arith, h.2)))
+    given s (home_place c (looked_up at s.homes)) (let h = home_size c (looked_up at s.homes) l in (omega (arith, h.0), omega (arith, h.1), omega (arith, h.2)))
 paid_variable c (Some other) s l = given s nowhere (omega arith, omega arith, omega arith)
 
 paid_call : (n : ℕ) (c : Within) (meaning : Option Means) (xs : Txs) (s : TranslationState) → c.level ≤ 32 → PaidTxs n no_txs xs →
@@ -343,8 +343,8 @@ paid_call n c (Some (means.Standard f)) xs s l h =
     given s (constructs.call_routine (routine_of f) xs)
     (let k = routine_size (routine_of f) xs in (omega (arith, h.0, k.0), omega (arith, h.1, k.1), omega (arith, h.2, k.2)))
 paid_call n c (Some (means.Function at)) xs s l h =
-    given s (call_declared c xs (named at s.callees))
-    (let k = declared_size c xs (named at s.callees) l in (omega (arith, h.0, k.0), omega (arith, h.1, k.1), omega (arith, h.2, k.2)))
+    given s (call_declared c xs (looked_up at s.callees))
+    (let k = declared_size c xs (looked_up at s.callees) l in (omega (arith, h.0, k.0), omega (arith, h.1, k.1), omega (arith, h.2, k.2)))
 paid_call n c (Some other) xs s l h = given s no_value (omega arith, omega arith, omega arith)
 
 -- Operators: the left side is made, and the right one is translated for what it is to be.
@@ -399,7 +399,7 @@ paid_read : (n : ℕ) (p : Storage) → PaidPlace n p → PaidRead n (read p)
 paid_read n p h = let k = read_size p in (omega (arith, h.0, k.0), omega (arith, h.1, k.1), omega (arith, h.2, k.2))
 
 paid_count : (n m k : ℕ) (home : Access) (x y : Tx) (turn : Ts) (s : TranslationState) → PaidTx n x → PaidTx m y → PaidTs k turn →
-    Gives (λ z. Most (ts_length z + 8) (ts_room z + 4) (ts_depth z + 2) (145 * (1 + n + m + k)) (201 * (1 + n + m + k)) (8 * (1 + n + m + k) + 60))
+    Gives (λ z. Most (ts_length z + 8) (ts_needs z + 4) (ts_depth z + 2) (145 * (1 + n + m + k)) (201 * (1 + n + m + k)) (8 * (1 + n + m + k) + 60))
     (count home x y turn s)
 paid_count n m k home x y turn s h i j =
     bind (hold_size false no_stms x s) λ l s a. bind (keep_size l.before y s) λ r s b.

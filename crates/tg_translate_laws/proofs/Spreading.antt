@@ -5,8 +5,8 @@ use Rattle.std.specs.Prelude.{if◌then◌else◌}
 use Rattle.tg_tree.specs.Tree.{Tx, Const, Address, Temp, FrameAddress, Binary, Load, LoadByte, Call, Service, After, Txs, no_txs, tx, Cond, Compare}
 use Rattle.tg_tree.specs.Tree.{Not, Both, Either, Ts, Move, Store, StoreByte, Do, If, Loop, Break, Fault, Seq, Return, Stms, no_stms, stm}
 use Rattle.tg_tree.specs.Units.{Trees, expression_units, argument_units, condition_units, statement_units}
-use Rattle.tg_tree.specs.Sizes.{expression_length, arguments_length, condition_length, statement_length, statements_length, in_trees, shift_room}
-use Rattle.tg_tree.specs.Sizes.{expression_room, arguments_room, condition_room, statement_room, statements_room}
+use Rattle.tg_tree.specs.Sizes.{expression_length, arguments_length, condition_length, statement_length, statements_length, in_trees, shift_needs}
+use Rattle.tg_tree.specs.Sizes.{expression_needs, arguments_needs, condition_needs, statement_needs, statements_needs}
 use Rattle.tg_translate.specs.Returning.{in_turn, returned, returned_behind, returned_from, returned_last, all_returned_from, value_has_loop, given_back}
 use Rattle.tg_translate_laws.specs.Depths.{statement_depth, statements_depth, expression_depth, arguments_depth, condition_depth}
 
@@ -50,40 +50,40 @@ abbrev mutual
   stms_length (stm s ss) = ts_length s + stms_length ss
 
 abbrev mutual
-  pub tx_room : Tx → ℕ
-  tx_room (Temp _) = 1
-  tx_room (Binary op x y) = 2 + shift_room in_trees op + (tx_room x + tx_room y)
-  tx_room (Load x) = 2 + tx_room x
-  tx_room (LoadByte x) = 2 + tx_room x
-  tx_room (Call _ xs) = 3 + txs_room xs
-  tx_room (Service _ x) = 3 + tx_room x
-  tx_room (After s x) = ts_room s + tx_room x
-  tx_room _ = 2
+  pub tx_needs : Tx → ℕ
+  tx_needs (Temp _) = 1
+  tx_needs (Binary op x y) = 2 + shift_needs in_trees op + (tx_needs x + tx_needs y)
+  tx_needs (Load x) = 2 + tx_needs x
+  tx_needs (LoadByte x) = 2 + tx_needs x
+  tx_needs (Call _ xs) = 3 + txs_needs xs
+  tx_needs (Service _ x) = 3 + tx_needs x
+  tx_needs (After s x) = ts_needs s + tx_needs x
+  tx_needs _ = 2
 
-  pub txs_room : Txs → ℕ
-  txs_room no_txs = 0
-  txs_room (tx x xs) = 2 + (tx_room x + txs_room xs)
+  pub txs_needs : Txs → ℕ
+  txs_needs no_txs = 0
+  txs_needs (tx x xs) = 2 + (tx_needs x + txs_needs xs)
 
-  pub cond_room : Cond → ℕ
-  cond_room (Compare _ x y) = 6 + (tx_room x + tx_room y)
-  cond_room (Not c) = 6 + cond_room c
-  cond_room (Both c d) = 6 + (cond_room c + cond_room d)
-  cond_room (Either c d) = 6 + (cond_room c + cond_room d)
+  pub cond_needs : Cond → ℕ
+  cond_needs (Compare _ x y) = 6 + (tx_needs x + tx_needs y)
+  cond_needs (Not c) = 6 + cond_needs c
+  cond_needs (Both c d) = 6 + (cond_needs c + cond_needs d)
+  cond_needs (Either c d) = 6 + (cond_needs c + cond_needs d)
 
-  pub ts_room : Ts → ℕ
-  ts_room (Move _ x) = tx_room x
-  ts_room (Store x y) = tx_room x + tx_room y
-  ts_room (StoreByte x y) = tx_room x + tx_room y
-  ts_room (Do x) = tx_room x
-  ts_room (If c s t) = 1 + (cond_room c + (ts_room s + ts_room t))
-  ts_room (Loop s) = ts_room s
-  ts_room (Seq ss) = stms_room ss
-  ts_room (Return x) = tx_room x
-  ts_room _ = 0
+  pub ts_needs : Ts → ℕ
+  ts_needs (Move _ x) = tx_needs x
+  ts_needs (Store x y) = tx_needs x + tx_needs y
+  ts_needs (StoreByte x y) = tx_needs x + tx_needs y
+  ts_needs (Do x) = tx_needs x
+  ts_needs (If c s t) = 1 + (cond_needs c + (ts_needs s + ts_needs t))
+  ts_needs (Loop s) = ts_needs s
+  ts_needs (Seq ss) = stms_needs ss
+  ts_needs (Return x) = tx_needs x
+  ts_needs _ = 0
 
-  pub stms_room : Stms → ℕ
-  stms_room no_stms = 0
-  stms_room (stm s ss) = ts_room s + stms_room ss
+  pub stms_needs : Stms → ℕ
+  stms_needs no_stms = 0
+  stms_needs (stm s ss) = ts_needs s + stms_needs ss
 
 -- a choice is two deeper than its parts
 abbrev pub ts_depth : Ts → ℕ
@@ -103,19 +103,19 @@ cond_depth c = condition_depth 2 c
 
 -- what a tree has, each is at most that
 abbrev pub LessTx : Tx → Type 0
-LessTx x = (expression_length Trees x ≤ tx_length x) × (expression_room in_trees x ≤ tx_room x) × (expression_depth 1 x ≤ tx_depth x)
+LessTx x = (expression_length Trees x ≤ tx_length x) × (expression_needs in_trees x ≤ tx_needs x) × (expression_depth 1 x ≤ tx_depth x)
 
 abbrev pub LessTxs : Txs → Type 0
-LessTxs xs = (arguments_length Trees xs ≤ txs_length xs) × (arguments_room in_trees xs ≤ txs_room xs) × (arguments_depth 1 xs ≤ txs_depth xs)
+LessTxs xs = (arguments_length Trees xs ≤ txs_length xs) × (arguments_needs in_trees xs ≤ txs_needs xs) × (arguments_depth 1 xs ≤ txs_depth xs)
 
 abbrev pub LessCond : Cond → Type 0
-LessCond c = (condition_length Trees c ≤ cond_length c) × (condition_room in_trees c ≤ cond_room c) × (condition_depth 1 c ≤ cond_depth c)
+LessCond c = (condition_length Trees c ≤ cond_length c) × (condition_needs in_trees c ≤ cond_needs c) × (condition_depth 1 c ≤ cond_depth c)
 
 abbrev pub LessTs : Ts → Type 0
-LessTs s = (statement_length Trees s ≤ ts_length s) × (statement_room in_trees s ≤ ts_room s) × (statement_depth 1 s ≤ ts_depth s)
+LessTs s = (statement_length Trees s ≤ ts_length s) × (statement_needs in_trees s ≤ ts_needs s) × (statement_depth 1 s ≤ ts_depth s)
 
 abbrev pub LessStms : Stms → Type 0
-LessStms ss = (statements_length Trees ss ≤ stms_length ss) × (statements_room in_trees ss ≤ stms_room ss) × (statements_depth 1 ss ≤ stms_depth ss)
+LessStms ss = (statements_length Trees ss ≤ stms_length ss) × (statements_needs in_trees ss ≤ stms_needs ss) × (statements_depth 1 ss ≤ stms_depth ss)
 
 mutual
   pub less_tx : (x : Tx) → LessTx x
@@ -169,37 +169,37 @@ mutual
 -- What gives back: a return counts 16, and one of a temporary a word of room.
 
 abbrev AtMost : (length room depth : ℕ) → Ts → Type 0
-AtMost l r d s = (statement_length Trees s ≤ 16 + l) × (statement_room in_trees s ≤ r) × (statement_depth 1 s ≤ d)
+AtMost l r d s = (statement_length Trees s ≤ 16 + l) × (statement_needs in_trees s ≤ r) × (statement_depth 1 s ≤ d)
 
 abbrev AllAtMost : (length room depth : ℕ) → Stms → Type 0
-AllAtMost l r d ss = (statements_length Trees ss ≤ 16 + l) × (statements_room in_trees ss ≤ r) × (statements_depth 1 ss ≤ d)
+AllAtMost l r d ss = (statements_length Trees ss ≤ 16 + l) × (statements_needs in_trees ss ≤ r) × (statements_depth 1 ss ≤ d)
 
 by_test : (b : Bool) (l r d : ℕ) (s t : Ts) → AtMost l r d s → AtMost l r d t → AtMost l r d (if b then s else t)
 by_test true l r d s t h k = h
 by_test false l r d s t h k = k
 
 -- one statement, and then a return of a temporary
-then_back : (s : Ts) (i : ℕ) → 1 ≤ ts_depth s → AtMost (ts_length s) (ts_room s + 1) (ts_depth s + 2) (in_turn s (Return (Temp i)))
+then_back : (s : Ts) (i : ℕ) → 1 ≤ ts_depth s → AtMost (ts_length s) (ts_needs s + 1) (ts_depth s + 2) (in_turn s (Return (Temp i)))
 then_back s i l = let h = less_ts s in (omega (arith, h.0), omega (arith, h.1), omega (arith, h.2, l))
 
-behind_most : (s : Ts) (x : Tx) (from : ℕ → Ts) (last : Ts) → ((i : ℕ) → AtMost (ts_length s) (ts_room s + 1) (ts_depth s + 2) (from i)) →
-    AtMost (tx_length x) (tx_room x) (tx_depth x + 1) last →
-    AtMost (tx_length (After s x)) (tx_room (After s x)) (tx_depth (After s x) + 1) (returned_behind s x from last)
+behind_most : (s : Ts) (x : Tx) (from : ℕ → Ts) (last : Ts) → ((i : ℕ) → AtMost (ts_length s) (ts_needs s + 1) (ts_depth s + 2) (from i)) →
+    AtMost (tx_length x) (tx_needs x) (tx_depth x + 1) last →
+    AtMost (tx_length (After s x)) (tx_needs (After s x)) (tx_depth (After s x) + 1) (returned_behind s x from last)
 behind_most s (Temp i) from last h k = let g = h i in (omega (arith, g.0), omega (arith, g.1), omega (arith, g.2))
 behind_most s x from last h k = let g = less_ts s in (omega (arith, g.0, k.0), omega (arith, g.1, k.1), omega (arith, g.2, k.2))
 
-lasts_most : (s : Ts) (ss : Stms) (last : Ts) (rest : Stms) → AtMost (ts_length s) (ts_room s + 1) (ts_depth s + 2) last →
-    AllAtMost (stms_length ss) (stms_room ss + 1) (stms_depth ss + 2) rest →
-    AllAtMost (stms_length (stm s ss)) (stms_room (stm s ss) + 1) (stms_depth (stm s ss) + 2) (returned_last s ss last rest)
+lasts_most : (s : Ts) (ss : Stms) (last : Ts) (rest : Stms) → AtMost (ts_length s) (ts_needs s + 1) (ts_depth s + 2) last →
+    AllAtMost (stms_length ss) (stms_needs ss + 1) (stms_depth ss + 2) rest →
+    AllAtMost (stms_length (stm s ss)) (stms_needs (stm s ss) + 1) (stms_depth (stm s ss) + 2) (returned_last s ss last rest)
 lasts_most s no_stms last rest h k = (omega (arith, h.0), omega (arith, h.1), omega (arith, h.2))
 lasts_most s (stm t ss) last rest h k = let g = less_ts s in (omega (arith, g.0, k.0), omega (arith, g.1, k.1), omega (arith, g.2, k.2))
 
 mutual
-  returned_most : (x : Tx) → AtMost (tx_length x) (tx_room x) (tx_depth x + 1) (returned x)
+  returned_most : (x : Tx) → AtMost (tx_length x) (tx_needs x) (tx_depth x + 1) (returned x)
   returned_most (After s x) = behind_most s x (λ i. returned_from i s) (returned x) (λ i. from_most i s) (returned_most x)
   returned_most x = let h = less_tx x in (omega (arith, h.0), omega (arith, h.1), omega (arith, h.2))
 
-  from_most : (i : ℕ) (s : Ts) → AtMost (ts_length s) (ts_room s + 1) (ts_depth s + 2) (returned_from i s)
+  from_most : (i : ℕ) (s : Ts) → AtMost (ts_length s) (ts_needs s + 1) (ts_depth s + 2) (returned_from i s)
   from_most i (Move j x) =
       let h = returned_most x in
       by_test (i == j) _ _ _ (returned x) _ (omega (arith, h.0), omega (arith, h.1), omega (arith, h.2)) (then_back (Move j x) i (omega arith))
@@ -211,11 +211,11 @@ mutual
   from_most i (Seq ss) = let h = all_most i ss in (omega (arith, h.0), omega (arith, h.1), omega (arith, h.2))
   from_most i s = then_back s i (omega arith)
 
-  all_most : (i : ℕ) (ss : Stms) → AllAtMost (stms_length ss) (stms_room ss + 1) (stms_depth ss + 2) (all_returned_from i ss)
+  all_most : (i : ℕ) (ss : Stms) → AllAtMost (stms_length ss) (stms_needs ss + 1) (stms_depth ss + 2) (all_returned_from i ss)
   all_most i no_stms = (omega arith, omega arith, omega arith)
   all_most i (stm s ss) = lasts_most s ss (returned_from i s) (all_returned_from i ss) (from_most i s) (all_most i ss)
 
-pub given_back_most : (x : Tx) → AtMost (tx_length x) (tx_room x) (tx_depth x + 1) (given_back x)
+pub given_back_most : (x : Tx) → AtMost (tx_length x) (tx_needs x) (tx_depth x + 1) (given_back x)
 given_back_most x =
     let h = less_tx x in
     by_test (value_has_loop x) _ _ _ (Return x) (returned x) (omega (arith, h.0), omega (arith, h.1), omega (arith, h.2)) (returned_most x)

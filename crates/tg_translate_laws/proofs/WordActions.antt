@@ -3,7 +3,7 @@ use Rattle.std.proofs.Common.{◌≡◌, ◌<◌, ◌≤◌, ◌+◌, ◌*◌, �
 use Rattle.std.proofs.Common.{subst, length-append}
 use Rattle.std.specs.Prelude.{◌==◌, ◌||◌, if◌then◌else◌}
 use Rattle.tg_frame.specs.declared.accesses.Access.{Access}
-use Rattle.tg_symbols.specs.Tables.{named}
+use Rattle.tg_symbols.specs.Tables.{looked_up}
 use Rattle.tg_syntax.specs.declared.trees.Op.{Op}
 use Rattle.tg_syntax.specs.declared.trees.Op.TheVariants as op
 use Rattle.tg_syntax.specs.Tree.{FunDecs}
@@ -78,9 +78,9 @@ one_near : (b : Bool) (e : Home) (o : Option Home) (h : Home) → WordAccess e.a
 one_near true e o h v f q = let same : e ≡ h = cc in subst (λ k. WordAccess k.access) same v
 one_near false e o h v f q = f h q
 
-named_near : (at : ℕ) (homes : List (ℕ × Home)) → AllNear homes → (h : Home) → named at homes ≡ Some h → WordAccess h.access
+named_near : (at : ℕ) (homes : List (ℕ × Home)) → AllNear homes → (h : Home) → looked_up at homes ≡ Some h → WordAccess h.access
 named_near at [] st h e = cc
-named_near at (entry ∷ rest) st h e = one_near (entry.0 == at) entry.1 (named at rest) h st.0 (named_near at rest st.1) e
+named_near at (entry ∷ rest) st h e = one_near (entry.0 == at) entry.1 (looked_up at rest) h st.0 (named_near at rest st.1) e
 
 -- Actions.
 
@@ -204,13 +204,13 @@ record_goes k all s st l h =
 pub place_goes : (c : Within) (meaning : Option Means) (s : TranslationState) → Standing s → Goes 0 WordPlace s (variable_place c meaning s)
 place_goes c None s st = given s nowhere st (λ n. tt, λ n. omega arith)
 place_goes c (Some (means.Variable at)) s st =
-    given s (home_place c (named at s.homes)) st (home_words c (named at s.homes) (named_near at s.homes st.homes))
+    given s (home_place c (looked_up at s.homes)) st (home_words c (looked_up at s.homes) (named_near at s.homes st.homes))
 place_goes c (Some other) s st = given s nowhere st (λ n. tt, λ n. omega arith)
 
 pub call_goes : (c : Within) (meaning : Option Means) (xs : Txs) (s : TranslationState) → Standing s → WordTxs xs → Goes 0 WordTx s (call c meaning xs s)
 call_goes c None xs s st h = given s no_value st (λ n. omega arith)
 call_goes c (Some (means.Standard f)) xs s st h = given s (call_routine (routine_of f) xs) st (λ n. (tt, h n))
-call_goes c (Some (means.Function at)) xs s st h = given s (call_declared c xs (named at s.callees)) st (declared_words c xs (named at s.callees) h)
+call_goes c (Some (means.Function at)) xs s st h = given s (call_declared c xs (looked_up at s.callees)) st (declared_words c xs (looked_up at s.callees) h)
 call_goes c (Some other) xs s st h = given s no_value st (λ n. omega arith)
 
 pub literal_goes : (bytes : List ℕ) (s : TranslationState) → Standing s → Goes 0 WordMade s (literal bytes s)

@@ -12,7 +12,7 @@ use Rattle.tg_escape.specs.Escaping.{escapes_of}
 use Rattle.tg_types.specs.Programs.{CheckedProgram, IsAccepted}
 use Rattle.tg_tree.specs.Tree.{Ts, Function}
 use Rattle.tg_tree.specs.Shapes.{IsClosed}
-use Rattle.tg_tree.specs.Sizes.{tree_length, tree_room}
+use Rattle.tg_tree.specs.Sizes.{tree_length, tree_needs}
 use Rattle.tg_tree.specs.Named.{
   Named,
   named_ts,
@@ -111,8 +111,8 @@ SlotsAreFew =
 abbrev pub node_length : ℕ
 node_length = 145
 
-abbrev pub node_room : ℕ
-node_room = 208
+abbrev pub node_needs : ℕ
+node_needs = 208
 
 abbrev pub node_depth : ℕ
 node_depth = 8
@@ -120,14 +120,14 @@ node_depth = 8
 abbrev pub parameter_length : ℕ
 parameter_length = 6
 
-abbrev pub parameter_room : ℕ
-parameter_room = 9
+abbrev pub parameter_needs : ℕ
+parameter_needs = 9
 
 abbrev pub function_length : ℕ
 function_length = 18
 
-abbrev pub function_room : ℕ
-function_room = 4
+abbrev pub function_needs : ℕ
+function_needs = 4
 
 abbrev pub function_depth : ℕ
 function_depth = 62
@@ -147,7 +147,7 @@ pub record FunctionIsWithin (m : Measures) (f : Function Ts) : Type 0 where
   pub accesses : AccessesWithin (suc m.level) f.body
   pub short :
       m.level ≤ 32 → tree_length f ≤ paid node_length parameter_length function_length m
-  pub small : m.level ≤ 32 → tree_room f ≤ paid node_room parameter_room function_room m
+  pub small : m.level ≤ 32 → tree_needs f ≤ paid node_needs parameter_needs function_needs m
   pub shallow : m.level ≤ 32 → ts_depth f.body ≤ node_depth * m.size + function_depth
 
 abbrev pub FunctionsAreWithin : Type 0
@@ -162,7 +162,7 @@ pub record FunctionIsSmall (f : Function Ts) : Type 0 where
   pub temps : f.temps ≤ 196609
   pub accesses : AccessesWithin 33 f.body
   pub short : tree_length f ≤ 800000
-  pub small : tree_room f ≤ 1200000
+  pub small : tree_needs f ≤ 1200000
   pub shallow : ts_depth f.body ≤ 33000
 
 abbrev pub CheckedFramesAreSmall : Type 0

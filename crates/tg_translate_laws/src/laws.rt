@@ -67,7 +67,7 @@ pub fn literals_are_strings()
 /// more. So in a program that the checker accepts it has at most 32,769 slots and 196,609
 /// temporaries, at most 33 accesses of memory one within another, a length of at most 800,000, a
 /// room of at most 1,200,000 and a depth of at most 33,000.
-pub fn frames_are_small()
+pub fn translate_is_bounded()
     ensures slots { SlotsAreFew }
     ensures within { FunctionsAreWithin }
     ensures checked { CheckedFramesAreSmall }

@@ -8,6 +8,6 @@
 mod laws;
 
 pub use laws::{
-    bodies_are_closed, constants_are_words, frames_are_small, literals_are_strings,
-    programs_are_linked, temporaries_are_drawn, values_are_given_back,
+    bodies_are_closed, constants_are_words, literals_are_strings, programs_are_linked,
+    temporaries_are_drawn, translate_is_bounded, values_are_given_back,
 };

@@ -13,11 +13,11 @@ use Rattle.tg_syntax.specs.Tree.{Exp, Nil, Break, Int, Text, Read, Call, Neg, Bi
 use Rattle.tg_syntax.specs.Tree.{Field, Index, Exps, no_exps, exp, Inits, no_inits, init, Decs, no_decs, types, variable, functions, FunDecs}
 use Rattle.tg_syntax.specs.Tree.{no_functions, function}
 use Rattle.tg_syntax.specs.Beginnings.{beginnings}
-use Rattle.tg_symbols.specs.Tables.{named}
+use Rattle.tg_symbols.specs.Tables.{looked_up}
 use Rattle.tg_escape.specs.Uses.{Use, uses_of}
 use Rattle.tg_escape.specs.Escaping.{escapes_by, escapes_of}
 use Rattle.tg_escape.specs.Links.{links_by, links_of}
-use Rattle.tg_types.specs.Scopes.{outermost}
+use Rattle.tg_types.specs.Scopes.{outermost_scope}
 use Rattle.tg_types.specs.Programs.{CheckedProgram, IsAccepted}
 use Rattle.tg_types.proofs.Derivations.{checked_has_type}
 use Rattle.tg_types.proofs.NotesFound.{notes_are_found}
@@ -67,18 +67,18 @@ apart_once (x ∷ xs) h k = elim (cases_eq x k) [
 ]
 
 -- a name that is found is counted
-named_times : {A : Type 0} (at : ℕ) (a : A) (xs : List (ℕ × A)) → named at xs ≡ Some a → 0 < times (λ x. x.0) at xs
+named_times : {A : Type 0} (at : ℕ) (a : A) (xs : List (ℕ × A)) → looked_up at xs ≡ Some a → 0 < times (λ x. x.0) at xs
 named_times at a [] e = cc
 named_times at a (x ∷ xs) e = elim (cases_eq x.0 at) [
   | inl q ↦ (let one : same x.0 at ≡ 1 = subst (λ o. same x.0 o ≡ 1) q (same_self x.0) in omega (arith, one))
-  | inr ne ↦ (let rest = named_times at a xs (sym (ap (λ t. if t then Some x.1 else named at xs) (ne_eqb x.0 at ne)) ∙ e) in omega (arith, rest))
+  | inr ne ↦ (let rest = named_times at a xs (sym (ap (λ t. if t then Some x.1 else looked_up at xs) (ne_eqb x.0 at ne)) ∙ e) in omega (arith, rest))
 ]
 
-named_behind : {A : Type 0} (at : ℕ) (more rest : List (ℕ × A)) → times (λ x. x.0) at more ≡ 0 → named at (more ++ rest) ≡ named at rest
+named_behind : {A : Type 0} (at : ℕ) (more rest : List (ℕ × A)) → times (λ x. x.0) at more ≡ 0 → looked_up at (more ++ rest) ≡ looked_up at rest
 named_behind at [] rest e = refl
 named_behind at (x ∷ more) rest e = elim (cases_eq x.0 at) [
   | inl q ↦ (let one : same x.0 at ≡ 1 = subst (λ o. same x.0 o ≡ 1) q (same_self x.0) in absurd (omega (arith, e, one)))
-  | inr ne ↦ ap (λ t. if t then Some x.1 else named at (more ++ rest)) (ne_eqb x.0 at ne) ∙ named_behind at more rest (omega (arith, e))
+  | inr ne ↦ ap (λ t. if t then Some x.1 else looked_up at (more ++ rest)) (ne_eqb x.0 at ne) ∙ named_behind at more rest (omega (arith, e))
 ]
 
 once_by_times : {A : Type 0} (whole : List (ℕ × A)) → ((k : ℕ) → times (λ x. x.0) k whole ≤ 1) → Once whole
@@ -88,7 +88,7 @@ once_by_times whole few at a more rest is e =
     let split : times (λ x. x.0) at whole ≡ times (λ x. x.0) at more + times (λ x. x.0) at rest =
     ap (λ l. times (λ x. x.0) at l) is ∙ times-append (λ x. x.0) at more rest in
     let none : times (λ x. x.0) at more ≡ 0 = omega (arith, here, all, split) in
-    ap (λ l. named at l) is ∙ named_behind at more rest none ∙ e
+    ap (λ l. looked_up at l) is ∙ named_behind at more rest none ∙ e
 
 -- The functions of a text stand there once for each declaration.
 module _ (k : ℕ) where
@@ -245,7 +245,7 @@ module _ (p : CheckedProgram) (a : IsAccepted p) where
   functions_tied = (shown.finds in_table weighed).1
 
   -- each callee is that of one of them
-  pub callee_owned : (at : ℕ) (c : _) → named at last.callees ≡ Some c → (m : Measures) × Contains all_measures m × (m.at ≡ at)
+  pub callee_owned : (at : ℕ) (c : _) → looked_up at last.callees ≡ Some c → (m : Measures) × Contains all_measures m × (m.at ≡ at)
   callee_owned at c e = elim (shown.owned at c e) [ inl i ↦ absurd (no_callee i) | inr i ↦ i ]
     where
       no_callee : None ≡ Some c → ⊥
@@ -255,7 +255,7 @@ module _ (p : CheckedProgram) (a : IsAccepted p) where
   pub program_covers : Covers (findings_of p) last_table weights 0 (λ k. false) [] p.body
   program_covers =
       let d = checked_has_type p a in
-      (covers (findings_of p) last_table weights d.shapes p.notes (λ at m s. (notes_are_found p a at m).0 s) p.body (outermost p.names) d.type
+      (covers (findings_of p) last_table weights d.shapes p.notes (λ at m s. (notes_are_found p a at m).0 s) p.body (outermost_scope p.names) d.type
       (first_here (findings_of p) last_table weights d.shapes p.notes) [] d.has
       (first_stands (findings_of p) last_table weights d.shapes p.notes p.names) table_fits
       (all_found (findings_of p) last_table weights d.shapes p.notes (uses_of p.body)

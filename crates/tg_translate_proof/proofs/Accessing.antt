@@ -4,7 +4,7 @@ use Rattle.std.proofs.Common.{◌≡◌, ◌≢◌, ℕ, zero, suc, ◌+◌, ◌
 use Rattle.std.proofs.Common.{arith, subst, inl, inr}
 use Rattle.std.specs.Prelude.{slice_get, slice_set, length, if◌then◌else◌}
 use Rattle.tg_state.specs.State.{stack_top, heap_base}
-use Rattle.tg_symbols.specs.Tables.{named}
+use Rattle.tg_symbols.specs.Tables.{looked_up}
 use Rattle.tg_simulation.specs.Runs.{Run}
 use Rattle.tg_simulation.specs.Agreement.{Source}
 use Rattle.tg_semantics.specs.Values.{Value, int, string, nil, reference, nothing, SourceWorld, Object, fields, elements, put_variable, put_object}
@@ -25,7 +25,7 @@ use Rattle.tg_translate_proof.proofs.Placing.{index_of, held_word, of_is_used, s
 use Rattle.tg_translate_proof.proofs.Storing.{Written, slot_written, assigned, holds_open}
 use Rattle.tg_translate_proof.proofs.Objects.{FirstAt, first_of, first_is, FirstPart, first_part, first_get, get_first, set_first, FieldHas, ElementHas, field_by, element_by}
 use Rattle.tg_translate_proof.proofs.Objects.{LaidRecord, LaidArray, laid_as_record, laid_as_array, part_stored, part_keeps}
-use Rattle.tg_translate_proof.proofs.Locating.{IsAt, a_slot, a_field, an_element, Needs, reads, writes_to}
+use Rattle.tg_translate_proof.proofs.Locating.{IsAt, a_slot, a_field, an_element, Premises, reads, writes_to}
 use Rattle.tg_translate_proof.specs.Worlds.{laid_record, laid_array}
 use Rattle.tg_translate_proof.specs.Worlds as worlds
 
@@ -48,7 +48,7 @@ part_is_known r i e = cc
 word_is_known : (n : ℕ) → worlds.word n ≢ unknown
 word_is_known n e = cc
 
-module _ (P : Program) (set : Setting P) (needs : Needs P) (p : Part) (h : Holdings) (types : List Ty) (s : SourceWorld) (w : World) (t : Temps) (hh : Holds P p h types s w t) where
+module _ (P : Program) (set : Setting P) (premises : Premises P) (p : Part) (h : Holdings) (types : List Ty) (s : SourceWorld) (w : World) (t : Temps) (hh : Holds P p h types s w t) where
   -- the heap is below the stack
   pub heap_below : heap_base + length w.memory.heap ≤ floor P
   heap_below = let a = hh.invariant.memory.taken in let b = set.heap_small in let c = set.stack_small in omega (arith, a, b, c)
@@ -77,8 +77,8 @@ module _ (P : Program) (set : Setting P) (needs : Needs P) (p : Part) (h : Holdi
           heap_words a (hh.invariant.known a known).1
       by _ _ _ has a_nil = omega arith
       by _ _ _ has (a_nil_record at) = omega arith
-      by _ _ _ has (a_record r at a e) = heap_words a (needs.objects_are_below p h types s w t hh r (a, record_of at) e)
-      by _ _ _ has (an_array r at count a e) = heap_words a (needs.objects_are_below p h types s w t hh r (a, array_of at count) e)
+      by _ _ _ has (a_record r at a e) = heap_words a (premises.objects_are_below p h types s w t hh r (a, record_of at) e)
+      by _ _ _ has (an_array r at count a e) = heap_words a (premises.objects_are_below p h types s w t hh r (a, array_of at count) e)
       by _ _ _ has (no_value v) = absurd (has refl)
 
   -- what is there, and what reading gives
@@ -97,7 +97,7 @@ module _ (P : Program) (set : Setting P) (needs : Needs P) (p : Part) (h : Holdi
     pub parts : List (ℕ × Value)
     pub object : slice_get s.objects r ≡ Some (fields parts)
     pub laid : IsLaid h P.shapes w.memory r a (record_of at) (fields parts)
-    pub shape : named at P.shapes ≡ Some (record_shape fs)
+    pub shape : looked_up at P.shapes ≡ Some (record_shape fs)
     pub many : length parts ≡ length fs
     pub each : (i f : ℕ) (t : Ty) → slice_get fs i ≡ Some (f, t) → FieldHas h w.memory r a parts i f t
     pub first : FirstAt name fs k ty
@@ -106,7 +106,8 @@ module _ (P : Program) (set : Setting P) (needs : Needs P) (p : Part) (h : Holdi
     pub here : FieldHas h w.memory r a parts k name ty
     pub same : here.0 ≡ v
 
-  pub field_at : (r name at a k : ℕ) (t : Ty) (fs : List (ℕ × Ty)) → slice_get h.objects r ≡ Some (a, record_of at) → named at P.shapes ≡ Some (record_shape fs) →
+  pub field_at : (r name at a k : ℕ) (t : Ty) (fs : List (ℕ × Ty)) → slice_get h.objects r ≡ Some (a, record_of at) →
+      looked_up at P.shapes ≡ Some (record_shape fs) →
       placed name 0 fs ≡ Some (k, t) → FieldAt r name a k t
   field_at r name at a k t fs has shape field =
       let l = hh.invariant.laid r (a, record_of at) has in
@@ -145,13 +146,14 @@ module _ (P : Program) (set : Setting P) (needs : Needs P) (p : Part) (h : Holdi
     pub counted : count ≡ length values
     pub few : length values < 2 ^ 26
     pub length_is : h.at a ≡ worlds.word (length values)
-    pub shape : named at P.shapes ≡ Some (array_shape ty)
+    pub shape : looked_up at P.shapes ≡ Some (array_shape ty)
     pub each : (k : ℕ) (v : Value) → slice_get values k ≡ Some v → ElementHas h w.memory r a k ty v
     pub v : Value
     pub got : slice_get values i ≡ Some v
     pub here : ElementHas h w.memory r a i ty v
 
-  pub element_at : (r i at a count : ℕ) (t : Ty) → slice_get h.objects r ≡ Some (a, array_of at count) → named at P.shapes ≡ Some (array_shape t) → i < count → ElementAt r i a t
+  pub element_at : (r i at a count : ℕ) (t : Ty) → slice_get h.objects r ≡ Some (a, array_of at count) → looked_up at P.shapes ≡ Some (array_shape t) →
+      i < count → ElementAt r i a t
   element_at r i at a count t has shape lt =
       let l = hh.invariant.laid r (a, array_of at count) has in
       let x = laid_as_array h P.shapes w.memory r a at count l.0 l.2 in
@@ -242,7 +244,7 @@ module _ (P : Program) (set : Setting P) (needs : Needs P) (p : Part) (h : Holdi
       Holds P p h types (put_variable place v s) (record w { memory = put u (Has word) w.memory }) t
   slot_assigned place u ty v word is_of type_is st =
       let ts = with_temps p.scene.depth t p.others in
-      let here : p.places (cell u) ≡ variable place = plainly (p.places (cell u)) place (needs.cells_are_plain p h types s w t hh u) is_of in
+      let here : p.places (cell u) ≡ variable place = plainly (p.places (cell u)) place (premises.cells_are_plain p h types s w t hh u) is_of in
       let used : p.places (cell u) ≢ nowhere = of_is_used place (p.places (cell u)) is_of in
       let up = hh.invariant.above u used in
       let under = heap_below in

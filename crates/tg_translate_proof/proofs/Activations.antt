@@ -2,7 +2,7 @@
 use Rattle.std.proofs.Common.{◌≡◌, ◌≢◌, ℕ, zero, suc, ◌+◌, ◌-◌, ◌<◌, ◌≤◌, ◌==◌, List, [], Option, Some, None, Bool}
 use Rattle.std.proofs.Common.{true, false, refl, sym, ap, ◌∙◌, arith, subst}
 use Rattle.std.specs.Prelude.{slice_get, if◌then◌else◌}
-use Rattle.tg_symbols.specs.Tables.{named}
+use Rattle.tg_symbols.specs.Tables.{looked_up}
 use Rattle.tg_syntax.specs.declared.tokens.Ident.{Ident}
 use Rattle.tg_syntax.specs.Tree.{Simple}
 use Rattle.tg_frame.specs.declared.accesses.Access.{Access}
@@ -12,7 +12,8 @@ use Rattle.tg_semantics.specs.Environments.{find, to_variable}
 use Rattle.tg_semantics.specs.Evaluation.{in_variable}
 use Rattle.tg_types.specs.declared.notes.Means.TheVariants as means
 use Rattle.tg_types.specs.Types.{Ty}
-use Rattle.tg_types.specs.Scopes.{name_of, at_of}
+use Rattle.tg_semantics.specs.Environments.{name_of}
+use Rattle.tg_types.specs.Scopes.{at_of}
 use Rattle.tg_types.specs.Has.{HasPlace}
 use Rattle.tg_tree.specs.Tree.{Tx, Stms, no_stms}
 use Rattle.tg_tree.specs.Operators.{word}
@@ -34,7 +35,7 @@ use Rattle.tg_translate_proof.proofs.Placing.{of_is_used}
 use Rattle.tg_translate_proof.proofs.Linking.{Links, links_are}
 use Rattle.tg_translate_proof.proofs.Locating.{SeenVariable, NameTyped, name_typed, found_home, slot_is, a_slot}
 use Rattle.tg_translate_proof.proofs.Accessing.{read_at, slot_assigned}
-use Rattle.tg_translate_proof.proofs.Needed.{needs}
+use Rattle.tg_translate_proof.proofs.Needed.{premises}
 
 -- the frames of an activation, by levels outwards
 frame_there : (chain : ℕ → ℕ) (level n : ℕ) → n ≤ level → slice_get (frames_of chain level) n ≡ Some (chain (level - n))
@@ -83,13 +84,13 @@ module _ (P : Program) (set : Setting P) (p : Part) (x : Ident) (type : Ty) (σ 
   name = name_typed P x p type typed
 
   abbrev seen : SeenVariable P p types (name_of x) name.at type
-  seen = (needs P set).sees p types σ τ x name.at type name.loop ready covers name.is_bound name.says
+  seen = (premises P set).sees p types σ τ x name.at type name.loop ready covers name.is_bound name.says
 
   -- where the translation has it
   is_place : (storage : Storage) → locate P.findings (Simple x) p.within σ ≡ drawn storage τ →
       place_in (frame_at p.within seen.home.level) seen.home.access ≡ storage
   is_place storage is_made =
-      let home_is : named name.at σ.homes ≡ Some seen.home =
+      let home_is : looked_up name.at σ.homes ≡ Some seen.home =
       found_home P.table σ p.scope.bindings (name_of x) name.at type name.loop ready.found name.is_bound ∙ seen.tabled in
       ap made_in (sym (ap (λ o. drawn (home_place p.within o) σ) home_is) ∙
       (sym (ap (λ o. variable_place p.within o σ) (set.found (at_of x) (means.Variable name.at) name.says)) ∙ is_made))
@@ -128,7 +129,7 @@ module _ (P : Program) (set : Setting P) (p : Part) (x : Ident) (type : Ty) (σ 
         address_in no_stms (slot_address (frame_at p.within seen.home.level) k) a
         (sym (ap (λ o. place_in (frame_at p.within seen.home.level) o) e) ∙ is_place (at_address before a) is_made) in
         let used : p.places (cell u) ≢ nowhere = of_is_used seen.place (p.places (cell u)) here in
-        let z = slot_assigned P set (needs P set) p h types s w t hh seen.place u type v stands here seen.type_is st in
+        let z = slot_assigned P set (premises P set) p h types s w t hh seen.place u type v stands here seen.type_is st in
         let back : p.scene.level - n ≡ seen.level = omega (arith, le) in
         let links = links_are P p h types s w t seen.level ready.scene ready.activation hh seen.leads in
         record {
@@ -151,7 +152,7 @@ module _ (P : Program) (set : Setting P) (p : Part) (x : Ident) (type : Ty) (σ 
           changed = z.1;
           others = λ b ne. put_apart w.memory u (Has stands) b ne;
           does = λ go out i.
-              (read_at P set (needs P set) p h types s w t hh (in_variable seen.place) type u (a_slot seen.place u type here seen.type_is)).gives
+              (read_at P set (premises P set) p h types s w t hh (in_variable seen.place) type u (a_slot seen.place u type here seen.type_is)).gives
               (λ _ w2. go tt (put_variable seen.place v w2)) out i;
           same = z.2;
         }

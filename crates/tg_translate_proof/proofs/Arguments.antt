@@ -14,7 +14,7 @@ use Rattle.tg_semantics.specs.Laws.{behind}
 use Rattle.tg_types.specs.Types.{Ty}
 use Rattle.tg_types.specs.Has.{Fits, HasValues}
 use Rattle.tg_tree.specs.Tree.{Tx, Txs, no_txs, tx}
-use Rattle.tg_tree.specs.Units.{Trees, argument_units, lifted_units}
+use Rattle.tg_tree.specs.Units.{Trees, argument_units, hoisted_units}
 use Rattle.tg_tree.specs.Shapes.{are_flat}
 use Rattle.tg_tree.specs.Lists.{join_txs}
 use Rattle.tg_tree.specs.Actions.{World, Temps, Go}
@@ -89,7 +89,7 @@ count_of (exp e rest) = suc (count_of rest)
 argument_small : (xs : Txs) → argument_units Trees xs ≤ 6
 argument_small xs = by (are_flat xs)
   where
-    by : (b : Bool) → 4 + lifted_units Trees b ≤ 6
+    by : (b : Bool) → 4 + hoisted_units Trees b ≤ 6
     by true = omega arith
     by false = omega arith
 

@@ -15,7 +15,7 @@ use Rattle.tg_types.specs.Types.{Ty, none_type}
 use Rattle.tg_types.specs.Has as has
 use Rattle.tg_types.specs.Has.{Has, HasPlace, HasValues, Fits}
 use Rattle.tg_tree.specs.Tree.{Tx, Ts, Store, Stms, no_stms, stm}
-use Rattle.tg_tree.specs.Units.{Trees, lifted_units}
+use Rattle.tg_tree.specs.Units.{Trees, hoisted_units}
 use Rattle.tg_tree.specs.Shapes.{is_flat}
 use Rattle.tg_tree.specs.Memory.{store}
 use Rattle.tg_tree.specs.Actions.{World, Temps, set_temp, Go, Next, charged, with_memory}
@@ -41,7 +41,8 @@ use Rattle.tg_translate_proof.proofs.Standing.{stands_fit, fits_has_values}
 use Rattle.tg_translate_proof.proofs.Placing.{some_same}
 use Rattle.tg_translate_proof.proofs.Storing.{temp_written}
 use Rattle.tg_translate_proof.proofs.Storing as storing
-use Rattle.tg_translate_proof.proofs.Locating.{IsAt, is_at_grows, Needs, PlaceSituation, PlaceShown, PlaceMayAssign, StorageFollows, IsOwn, locates, writes_to, place_has_values}
+use Rattle.tg_translate_proof.proofs.Locating.{IsAt, is_at_grows, Premises, PlaceSituation, PlaceShown, PlaceMayAssign, StorageFollows, IsOwn, locates}
+use Rattle.tg_translate_proof.proofs.Locating.{writes_to, place_has_values}
 use Rattle.tg_translate_proof.proofs.Accessing.{plainly, write_at}
 use Rattle.tg_translate_proof.proofs.Reading.{own_value}
 
@@ -68,7 +69,7 @@ module _ (P : Program) where
       worked P r r 0 n source (statements_run P p (followed (stm x xs) (Store a y)) p.around next w t) (omega arith)
       (subst (λ o. FollowsHere P r n source o) (sym (followed_runs p (stm x xs) (Store a y) next w t)) f)
 
-module _ (P : Program) (set : Setting P) (needs : Needs P) (grow : StatesGrow P) where
+module _ (P : Program) (set : Setting P) (premises : Premises P) (grow : StatesGrow P) where
   pub record AssignTyped (v : LValue) (e : Exp) (p : Part) (ty : Ty) : Type 0 where
     pub t : Ty
     pub u : Ty
@@ -95,7 +96,7 @@ module _ (P : Program) (set : Setting P) (needs : Needs P) (grow : StatesGrow P)
         by (inr f) = f
 
     pub has_values : HasValues typed_.t
-    has_values = place_has_values P needs x.p x.types x.σ x.τ v typed_.t x.ready x.covers.0 typed_.place
+    has_values = place_has_values P premises x.p x.types x.σ x.τ v typed_.t x.ready x.covers.0 typed_.place
 
     able : typed_.u ≢ none_type
     able = fits_has_values typed_.u typed_.t typed_.fits has_values
@@ -130,7 +131,7 @@ module _ (P : Program) (set : Setting P) (needs : Needs P) (grow : StatesGrow P)
       words = x.words.0;
       covers = x.covers.0;
       may_assign = inr may_all;
-      ready = ready_part P set x.p x.types x.types x.σ x.τ x.σ s (extends_none x.types) (later_none x.σ) (needs.place_grows v x.p.within storage x.σ s made) last x.ready;
+      ready = ready_part P set x.p x.types x.types x.σ x.τ x.σ s (extends_none x.types) (later_none x.σ) (premises.place_grows v x.p.within storage x.σ s made) last x.ready;
       is_made = made;
       outward = λ g ms s2 w2 t2 l g2 e2 h2.
           more P (x.r + left_over) (x.r + 150 + left_over) n (rest_run x.out s2) (x.p.around.out x.p.within.leave w2 t2) (omega arith) (x.outward g ms s2 w2 t2 l g2 e2 h2);
@@ -147,7 +148,7 @@ module _ (P : Program) (set : Setting P) (needs : Needs P) (grow : StatesGrow P)
         (next : Next) → OnwardHere next →
         FollowsHere P (x.r + 256) n (rest_run (locates P v x.p.env with_location x.out) x.s) (statement_runs P x.p (store_at before a y) x.p.around next x.w x.t)
     at_address_follows before a y s1 s2 l1 l2 made_y follows next onward =
-        let j : ℕ = 1 + lifted_units Trees (is_flat y) in
+        let j : ℕ = 1 + hoisted_units Trees (is_flat y) in
         let source : Run Source = rest_run (locates P v x.p.env with_location x.out) x.s in
         let stores : ℕ → Go ℕ = λ u z w2 t2. with_memory (store w2.memory u z) w2 (λ w3. next w3 t2) in
         let go' : Go ℕ = λ u w1 t1. value_runs P x.p y x.p.around (stores u) w1 t1 in
@@ -173,7 +174,7 @@ module _ (P : Program) (set : Setting P) (needs : Needs P) (grow : StatesGrow P)
         sub_value P set grow n E x k e typed_.u piece (x.r + 150 + left_over) (omega arith) able y s2 made_y l2 (writes_value l) (stores u)
         (λ b val z later st.
         let at2 = is_at_grows P x.p.places g b.h ms b.types l typed_.t u b.grows b.extends at in
-        let q = write_at P set needs x.p b.h b.types b.s b.w b.t b.holds l typed_.t u val z at2 has_values (stands_fit b.h val typed_.u typed_.t z typed_.fits st) in
+        let q = write_at P set premises x.p b.h b.types b.s b.w b.t b.holds l typed_.t u val z at2 has_values (stands_fit b.h val typed_.u typed_.t z typed_.fits st) in
         follows_along P.stack tree_work (x.r + 150 + 56) n (rest_run (x.go nothing) q.s1) (rest_run (writes_value l val) b.s) (stores u z b.w b.t) (stores u z b.w b.t)
         (λ i. q.does (λ o. x.go nothing) x.out i) (λ i. refl)
         (subst (λ o. FollowsHere P (x.r + 150 + 56) n (rest_run (x.go nothing) q.s1) (with_memory o b.w (λ w3. next w3 b.t))) (sym q.stored)
@@ -209,7 +210,7 @@ module _ (P : Program) (set : Setting P) (needs : Needs P) (grow : StatesGrow P)
         (sub_arm P set grow n E x k e typed_.u piece (x.r + 150 + 256) (omega arith) able i y s2 made_y l2 (writes_value (in_variable own.place)) next
         (λ b val z later st.
         let type_is = b.extends own.place typed_.t own.type_is in
-        let o = own_value P set needs x.p b.h b.types b.s b.w b.t typed_.t own.place i b.holds own.is_of type_is in
+        let o = own_value P set premises x.p b.h b.types b.s b.w b.t typed_.t own.place i b.holds own.is_of type_is in
         follows_along P.stack tree_work (x.r + 250 + 56) n (rest_run (x.go nothing) (put_variable own.place val b.s)) (rest_run (writes_value (in_variable own.place) val) b.s)
         (next b.w (set_temp i z b.t)) (next b.w (set_temp i z b.t))
         (λ c. ap (λ q. rest_run (with_found q (λ v2 w2. x.go nothing (put_variable own.place val w2))) b.s c) o.has) (λ c. refl)
@@ -232,7 +233,7 @@ module _ (P : Program) (set : Setting P) (needs : Needs P) (grow : StatesGrow P)
         after (assigned storage E_of s1) (λ st u. drawn (done st) u) ≡ drawn x.m x.τ → IsShown P n E x
     by_place (in_temp i) s1 made rest =
         let i1 = after_inv (assigned (in_temp i) E_of s1) _ x.m x.τ rest in
-        let l1 = needs.place_grows v x.p.within (in_temp i) x.σ s1 made in
+        let l1 = premises.place_grows v x.p.within (in_temp i) x.σ s1 made in
         let same : i1.1 ≡ x.τ = ap state_in i1.3 in
         let last : Later i1.1 x.τ = subst (λ o. Later i1.1 o) same (later_none i1.1) in
         let dropped_ : x.wanted ≡ want.Dropped = dropped_only x.wanted (subst (λ o. IsWantable x.wanted o) typed_.none x.wantable) in
@@ -248,7 +249,7 @@ module _ (P : Program) (set : Setting P) (needs : Needs P) (grow : StatesGrow P)
         let j1 = after_inv (expression P.findings e want.Value x.p.within s1) _ i1.0 i1.1 i1.2 in
         let k1 = after_inv (value_of j1.0 j1.1) _ i1.0 i1.1 j1.3 in
         let made_y : after (expression P.findings e want.Value x.p.within s1) value_of ≡ drawn k1.0 k1.1 = ap (λ o. after o value_of) j1.2 ∙ k1.2 in
-        let l1 = needs.place_grows v x.p.within (at_address before a) x.σ s1 made in
+        let l1 = premises.place_grows v x.p.within (at_address before a) x.σ s1 made in
         let store_ : Ts = store_at before a k1.0 in
         let all : drawn (done store_) k1.1 ≡ drawn x.m x.τ = ap (λ o. after o (λ st u. drawn (done st) u)) k1.3 ∙ i1.3 in
         let last : Later k1.1 x.τ = subst (λ o. Later k1.1 o) (ap state_in all) (later_none k1.1) in

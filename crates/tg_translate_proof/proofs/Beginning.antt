@@ -6,8 +6,8 @@ use Rattle.std.proofs.lemmas.Bool.{cases_lt}
 use Rattle.std.specs.Str.{bytes_eq}
 use Rattle.tg_state.specs.State.{stack_top, most_bytes, statics_base, heap_base, offset, word_at}
 use Rattle.tg_semantics.specs.declared.standards.Standard.{Standard}
-use Rattle.tg_semantics.specs.Values.{SourceWorld, start, add_weight, Entry, standard}
-use Rattle.tg_semantics.specs.Environments.{outermost, outermost_from, standards, standards_of, standard_text}
+use Rattle.tg_semantics.specs.Values.{SourceWorld, initial_world, add_weight, Entry, standard}
+use Rattle.tg_semantics.specs.Environments.{outermost_entries, outermost_from, standards, standards_of, standard_text}
 use Rattle.tg_semantics.specs.Levels.{levels_of}
 use Rattle.tg_types.specs.Scopes.{Binding, standard_one, standard_of, standard_bindings, entry}
 use Rattle.tg_tree.specs.Tree.{Literal}
@@ -131,7 +131,7 @@ abbrev pub first_world : List Literal → (slots : ℕ) → (input : List ℕ) �
 first_world ls n input = record { memory = first_memory ls n; input = input }
 
 abbrev pub first_source : (weight : ℕ) → (input : List ℕ) → SourceWorld
-first_source weight input = add_weight weight (start input)
+first_source weight input = add_weight weight (initial_world input)
 
 -- the first activation
 abbrev pub first_scene : (slots size weight : ℕ) → Scene

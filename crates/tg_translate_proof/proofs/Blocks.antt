@@ -5,7 +5,7 @@ use Rattle.std.proofs.lemmas.Bool.{cases_lt, lt-ltb, le-ltb}
 use Rattle.std.proofs.lemmas.List.{length-append}
 use Rattle.tg_state.specs.State.{word_at, heap_base, stack_top, most_room}
 use Rattle.tg_simulation.specs.Bytes.{AreBytes}
-use Rattle.tg_symbols.specs.Tables.{named}
+use Rattle.tg_symbols.specs.Tables.{looked_up}
 use Rattle.tg_semantics.specs.Values.{Value, Object, SourceWorld, fields, elements, add_object, add_heap}
 use Rattle.tg_types.specs.Types.{Ty, Shape}
 use Rattle.tg_tree.specs.Memory.{Memory, Closed, load}

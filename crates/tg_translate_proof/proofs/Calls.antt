@@ -7,7 +7,7 @@ use Rattle.tg_base.specs.declared.ids.Span.{Span}
 use Rattle.tg_syntax.specs.declared.tokens.Ident.{Ident}
 use Rattle.tg_syntax.specs.OfWords.{ExpsOfWords}
 use Rattle.tg_syntax.specs.Tree.{Exp, Call, Exps, no_exps, exp}
-use Rattle.tg_symbols.specs.Tables.{named}
+use Rattle.tg_symbols.specs.Tables.{looked_up}
 use Rattle.tg_simulation.specs.Runs.{Run}
 use Rattle.tg_simulation.specs.Ran.{Ran}
 use Rattle.tg_simulation.specs.Outcomes.{costs}
@@ -22,13 +22,14 @@ use Rattle.tg_semantics.specs.MachineEnds.{rest_run}
 use Rattle.tg_semantics.specs.Laws.{behind}
 use Rattle.tg_types.specs.declared.notes.Means.TheVariants as means
 use Rattle.tg_types.specs.Types.{Ty, int_type, none_type}
-use Rattle.tg_types.specs.Scopes.{Signature, function_at, name_of, at_of, bound, Scope, Binding, standard_one, signature}
+use Rattle.tg_semantics.specs.Environments.{name_of}
+use Rattle.tg_types.specs.Scopes.{Signature, function_at, at_of, bound, Scope, Binding, standard_one, signature}
 use Rattle.tg_semantics.specs.declared.standards.Standard.{Standard}
 use Rattle.tg_types.specs.Has as has
 use Rattle.tg_types.specs.Has.{Has, HasAll, end_args, an_arg, HaveValues, Says}
 use Rattle.tg_tree.specs.Tree as tree
 use Rattle.tg_tree.specs.Tree.{Tx, Txs, no_txs, tx}
-use Rattle.tg_tree.specs.Units.{Trees, argument_units, lifted_units}
+use Rattle.tg_tree.specs.Units.{Trees, argument_units, hoisted_units}
 use Rattle.tg_tree.specs.Shapes.{are_flat}
 use Rattle.tg_tree.specs.Sizes.{expression_length}
 use Rattle.tg_tree.specs.Operators.{word}
@@ -158,8 +159,8 @@ module _ (P : Program) (set : Setting P) (grow : StatesGrow P) (n : ℕ) where
       abbrev callee : Callee
       callee = K.done.callee
 
-      tabled : named at P.table.callees ≡ Some callee
-      tabled = ap (λ o. named o P.table.callees) (sym K.at_is) ∙ K.done.tabled
+      tabled : looked_up at P.table.callees ≡ Some callee
+      tabled = ap (λ o. looked_up o P.table.callees) (sym K.at_is) ∙ K.done.tabled
 
       -- how it is translated
       pub record CallMade : Type 0 where
@@ -176,21 +177,21 @@ module _ (P : Program) (set : Setting P) (grow : StatesGrow P) (n : ℕ) where
           let j = arguments_made P.findings x.p.within args no_txs x.σ xs s1 i.2 in
           let l : Later x.σ s1 = arguments_later P set grow n (Call sp f args) x args x.σ s1 j.own j.made in
           let noted : P.findings.meaning (at_of f) ≡ Some (means.Function at) = set.found (at_of f) (means.Function at) says in
-          let step : drawn (value (call_declared x.p.within xs (named at s1.callees))) s1 ≡ drawn x.m x.τ =
+          let step : drawn (value (call_declared x.p.within xs (looked_up at s1.callees))) s1 ≡ drawn x.m x.τ =
           sym (ap (λ o. after (scopes.call x.p.within o xs s1) (λ y s2. drawn (value y) s2)) noted) ∙ i.3 in
           let same_state : s1 ≡ x.τ = ap state_in step in
           let found_here : HasFound P.table x.τ x.p.scope.bindings =
           found_later P set x.σ x.τ x.p.scope.bindings (subst (λ o. Later x.σ o) same_state l) x.ready.moment x.ready.found in
-          let callee_is : named at s1.callees ≡ Some callee =
-          ap (λ o. named at o.callees) same_state ∙
+          let callee_is : looked_up at s1.callees ≡ Some callee =
+          ap (λ o. looked_up at o.callees) same_state ∙
           (is_found P x.τ (name_of f) (function_at at sig) x.p.scope.bindings found_here is_bound ∙ tabled) in
           let own_is : xs ≡ j.own = j.is in
           record {
             xs = j.own;
             arguments = subst (λ o. AreMade P.findings x.p.within args x.σ j.own o) same_state j.made;
             is = sym (ap (λ o. drawn (value (call_declared x.p.within j.own o)) x.τ) callee_is) ∙
-                (ap (λ o. drawn (value (call_declared x.p.within o (named at s1.callees))) x.τ) (sym own_is) ∙
-                (ap (λ o. drawn (value (call_declared x.p.within xs (named at s1.callees))) o) (sym same_state) ∙ step));
+                (ap (λ o. drawn (value (call_declared x.p.within o (looked_up at s1.callees))) x.τ) (sym own_is) ∙
+                (ap (λ o. drawn (value (call_declared x.p.within xs (looked_up at s1.callees))) o) (sym same_state) ∙ step));
           }
 
       abbrev hops : ℕ
@@ -215,7 +216,7 @@ module _ (P : Program) (set : Setting P) (grow : StatesGrow P) (n : ℕ) where
       link_small : argument_units Trees call_made.xs ≤ 6
       link_small = by (are_flat call_made.xs)
         where
-          by : (b : Bool) → 4 + lifted_units Trees b ≤ 6
+          by : (b : Bool) → 4 + hoisted_units Trees b ≤ 6
           by true = omega arith
           by false = omega arith
 

@@ -11,7 +11,7 @@ use Rattle.tg_frame.specs.declared.accesses.Access.TheVariants.{InTemp, InFrame}
 use Rattle.tg_frame.specs.Homes.{is_slot}
 use Rattle.tg_syntax.specs.Functions.{Measures, measures, program_functions}
 use Rattle.tg_syntax.specs.Spans.{span_of}
-use Rattle.tg_symbols.specs.Tables.{named}
+use Rattle.tg_symbols.specs.Tables.{looked_up}
 use Rattle.tg_escape.specs.Links.{links_of}
 use Rattle.tg_types.specs.Derivations.{Derivation}
 use Rattle.tg_types.specs.Programs.{CheckedProgram, IsAccepted}
@@ -235,7 +235,7 @@ module _ (p : CheckedProgram) (size : ℕ → ℕ) (heap stack : ℕ) (input : L
     level_is : m.level ≡ suc callee.level
     measured : measures_in p f.label ≡ Some m
 
-  is_callee : (at : ℕ) (callee : Callee) → named at (last p accepted).callees ≡ Some callee → IsCallee at callee
+  is_callee : (at : ℕ) (callee : Callee) → looked_up at (last p accepted).callees ≡ Some callee → IsCallee at callee
   is_callee at callee e =
       let owned = callee_owned p accepted at callee e in
       let tied : AreTied (last_table p accepted) (weights p accepted) (all_measures p accepted) [] (last p accepted).functions = functions_tied p accepted in
@@ -247,7 +247,7 @@ module _ (p : CheckedProgram) (size : ℕ → ℕ) (heap stack : ℕ) (input : L
       let other : first_function.label ≢ h.f.label = λ q. let one : same first_function.label h.f.label ≡ 1 = subst
       (λ b. same first_function.label b ≡ 1) q (same_self first_function.label) in
       omega (arith, few, one, there) in
-      let same_callee : h.tied.callee ≡ callee = some_is (sym h.tied.tabled ∙ ap (λ k. named k (last p accepted).callees) owned.2 ∙ e) in
+      let same_callee : h.tied.callee ≡ callee = some_is (sym h.tied.tabled ∙ ap (λ k. looked_up k (last p accepted).callees) owned.2 ∙ e) in
       let n = h.there.1 in
       record {
         m = owned.0;
@@ -267,7 +267,7 @@ module _ (p : CheckedProgram) (size : ℕ → ℕ) (heap stack : ℕ) (input : L
   whole_contains : (f : Function Ts) → Contains (own_trees p).functions f → Contains (trees_of p).functions f
   whole_contains f c = Contains-append_left (own_trees p).functions runtime.functions f c
 
-  callee_light : (at : ℕ) (callee : Callee) → named at (last p accepted).callees ≡ Some callee → size callee.label.0 ≤ weights p accepted at
+  callee_light : (at : ℕ) (callee : Callee) → looked_up at (last p accepted).callees ≡ Some callee → size callee.label.0 ≤ weights p accepted at
   callee_light at callee e =
       let c = is_callee at callee e in
       let bound : size c.f.label ≤ bound_in p c.f.label = may.sizes.source c.f (whole_contains c.f c.within) (label_high c.f c.within) in
@@ -275,18 +275,18 @@ module _ (p : CheckedProgram) (size : ℕ → ℕ) (heap stack : ℕ) (input : L
       ap bound_by c.measured ∙ sym (ap bound_by (sym (ap (λ k. declared_at k (all_measures p accepted)) c.at_is) ∙ by_byte p accepted c.m c.there)) in
       subst (λ k. size k ≤ weights p accepted at) (sym c.label_is) (subst (λ w. size c.f.label ≤ w) here bound)
 
-  callee_level : (at : ℕ) (callee : Callee) → named at (last p accepted).callees ≡ Some callee → level_in p callee.label.0 ≡ suc callee.level
+  callee_level : (at : ℕ) (callee : Callee) → looked_up at (last p accepted).callees ≡ Some callee → level_in p callee.label.0 ≡ suc callee.level
   callee_level at callee e =
       let c = is_callee at callee e in
       ap (λ k. level_in p k) c.label_is ∙ ap level_by c.measured ∙ c.level_is
 
-  callee_label : (at : ℕ) (callee : Callee) → named at (last p accepted).callees ≡ Some callee → 32 ≤ callee.label.0
+  callee_label : (at : ℕ) (callee : Callee) → looked_up at (last p accepted).callees ≡ Some callee → 32 ≤ callee.label.0
   callee_label at callee e =
       let c = is_callee at callee e in
       subst (λ k. 32 ≤ k) (sym c.label_is) (label_high c.f c.within)
 
   -- variables that escape are in their frames
-  home_in_frame : (at : ℕ) (home : Home) → named at (last p accepted).homes ≡ Some home → (findings_of p).escapes at ≡ true →
+  home_in_frame : (at : ℕ) (home : Home) → looked_up at (last p accepted).homes ≡ Some home → (findings_of p).escapes at ≡ true →
       (k : ℕ) × (home.access ≡ InFrame k)
   home_in_frame at home e escapes =
       let asks : Asks = about ⊥ (Unit {0}) (findings_of p) in

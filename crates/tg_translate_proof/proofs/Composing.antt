@@ -14,7 +14,7 @@ use Rattle.tg_tree.specs.Units.{Trees}
 use Rattle.tg_tree.proofs.TreeRuns.{trees_stay_over}
 use Rattle.tg_tree.proofs.Linked.{linked_stays_over, linked_is_trees}
 use Rattle.tg_correct.specs.Laws.{tree_work, tree_besides}
-use Rattle.tg_translate_proof.specs.Laws.{LinkedTreesFollow, MeaningIsKept, MayRun, source_run, trees_run, with_links, trees_of, level_in}
+use Rattle.tg_translate_proof.specs.Laws.{LinkedTreesFollow, TranslateIsCorrect, MayRun, source_run, trees_run, with_links, trees_of, level_in}
 
 module _ (p : CheckedProgram) (size : ℕ → ℕ) (heap stack : ℕ) (input : List ℕ) (may : MayRun p size heap stack input) where
   never_ends_full : NeverEndsFull (source_run p heap stack input)
@@ -27,7 +27,7 @@ module _ (p : CheckedProgram) (size : ℕ → ℕ) (heap stack : ℕ) (input : L
       only_stuck_is_stuck (evaluate_passing p.names p.body input heap stack n).end h)
 
 -- the theorem, from the simulation alone
-pub kept_by_simulation : LinkedTreesFollow → MeaningIsKept
+pub kept_by_simulation : LinkedTreesFollow → TranslateIsCorrect
 kept_by_simulation follow p size heap stack input may =
     let c = source_run p heap stack input in
     let linked = with_links p size heap stack input in

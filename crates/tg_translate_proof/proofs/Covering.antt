@@ -9,7 +9,7 @@ use Rattle.std.specs.List.{Contains}
 use Rattle.std.proofs.lemmas.Bool.{lt-ltb, cases_lt}
 use Rattle.std.proofs.lemmas.List.{get_or_append_left, get_or-drop, get_or-take, length-take, length-drop}
 use Rattle.std.proofs.Math.Seq.{get_or-append_seam}
-use Rattle.tg_symbols.specs.Tables.{named}
+use Rattle.tg_symbols.specs.Tables.{looked_up}
 use Rattle.tg_syntax.specs.declared.tokens.Ident.{Ident}
 use Rattle.tg_syntax.specs.declared.trees.Param.{Param}
 use Rattle.tg_syntax.specs.Tree.{Exp, Nil, Break, Int, Text, Read, Call, Neg, Binary, Make, Fill, Assign, If}
@@ -26,7 +26,8 @@ use Rattle.tg_types.specs.declared.notes.Means.{Means}
 use Rattle.tg_types.specs.declared.notes.Means.TheVariants as means
 use Rattle.tg_types.specs.Types.{Ty, int_type, string_type, none_type, record_type, array_type, Shape}
 use Rattle.tg_types.specs.Scopes.{Signature, Binding, variable_at, function_at, standard_one, Scope, in_a_loop}
-use Rattle.tg_types.specs.Scopes.{in_no_loop, binding, name_of, at_of, outermost, entry, standard_bindings, standard_of}
+use Rattle.tg_semantics.specs.Environments.{name_of}
+use Rattle.tg_types.specs.Scopes.{in_no_loop, binding, at_of, outermost_scope, entry, standard_bindings, standard_of}
 use Rattle.tg_semantics.specs.declared.standards.Standard.{Standard}
 use Rattle.tg_semantics.specs.Environments.{standards}
 use Rattle.tg_types.specs.Groups.{with_functions, with_params}
@@ -96,10 +97,10 @@ module _ (V : (level at : ℕ) → Type 0) (F : (level : ℕ) → Levels → Ide
 module _ (table : Table) where
   -- the finished translation has a variable or a function at this level
   abbrev pub HasVariable : (level at : ℕ) → Type 0
-  HasVariable n at = (home : Home) → named at table.homes ≡ Some home → home.level ≡ n
+  HasVariable n at = (home : Home) → looked_up at table.homes ≡ Some home → home.level ≡ n
 
   abbrev pub HasFunction : (level at : ℕ) → Type 0
-  HasFunction n at = (callee : Callee) → named at table.callees ≡ Some callee → callee.level ≡ n
+  HasFunction n at = (callee : Callee) → looked_up at table.callees ≡ Some callee → callee.level ≡ n
 
 -- and a function weighs what its text does
 abbrev pub IsWeighed : Table → ((at : ℕ) → ℕ) → (level : ℕ) → Levels → Ident → List Param → Exp → Type 0
@@ -173,7 +174,7 @@ module _ (findings : Findings) (table : Table) (weight : (at : ℕ) → ℕ) (sh
   Tells (standard_one f) level o = Unit {0}
 
   abbrev Agrees : List (ℕ × Binding) → Seen → (level : ℕ) → Type 0
-  Agrees bindings seen level = (x : ℕ) (b : Binding) → named x bindings ≡ Some b → Tells b level (named x seen)
+  Agrees bindings seen level = (x : ℕ) (b : Binding) → looked_up x bindings ≡ Some b → Tells b level (looked_up x seen)
 
   tells_deeper : (b : Binding) (n m : ℕ) (o : Option DeclaredAs) → n ≤ m → Tells b n o → Tells b m o
   tells_deeper (variable_at at t loop) n m o le h = let k = h.2 in (h.0, h.1, omega (arith, le, k), h.3)
@@ -185,7 +186,7 @@ module _ (findings : Findings) (table : Table) (weight : (at : ℕ) → ℕ) (sh
       Agrees ((y, b) ∷ bindings) ((y, d) ∷ seen) level
   with_one y b d bindings seen level one h x c e = by (y == x) e
     where
-      by : (t : Bool) → (if t then Some b else named x bindings) ≡ Some c → Tells c level (if t then Some d else named x seen)
+      by : (t : Bool) → (if t then Some b else looked_up x bindings) ≡ Some c → Tells c level (if t then Some d else looked_up x seen)
       by true e = subst (λ o. Tells o level (Some d)) (some_inj e) one
       by false e = h x c e
 
@@ -284,16 +285,16 @@ module _ (findings : Findings) (table : Table) (weight : (at : ℕ) → ℕ) (sh
 
   -- The program's body sees standard functions alone.
 
-  entry_tells : (x : ℕ) (b : Binding) (k : ℕ) (o : Option Standard) (rest : List (ℕ × Binding)) → (named x rest ≡ Some b → Tells b 0 None) →
-      named x (entry standard_one k o ++ rest) ≡ Some b → Tells b 0 None
+  entry_tells : (x : ℕ) (b : Binding) (k : ℕ) (o : Option Standard) (rest : List (ℕ × Binding)) → (looked_up x rest ≡ Some b → Tells b 0 None) →
+      looked_up x (entry standard_one k o ++ rest) ≡ Some b → Tells b 0 None
   entry_tells x b k None rest h e = h e
   entry_tells x b k (Some f) rest h e = by (k == x) e
     where
-      by : (t : Bool) → (if t then Some (standard_one f) else named x rest) ≡ Some b → Tells b 0 None
+      by : (t : Bool) → (if t then Some (standard_one f) else looked_up x rest) ≡ Some b → Tells b 0 None
       by true e = subst (λ o. Tells o 0 None) (some_inj e) tt
       by false e = h e
 
-  standards_tell : (x : ℕ) (b : Binding) (k : ℕ) (names : List (List ℕ)) → named x (standard_bindings k names) ≡ Some b → Tells b 0 None
+  standards_tell : (x : ℕ) (b : Binding) (k : ℕ) (names : List (List ℕ)) → looked_up x (standard_bindings k names) ≡ Some b → Tells b 0 None
   standards_tell x b k [] e = cc
   standards_tell x b k (text ∷ names) e =
       entry_tells x b k (standard_of text standards) (standard_bindings (suc k) names) (λ h. standards_tell x b (suc k) names h) e
@@ -301,7 +302,7 @@ module _ (findings : Findings) (table : Table) (weight : (at : ℕ) → ℕ) (sh
   abbrev pub first_here : Here
   first_here = record { seen = []; within = []; keeps = λ k. false; levels = [] }
 
-  pub first_stands : (names : List (List ℕ)) → Stands (outermost names) first_here
+  pub first_stands : (names : List (List ℕ)) → Stands (outermost_scope names) first_here
   first_stands names = record { agrees = λ x b e. standards_tell x b 0 names e; kept = λ j lt. absurd (omega (arith, lt)) }
 
   module _ (says : (at : ℕ) (m : Means) → Has.Says notes at m → findings.meaning at ≡ Some m) where
@@ -317,8 +318,8 @@ module _ (findings : Findings) (table : Table) (weight : (at : ℕ) → ℕ) (sh
           let rest = exps_uses args h.within h.seen after in
           let first : CoversName findings table weight (length h.within) h.keeps f =
           subst (λ m. CoversUse findings table weight (length h.within) h.keeps m) (sym (says (at_of f) (Has.use_of b) i))
-          (use_covered h.keeps h.within (named f.name.0 h.seen) b rest s.kept (s.agrees (name_of f) b e) u) in
-          let second = covers_all args sig.params scope h after hs s d (unused h.within (named f.name.0 h.seen) rest u) in
+          (use_covered h.keeps h.within (looked_up f.name.0 h.seen) b rest s.kept (s.agrees (name_of f) b e) u) in
+          let second = covers_all args sig.params scope h after hs s d (unused h.within (looked_up f.name.0 h.seen) rest u) in
           ((first, second.0), second.1)
       covers _ scope _ h after (Has.neg {a = a} k) s d u = covers a scope int_type h after k s d u
       covers _ scope _ h after (Has.ints {a = x} {b = y} i k l) s d u =
@@ -375,8 +376,8 @@ module _ (findings : Findings) (table : Table) (weight : (at : ℕ) → ℕ) (sh
           CoversPlace findings table weight (length h.within) h.keeps h.levels v × AllFound after
       covers_place _ scope t h after (Has.simple {x = x} at loop e i) s d u = (
         subst (λ m. CoversUse findings table weight (length h.within) h.keeps m) (sym (says (at_of x) (means.Variable at) i))
-            (variable_covered h.keeps h.within (named x.name.0 h.seen) at t loop after s.kept (s.agrees (name_of x) (variable_at at t loop) e) u),
-        unused h.within (named x.name.0 h.seen) after u,
+            (variable_covered h.keeps h.within (looked_up x.name.0 h.seen) at t loop after s.kept (s.agrees (name_of x) (variable_at at t loop) e) u),
+        unused h.within (looked_up x.name.0 h.seen) after u,
       )
       covers_place _ scope _ h after (Has.field {v = v} {f = f} at fs n k e g p i) s d u = covers_place v scope (record_type at) h after k s d u
       covers_place _ scope _ h after (Has.index {v = v} {e = e} at k i l) s d u =
@@ -456,7 +457,7 @@ module _ (findings : Findings) (table : Table) (weight : (at : ℕ) → ℕ) (sh
           (record {
             agrees =
                 agree_params ps sig.params scope h.seen (length inner) l params
-                (λ x b e. tells_deeper b (length h.within) (length inner) (named x h.seen) (omega (arith, deep)) (s.agrees x b e));
+                (λ x b e. tells_deeper b (length h.within) (length inner) (looked_up x h.seen) (omega (arith, deep)) (s.agrees x b e));
             kept = keeps_deeper h.keeps h.within (at_of f) s.kept;
           }) fits u in
           let second = covers_bodies rest ss scope h after hs s d.3 first.1 in (

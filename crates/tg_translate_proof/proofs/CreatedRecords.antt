@@ -6,7 +6,7 @@ use Rattle.std.proofs.lemmas.List.{length-append, length-replicate}
 use Rattle.std.proofs.lemmas.List.Elements.{All-append, All-replicate}
 use Rattle.tg_state.specs.State.{word_at, heap_base, stack_top, most_room}
 use Rattle.tg_simulation.specs.Bytes.{AreBytes}
-use Rattle.tg_symbols.specs.Tables.{named}
+use Rattle.tg_symbols.specs.Tables.{looked_up}
 use Rattle.tg_semantics.specs.Values.{Value, Object, fields, SourceWorld, add_object, add_heap}
 use Rattle.tg_types.specs.Types.{Ty, record_shape}
 use Rattle.tg_tree.specs.Memory.{Memory, load}
@@ -187,7 +187,7 @@ module _ (P : Program) (set : Setting P) (p : Part) (h : Holdings) (types : List
       omega (arith, room, stack)
 
   -- the words of a record's fields, and so many zeros behind them
-  pub record_added : (at : ℕ) (fs : List (ℕ × Ty)) → named at P.shapes ≡ Some (record_shape fs) → (parts : List (ℕ × Value)) (us : List ℕ)
+  pub record_added : (at : ℕ) (fs : List (ℕ × Ty)) → looked_up at P.shapes ≡ Some (record_shape fs) → (parts : List (ℕ × Value)) (us : List ℕ)
       (z : ℕ) → FieldsStand h parts fs us → z % 4 ≡ 0 → 0 < length us + z →
       length w.memory.heap + length (record_block us z) ≤ P.heap →
       HasObject P p h types s w t (record_block us z) (record_of at) (fields parts)

@@ -7,7 +7,7 @@ use Rattle.std.proofs.lemmas.List.{length-replicate}
 use Rattle.std.proofs.lemmas.List.Elements.{All-append}
 use Rattle.tg_state.specs.State.{word_at, heap_base, stack_top, most_room}
 use Rattle.tg_simulation.specs.Bytes.{AreBytes}
-use Rattle.tg_symbols.specs.Tables.{named}
+use Rattle.tg_symbols.specs.Tables.{looked_up}
 use Rattle.tg_semantics.specs.Values.{Value, Object, elements, SourceWorld, add_object, add_heap}
 use Rattle.tg_types.specs.Types.{Ty, array_shape, none_type}
 use Rattle.tg_tree.specs.Memory.{Memory, load, string_block}
@@ -170,7 +170,7 @@ module _ (P : Program) (set : Setting P) (p : Part) (h : Holdings) (types : List
       omega (arith, room, stack)
 
   -- an array of so many such values
-  pub array_added : (at : ℕ) (ty : Ty) → named at P.shapes ≡ Some (array_shape ty) → (n : ℕ) (v : Value) (u : ℕ) → Stands h v ty u →
+  pub array_added : (at : ℕ) (ty : Ty) → looked_up at P.shapes ≡ Some (array_shape ty) → (n : ℕ) (v : Value) (u : ℕ) → Stands h v ty u →
       u < 2 ^ 32 → n < 2 ^ 32 → length w.memory.heap + length (array_block n u) ≤ P.heap →
       HasObject P p h types s w t (array_block n u) (array_of at n) (elements (replicate n v))
   array_added at ty shape n v u st u_small n_small fits =

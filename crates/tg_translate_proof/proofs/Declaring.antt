@@ -7,7 +7,7 @@ use Rattle.tg_state.specs.State.{stack_top, heap_base}
 use Rattle.tg_syntax.specs.declared.tokens.Ident.{Ident}
 use Rattle.tg_syntax.specs.OfWords.{OfWords}
 use Rattle.tg_syntax.specs.Tree.{Exp}
-use Rattle.tg_symbols.specs.Tables.{named}
+use Rattle.tg_symbols.specs.Tables.{looked_up}
 use Rattle.tg_simulation.specs.Runs.{Run}
 use Rattle.tg_simulation.specs.Ran.{Ran}
 use Rattle.tg_simulation.specs.Outcomes.{costs}
@@ -17,12 +17,13 @@ use Rattle.tg_semantics.specs.Evaluation.{with_variable}
 use Rattle.tg_semantics.specs.Passing.{Rest}
 use Rattle.tg_semantics.specs.MachineEnds.{rest_run}
 use Rattle.tg_types.specs.Types.{Ty, int_type, none_type}
-use Rattle.tg_types.specs.Scopes.{Scope, variable_at, binding, name_of, at_of}
+use Rattle.tg_semantics.specs.Environments.{name_of}
+use Rattle.tg_types.specs.Scopes.{Scope, variable_at, binding, at_of}
 use Rattle.tg_types.specs.Has.{Has, HasValues, Fits}
 use Rattle.tg_frame.specs.declared.accesses.Access.{Access}
 use Rattle.tg_frame.specs.declared.accesses.Access.TheVariants.{InTemp, InFrame}
 use Rattle.tg_tree.specs.Tree.{Tx, Ts, FrameAddress, Store}
-use Rattle.tg_tree.specs.Units.{Trees, lifted_units}
+use Rattle.tg_tree.specs.Units.{Trees, hoisted_units}
 use Rattle.tg_tree.specs.Shapes.{is_flat}
 use Rattle.tg_tree.specs.Memory.{Memory, Closed, Has as HasWord, put, slot, store}
 use Rattle.tg_base.specs.Words.{sub}
@@ -34,7 +35,7 @@ use Rattle.tg_translate.specs.States.{TranslationState, drawn, Translates, after
 use Rattle.tg_translate.specs.Wants.{Made, value_of, put_in}
 use Rattle.tg_translate.specs.Constructs.{slot_address}
 use Rattle.tg_translate.specs.Translate.{expression, declaration_of}
-use Rattle.tg_translate_proof.specs.Tables.{Later, IsMoment, IsBehind}
+use Rattle.tg_translate_proof.specs.Tables.{Later, IsMoment, IsSuffix}
 use Rattle.tg_translate_proof.specs.Worlds.{Holdings, unknown, Stands, GrowsTo, Key, cell, temporary, Content, nowhere, free, variable, kept, fixed, Places, IsOf, HoldsAt, Invariant}
 use Rattle.tg_translate_proof.specs.Situations as situations
 use Rattle.tg_translate_proof.specs.Situations.{Program, Part, Setting, Holds, IsReady, IsCovered, MayAssign, Extends, with_temps, floor, key_of, statement_runs, value_runs}
@@ -69,8 +70,8 @@ module _ (P : Program) (set : Setting P) where
   -- A home that is free to be declared, where a variable is.
   pub record Home_at (p : Part) (σ τ : TranslationState) (x : Ident) (access : Access) (key : Key) : Type 0 where
     pub key_is : key_of p.scene p.env.level access ≡ key
-    pub seen : named (at_of x) σ.homes ≡ named (at_of x) P.table.homes
-    pub tabled : named (at_of x) P.table.homes ≡ Some (record { level = p.within.level; access = access })
+    pub seen : looked_up (at_of x) σ.homes ≡ looked_up (at_of x) P.table.homes
+    pub tabled : looked_up (at_of x) P.table.homes ≡ Some (record { level = p.within.level; access = access })
     pub unlinked : (u : ℕ) → p.places key ≢ fixed u
     pub unused : (l : ℕ) → IsOf l (p.places key) → ⊥
     pub shallow : depth_of key ≤ p.scene.depth
@@ -107,14 +108,16 @@ module _ (P : Program) (set : Setting P) where
   -- a home that was just declared is the table's, in each later state
   pub home_tabled : (p : Part) (s u τ : TranslationState) (x : Ident) (access : Access) (homes : _) → IsMoment P.table P.code τ → Later s u → Later u τ →
       s.homes ≡ (at_of x, record { level = p.within.level; access = access }) ∷ homes →
-      (named (at_of x) u.homes ≡ named (at_of x) P.table.homes) × (named (at_of x) P.table.homes ≡ Some (record { level = p.within.level; access = access }))
+      (looked_up (at_of x) u.homes ≡ looked_up (at_of x) P.table.homes) ×
+      (looked_up (at_of x) P.table.homes ≡ Some (record { level = p.within.level; access = access }))
   home_tabled p s u τ x access homes m l1 l2 first =
       let home : Home = record { level = p.within.level; access = access } in
       let at : ℕ = at_of x in
       let mu : IsMoment P.table P.code u = moment_before P.table P.code u τ m l2 in
-      let behind_ : IsBehind P.table.homes s.homes = behind_on mu.homes l1.homes in
-      let here : named at s.homes ≡ Some home = ap (λ o. named at o) first ∙ ap (λ b. if b then Some home else named at homes) (eq-eqb at at refl) in
-      let tabled : named at P.table.homes ≡ Some home = set.homes_once at home behind_.more s.homes behind_.whole_is here in
+      let behind_ : IsSuffix P.table.homes s.homes = behind_on mu.homes l1.homes in
+      let here : looked_up at s.homes ≡ Some home =
+          ap (λ o. looked_up at o) first ∙ ap (λ b. if b then Some home else looked_up at homes) (eq-eqb at at refl) in
+      let tabled : looked_up at P.table.homes ≡ Some home = set.homes_once at home behind_.more s.homes behind_.whole_is here in
       ((found_later P set s u ((name_of x, variable_at at int_type false) ∷ []) l1 mu (here ∙ sym tabled, tt)).0, tabled)
 
   -- Where a variable begins.
@@ -292,7 +295,7 @@ module _ (P : Program) (set : Setting P) where
         let put_at : ℕ → Run Ran = λ b. value_runs P k.p y k.p.around (stores b) k.w k.t in
         paid P k.r n source (statement_runs P k.p one k.p.around next k.w k.t)
         (subst (λ o. FollowsHere P (k.r + 256) n source (statement_runs P k.p o k.p.around next k.w k.t)) (ap made_in i2.3)
-        (worked P (k.r + 200 + 4 + 4) (k.r + 256) (1 + lifted_units Trees (is_flat y)) n source _ (omega (arith, flat))
+        (worked P (k.r + 200 + 4 + 4) (k.r + 256) (1 + hoisted_units Trees (is_flat y)) n source _ (omega (arith, flat))
         (worked P (k.r + 200 + 4 + 3) (k.r + 200 + 4 + 4) 1 n source _ (omega arith)
         (worked P (k.r + 200 + 4 + 2) (k.r + 200 + 4 + 3) 1 n source _ (omega arith)
         (worked P (k.r + 200 + 4) (k.r + 200 + 4 + 2) 2 n source (put_at (sub k.p.around.activation.base (4 * (j + 1)))) (omega arith)

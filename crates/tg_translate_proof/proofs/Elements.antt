@@ -4,7 +4,7 @@ use Rattle.std.specs.Prelude.{slice_get, length, nat_lt, not, ◌&&◌, if◌the
 use Rattle.tg_state.specs.State.{heap_base}
 use Rattle.tg_base.specs.Words.{add, shift_left, is_negative}
 use Rattle.tg_syntax.specs.Tree.{Exp, LValue, Index}
-use Rattle.tg_symbols.specs.Tables.{named}
+use Rattle.tg_symbols.specs.Tables.{looked_up}
 use Rattle.tg_simulation.specs.Runs.{Run}
 use Rattle.tg_simulation.specs.Ran.{Ran, works}
 use Rattle.tg_simulation.specs.Agreement.{Source}
@@ -22,7 +22,7 @@ use Rattle.tg_tree.specs.Tree.{Tx, Temp, Const, Load, Binary, Ts, Fault, Stms, n
 use Rattle.tg_tree.specs.Forms.{nothing as nothing_done}
 use Rattle.tg_tree.specs.Lists.{join_stms}
 use Rattle.tg_tree.proofs.ListLaws.{join_stms-none}
-use Rattle.tg_tree.specs.Units.{Trees, lifted_units}
+use Rattle.tg_tree.specs.Units.{Trees, hoisted_units}
 use Rattle.tg_tree.specs.Shapes.{is_flat}
 use Rattle.tg_tree.specs.Memory.{load}
 use Rattle.tg_tree.specs.Actions.{World, Temps, Go, Next, charged, with_word}
@@ -44,7 +44,8 @@ use Rattle.tg_translate_proof.proofs.Making.{worked}
 use Rattle.tg_translate_proof.proofs.Pieces.{StatesGrow, more, paid, extends_none, ready_part, stop_follows}
 use Rattle.tg_translate_proof.proofs.Sides.{lifted_small, both_true}
 use Rattle.tg_translate_proof.proofs.Standing.{int_has_values}
-use Rattle.tg_translate_proof.proofs.Locating.{IsAt, an_element, Needs, PlaceSituation, PlaceShown, PlaceMayAssign, PlaceOnward, StorageFollows, IsOwn, reads, locates, place_source, by_storage}
+use Rattle.tg_translate_proof.proofs.Locating.{IsAt, an_element, Premises, PlaceSituation, PlaceShown, PlaceMayAssign, PlaceOnward, StorageFollows, IsOwn}
+use Rattle.tg_translate_proof.proofs.Locating.{reads, locates, place_source, by_storage}
 use Rattle.tg_translate_proof.proofs.Accessing.{element_at, heap_below}
 use Rattle.tg_translate_proof.proofs.Objects.{LaidArray, laid_as_array}
 use Rattle.tg_translate_proof.proofs.Reading.{read_follows}
@@ -98,7 +99,7 @@ read_temp_is (in_temp j) i e = let same : j ≡ i = cc in ap in_temp same
 read_temp_is (at_address no_stms a) i e = cc
 read_temp_is (at_address (stm y ys) a) i e = cc
 
-module _ (P : Program) (set : Setting P) (needs : Needs P) (grow : StatesGrow P) where
+module _ (P : Program) (set : Setting P) (premises : Premises P) (grow : StatesGrow P) where
   abbrev element_located : Value → Value → (Location → Rest) → (out : Rest) → Rest
   element_located v b go out = evaluation.locate_element Passing (passing P.heap P.stack) v b go out
 
@@ -110,7 +111,7 @@ module _ (P : Program) (set : Setting P) (needs : Needs P) (grow : StatesGrow P)
   checked p l o u z len q n c next w t is_l is_o has f =
       let small = lifted_small (is_flat (Load (operand l))) in
       worked P (q + 12) (q + 16) 4 n c _ (omega arith)
-      (worked P (q + 5) (q + 12) (4 + lifted_units Trees (is_flat (Load (operand l)))) n c _ (omega (arith, small))
+      (worked P (q + 5) (q + 12) (4 + hoisted_units Trees (is_flat (Load (operand l)))) n c _ (omega (arith, small))
       (more P (q + 3 + 2) (q + 5) n c _ (omega arith)
       (operand_follows P set grow p o z (q + 3) n c
       (λ z1 w1 t1. value_runs P p (Load (operand l)) p.around (λ v w2 t2. (if not (nat_lt z1 v) then statement_runs P p
@@ -132,7 +133,7 @@ module _ (P : Program) (set : Setting P) (needs : Needs P) (grow : StatesGrow P)
       let array : ℕ → World → Temps → Run Ran = λ z1 w1 t1. value_runs P p (operand l) p.around (last z1) w1 t1 in
       let shifted : Go ℕ = λ z1 w1 t1 i. works 2 (array z1 w1 t1 i) in
       worked P (q + 13) (q + 14) 1 n c _ (omega arith)
-      (worked P (q + 10) (q + 13) (1 + lifted_units Trees (is_flat (operand l))) n c _ (omega (arith, small))
+      (worked P (q + 10) (q + 13) (1 + hoisted_units Trees (is_flat (operand l))) n c _ (omega (arith, small))
       (worked P (q + 9) (q + 10) 1 n c (value_runs P p (operand o) p.around shifted w t) (omega arith)
       (more P (q + 6 + 2) (q + 9) n c _ (omega arith)
       (operand_follows P set grow p o z (q + 6) n c shifted w t is_o
@@ -171,7 +172,7 @@ module _ (P : Program) (set : Setting P) (needs : Needs P) (grow : StatesGrow P)
   element_found : (n q : ℕ) (p : Part) (h : Holdings) (types : List Ty) (s : SourceWorld) (w : World) (t : Temps) (v b : Value) (at u z : ℕ)
       (ty : Ty) (l o : Operand) (go : Location → Rest) (out : Rest) (next : Next) →
       Holds P p h types s w t → Stands h v (array_type at) u → Stands h b int_type z → OperandIs l u t → OperandIs o z t →
-      named at P.shapes ≡ Some (array_shape ty) → 3 ≤ q →
+      looked_up at P.shapes ≡ Some (array_shape ty) → 3 ≤ q →
       ((k : Location) → IsAt P p.places h types k ty (u + 4 + 4 * z) → z < 2 ^ 26 → u + 4 + 4 * z < 2 ^ 32 → FollowsHere P q n (rest_run (go k) s) (next w t)) →
       FollowsHere P (q + 16) n (rest_run (element_located v b go out) s)
       (statements_run P p (stm (index_check (operand l) (operand o)) no_stms) p.around next w t)
@@ -192,9 +193,9 @@ module _ (P : Program) (set : Setting P) (needs : Needs P) (grow : StatesGrow P)
           let lt : z < length x.values = ltb-true z (length x.values) e in
           let few = x.few in
           let counted = x.counted in
-          let el = element_at P set needs p h types s w t hh r z at a count ty has shape (omega (arith, lt, counted)) in
+          let el = element_at P set premises p h types s w t hh r z at a count ty has shape (omega (arith, lt, counted)) in
           let known = hh.invariant.known (a + 4 + 4 * z) (λ f. part_is_known r z (sym el.here.1 ∙ f)) in
-          let under = heap_below P set needs p h types s w t hh in
+          let under = heap_below P set premises p h types s w t hh in
           let source : Run Source = rest_run (go (in_element r z)) s in
           let target : Run Ran = statements_run P p (stm (index_check (operand l) (operand o)) no_stms) p.around next w t in
           follows_along P.stack tree_work (q + 16) n source (rest_run (element_located (reference r) (int z) go out) s) target target
@@ -218,7 +219,7 @@ module _ (P : Program) (set : Setting P) (needs : Needs P) (grow : StatesGrow P)
   pub record ElementTyped (v : LValue) (e : Exp) (p : Part) (t : Ty) : Type 0 where
     pub at : ℕ
     pub array_typed : HasPlace P.shapes P.notes v p.scope (array_type at)
-    pub shape : named at P.shapes ≡ Some (array_shape t)
+    pub shape : looked_up at P.shapes ≡ Some (array_shape t)
     pub index_typed : Has P.shapes P.notes e p.scope int_type
 
   element_typed : (v : LValue) (e : Exp) (p : Part) (t : Ty) → HasPlace P.shapes P.notes (Index v e) p.scope t → ElementTyped v e p t
@@ -273,7 +274,7 @@ module _ (P : Program) (set : Setting P) (needs : Needs P) (grow : StatesGrow P)
       covers = x.covers.0;
       may_assign = may_v;
       ready = ready_part P set x.p x.types x.types x.σ x.τ x.σ s (extends_none x.types) (later_none x.σ)
-          (needs.place_grows v x.p.within storage x.σ s made) last x.ready;
+          (premises.place_grows v x.p.within storage x.σ s made) last x.ready;
       is_made = made;
       outward = λ g ms s2 w2 t2 l g2 e2 h2.
           more P (x.r + left_over) (x.r + j + 180 + left_over) n (rest_run x.out s2) (x.p.around.out x.p.within.leave w2 t2) (omega arith)
@@ -356,11 +357,11 @@ module _ (P : Program) (set : Setting P) (needs : Needs P) (grow : StatesGrow P)
         (subst (λ o. FollowsHere P (x.r + j + 180 + 1 + 2) n inner o) (sym runs)
         (both_follow P set grow n stands e (array_type typed_.at) int_type int_has_values show_e typed_.index_typed x.words.1 x.covers.1 may_e s1 s2
         s3 sh m y made_e made_y
-        (needs.place_grows v x.p.within storage x.σ s1 made) (left_later (assigns_nothing e) (read storage) s3 (lh_of storage)) last_sh hd fresh
+        (premises.place_grows v x.p.within storage x.σ s1 made) (left_later (assigns_nothing e) (read storage) s3 (lh_of storage)) last_sh hd fresh
         (x.r + j + 150) (omega arith) with_both next
         (assigns_nothing e) (read storage) (lh_of storage) s3 (x.r + j + 180 + 1) inner (later_none s3) refl
         (λ go2 on.
-        read_follows P set needs n (x.r + j + 180) x.p x.h x.types (array_type typed_.at) with_array x.out inner x.s x.w x.t storage x.holds (show_v
+        read_follows P set premises n (x.r + j + 180) x.p x.h x.types (array_type typed_.at) with_array x.out inner x.s x.w x.t storage x.holds (show_v
         (inner_at j storage s1 made last1)) go2
         (λ g ms a u s4 w4 t4 gg ee hh st. more P (x.r + j + 150 + 6) (x.r + j + 180 + left_over) n (rest_run (with_array a) s4) (go2 u w4 t4)
         (omega arith) (on g ms a u s4 w4 t4 gg ee hh st)))

@@ -10,7 +10,7 @@ use Rattle.tg_frame.specs.declared.accesses.Access.TheVariants.{InTemp, InFrame}
 use Rattle.tg_frame.specs.Homes.{homes_from, slots_of, temps_of}
 use Rattle.tg_syntax.specs.declared.trees.Param.{Param}
 use Rattle.tg_syntax.specs.Functions.{own_params}
-use Rattle.tg_symbols.specs.Tables.{named}
+use Rattle.tg_symbols.specs.Tables.{looked_up}
 use Rattle.tg_simulation.specs.Runs.{Run}
 use Rattle.tg_simulation.specs.Ran.{Ran}
 use Rattle.tg_semantics.specs.Values.{Value, Entry, Env, SourceWorld, add_variable, drop_weight, go_back}
@@ -21,7 +21,8 @@ use Rattle.tg_semantics.specs.Passing.{Rest, Passing, passing}
 use Rattle.tg_semantics.specs.MachineEnds.{rest_run}
 use Rattle.tg_semantics.specs.Laws.{behind}
 use Rattle.tg_types.specs.Types.{Ty}
-use Rattle.tg_types.specs.Scopes.{Scope, Binding, variable_at, function_at, standard_one, at_of, name_of, binding}
+use Rattle.tg_semantics.specs.Environments.{name_of}
+use Rattle.tg_types.specs.Scopes.{Scope, Binding, variable_at, function_at, standard_one, at_of, binding}
 use Rattle.tg_types.specs.Groups.{with_params}
 use Rattle.tg_types.specs.Has.{HasValues, HaveValues}
 use Rattle.tg_tree.specs.Memory.{Memory, Closed, lay, slot}
@@ -30,7 +31,7 @@ use Rattle.tg_runtime_proof.proofs.Calling.{placed_world, placed_temps}
 use Rattle.tg_translate.specs.declared.homes.Home.{Home}
 use Rattle.tg_translate.specs.States.{TranslationState}
 use Rattle.tg_translate.specs.Functions.{parameters}
-use Rattle.tg_translate_proof.specs.Tables.{Table, IsBehind, IsMoment, Later, HasFound}
+use Rattle.tg_translate_proof.specs.Tables.{Table, IsSuffix, IsMoment, Later, HasFound}
 use Rattle.tg_translate_proof.specs.Worlds.{Holdings, Stands, Places, Key, cell, temporary, Content, nowhere, free, variable, kept, fixed}
 use Rattle.tg_translate_proof.specs.Worlds.{HoldsAt, word_of, AllTemps, IsOf, Invariant, Scene}
 use Rattle.tg_translate_proof.specs.Situations as situations
@@ -82,11 +83,11 @@ given h asks (p ∷ ps) (ty ∷ tys) (x ∷ vs) (u ∷ us) e v st =
 -- the homes of parameters are in the table
 abbrev pub AreTabled : Table → (level : ℕ) → List Param → List Access → Type 0
 AreTabled table l (p ∷ ps) (home ∷ homes) =
-    (named (at_of p.name) table.homes ≡ Some (record { level = l; access = home })) × AreTabled table l ps homes
+    (looked_up (at_of p.name) table.homes ≡ Some (record { level = l; access = home })) × AreTabled table l ps homes
 AreTabled table l _ _ = Unit {0}
 
 pub parameters_behind : (level : ℕ) (ps : List Param) (homes : List Access) (seen : List (ℕ × Home)) →
-    IsBehind (parameters level ps homes seen) seen
+    IsSuffix (parameters level ps homes seen) seen
 parameters_behind l [] homes seen = behind_none
 parameters_behind l (p ∷ ps) [] seen = behind_none
 parameters_behind l (p ∷ ps) (home ∷ homes) seen =
@@ -97,8 +98,8 @@ parameters_behind l (p ∷ ps) (home ∷ homes) seen =
 pub found_alike : (table : Table) (s t : TranslationState) (bs : List (ℕ × Binding)) → t.homes ≡ s.homes → t.callees ≡ s.callees →
     HasFound table s bs → HasFound table t bs
 found_alike table s t [] e f x = tt
-found_alike table s t ((y, variable_at at ty loop) ∷ bs) e f x = (ap (λ o. named at o) e ∙ x.0, found_alike table s t bs e f x.1)
-found_alike table s t ((y, function_at at sig) ∷ bs) e f x = (ap (λ o. named at o) f ∙ x.0, found_alike table s t bs e f x.1)
+found_alike table s t ((y, variable_at at ty loop) ∷ bs) e f x = (ap (λ o. looked_up at o) e ∙ x.0, found_alike table s t bs e f x.1)
+found_alike table s t ((y, function_at at sig) ∷ bs) e f x = (ap (λ o. looked_up at o) f ∙ x.0, found_alike table s t bs e f x.1)
 found_alike table s t ((y, standard_one one) ∷ bs) e f x = found_alike table s t bs e f x
 
 with_homes : (level : ℕ) → List Param → List Access → TranslationState → TranslationState
@@ -114,8 +115,8 @@ homes_later l ps homes s = record {
   functions = front_none;
 }
 
-named_first : {A : Type 0} (at : ℕ) (a : A) (rest : List (ℕ × A)) → named at ((at, a) ∷ rest) ≡ Some a
-named_first at a rest = ap (λ b. if b then Some a else named at rest) (eq-eqb at at refl)
+named_first : {A : Type 0} (at : ℕ) (a : A) (rest : List (ℕ × A)) → looked_up at ((at, a) ∷ rest) ≡ Some a
+named_first at a rest = ap (λ b. if b then Some a else looked_up at rest) (eq-eqb at at refl)
 
 -- parameters that are declared are found, and stand in the table
 pub params_found : (P : Program) (set : Setting P) (l : ℕ) (ps : List Param) (homes : List Access) (tys : List Ty) (s : TranslationState)
@@ -133,8 +134,8 @@ params_found P set l (p ∷ ps) (home ∷ homes) (t ∷ tys) s scope e f x m =
     let s1 : TranslationState = record s { homes = (at, here) ∷ s.homes } in
     let m1 : IsMoment P.table P.code s1 = moment_before P.table P.code s1 (record s1 { homes = parameters l ps homes s1.homes }) m
     (homes_later l ps homes s1) in
-    let first : named at s1.homes ≡ Some here = named_first at here s.homes in
-    let tabled : named at P.table.homes ≡ Some here = set.homes_once at here m1.homes.more s1.homes m1.homes.whole_is first in
+    let first : looked_up at s1.homes ≡ Some here = named_first at here s.homes in
+    let tabled : looked_up at P.table.homes ≡ Some here = set.homes_once at here m1.homes.more s1.homes m1.homes.whole_is first in
     let old : Later s s1 = record {
       temps = omega arith;
       slots = omega arith;
@@ -244,7 +245,7 @@ module _ (P : Program) (set : Setting P) (frame : NewFrame P) where
     along_more : (q : Places) (k : Key) (access : Access) (name at : ℕ) (ty : Ty) (types : List Ty) (s : SourceWorld) (es : List Entry)
         (bs : List (ℕ × Binding)) →
         (q k ≡ free) ⊎ (q k ≡ nowhere) → key_of c l access ≡ k → HasValues ty → length types ≡ length s.variables →
-        named at P.table.homes ≡ Some (record { level = l; access = access }) →
+        looked_up at P.table.homes ≡ Some (record { level = l; access = access }) →
         Along P q types c l es bs →
         Along P (put_place k (variable (length s.variables)) q) (types ++ ty ∷ []) c l (values.variable name l (length s.variables) ∷ es)
         ((name, variable_at at ty false) ∷ bs)

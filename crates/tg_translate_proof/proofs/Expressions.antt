@@ -5,12 +5,13 @@ use Rattle.tg_base.specs.declared.ids.Span.{Span}
 use Rattle.tg_syntax.specs.declared.tokens.Ident.{Ident}
 use Rattle.tg_syntax.specs.Tree.{Exp, Nil, Break, Int, Text, Read, Call, Neg, Binary, Make, Fill, Assign, If, When, While, For, Let, Seq}
 use Rattle.tg_syntax.specs.Tree.{LValue, Simple, Field, Index, Exps, no_exps, exp, Inits, no_inits, init, Decs, no_decs, types, variable, functions}
-use Rattle.tg_symbols.specs.Tables.{named}
+use Rattle.tg_symbols.specs.Tables.{looked_up}
 use Rattle.tg_semantics.specs.declared.standards.Standard.{Standard}
 use Rattle.tg_semantics.specs.declared.standards.Standard.TheVariants as standard
 use Rattle.tg_semantics.specs.Environments.{find, to_standard}
 use Rattle.tg_types.specs.Types.{Ty, int_type, string_type, array_type, array_shape}
-use Rattle.tg_types.specs.Scopes.{Scope, name_of, standard_one, signature}
+use Rattle.tg_semantics.specs.Environments.{name_of}
+use Rattle.tg_types.specs.Scopes.{Scope, standard_one, signature}
 use Rattle.tg_types.specs.Has as has
 use Rattle.tg_types.specs.Has.{Has, HasValues, HaveValues, Fits}
 use Rattle.tg_translate.specs.Purity.{assigns_nothing}
@@ -18,7 +19,7 @@ use Rattle.tg_translate_proof.specs.Situations.{Program, Part, Setting, MayAssig
 use Rattle.tg_translate_proof.specs.Shown.{Shown, ExpressionFollows}
 use Rattle.tg_translate_proof.proofs.Pieces.{StatesGrow}
 use Rattle.tg_translate_proof.proofs.Growing.{states_grow}
-use Rattle.tg_translate_proof.proofs.Needed.{needs}
+use Rattle.tg_translate_proof.proofs.Needed.{premises}
 use Rattle.tg_translate_proof.proofs.Places.{IndicesShown, place_shown}
 use Rattle.tg_translate_proof.proofs.Standards.{Owns, objects_are_owned}
 use Rattle.tg_translate_proof.proofs.Seeing.{is_seen}
@@ -89,7 +90,7 @@ module _ (P : Program) (set : Setting P) (grow : StatesGrow P) (owns : Owns P) (
     at : ℕ
     t : Ty
     u : Ty
-    shape : named at P.shapes ≡ Some (array_shape t)
+    shape : looked_up at P.shapes ≡ Some (array_shape t)
     size_typed : Has P.shapes P.notes size scope int_type
     item_typed : Has P.shapes P.notes item scope u
     fits : Fits u t
@@ -128,7 +129,7 @@ module _ (P : Program) (set : Setting P) (n : ℕ) (inner : (m : ℕ) → m < n 
     expression_shown (Text sp bytes) = text_shown P n sp bytes
     expression_shown (Read sp v) =
         let places = indices_shown v in
-        λ x. read_shown P set (needs P set) n sp v (place_shown P set (needs P set) grow n v places) x
+        λ x. read_shown P set (premises P set) n sp v (place_shown P set (premises P set) grow n v places) x
     expression_shown (Call sp f args) =
         let all = all_shown args in
         call_shown P set grow n sp f args (standard_shown P set grow owns n sp f args all) (λ x. x.ready.fits) (call_args P set grow owns n args all) inner
@@ -144,7 +145,7 @@ module _ (P : Program) (set : Setting P) (n : ℕ) (inner : (m : ℕ) → m < n 
         let places = indices_shown v in
         let shown_e = expression_shown e in
         let rights = rights_shown e in
-        λ x. assign_shown P set (needs P set) grow n sp v e places shown_e rights x
+        λ x. assign_shown P set (premises P set) grow n sp v e places shown_e rights x
     expression_shown (If sp c a b) = if_shown P set grow n sp c a b (expression_shown c) (expression_shown a) (expression_shown b)
     expression_shown (When sp c a) = when_shown P set grow n sp c a (expression_shown c) (expression_shown a)
     expression_shown (While sp c a) =

@@ -10,7 +10,7 @@ use Rattle.tg_tree.specs.Tree.{Tx, Stms, no_stms, stm, Temp, Store}
 use Rattle.tg_tree.specs.Lists.{join_stms}
 use Rattle.tg_tree.specs.Memory.{Memory, store}
 use Rattle.tg_tree.specs.Shapes.{is_flat}
-use Rattle.tg_tree.specs.Units.{Trees, lifted_units}
+use Rattle.tg_tree.specs.Units.{Trees, hoisted_units}
 use Rattle.tg_tree.specs.Actions.{World, Temps, Go, Next, with_word, with_memory}
 use Rattle.tg_tree.proofs.ListLaws.{join_stms-none, join_stms-assoc}
 use Rattle.tg_translate.specs.declared.operands.Operand.{Operand}
@@ -79,7 +79,7 @@ module _ (P : Program) (p : Part) (n : ℕ) (c : Run Source) where
         let left : ℕ = 4 * length us + z in
         let zeros : 4 * suc (length us) + z ≡ suc (suc (suc (suc left))) = omega arith in
         let small = lifted_small (is_flat (operand x)) in
-        let lifted = lifted_units Trees (is_flat (operand x)) in
+        let lifted = hoisted_units Trees (is_flat (operand x)) in
         let grown_ = length-append before (word_bytes u) in
         let w1 : World = with_heap m (before ++ 0 ∷ 0 ∷ 0 ∷ 0 ∷ replicate left 0) w in
         let w2 : World = with_heap m (before ++ (word_bytes u ++ replicate left 0)) w in

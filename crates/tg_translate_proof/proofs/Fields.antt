@@ -5,7 +5,7 @@ use Rattle.tg_state.specs.State.{heap_base}
 use Rattle.tg_base.specs.Words.{add}
 use Rattle.tg_syntax.specs.declared.tokens.Ident.{Ident}
 use Rattle.tg_syntax.specs.Tree.{LValue, Field}
-use Rattle.tg_symbols.specs.Tables.{named}
+use Rattle.tg_symbols.specs.Tables.{looked_up}
 use Rattle.tg_simulation.specs.Runs.{Run}
 use Rattle.tg_simulation.specs.Ran.{Ran, works}
 use Rattle.tg_simulation.specs.Agreement.{Source}
@@ -18,7 +18,8 @@ use Rattle.tg_semantics.specs.MachineEnds.{rest_run}
 use Rattle.tg_types.specs.declared.notes.Means.TheVariants as means
 use Rattle.tg_types.specs.Types.{Ty, record_type, record_shape}
 use Rattle.tg_types.specs.Typing.{placed}
-use Rattle.tg_types.specs.Scopes.{name_of, at_of}
+use Rattle.tg_semantics.specs.Environments.{name_of}
+use Rattle.tg_types.specs.Scopes.{at_of}
 use Rattle.tg_types.specs.Has as has
 use Rattle.tg_types.specs.Has.{HasPlace, Says}
 use Rattle.tg_tree.specs.Tree.{Tx, Temp, Const, Load, After, Move, Ts, Fault, Stms, no_stms, stm}
@@ -39,7 +40,8 @@ use Rattle.tg_translate_proof.specs.Shown.{FollowsHere, left_over}
 use Rattle.tg_translate_proof.proofs.States.{made_in, state_in, after_inv, later_none, later_on, behind_none, front_none}
 use Rattle.tg_translate_proof.proofs.Making.{worked, set_here, holds_with_temp, grows_none, grows_on}
 use Rattle.tg_translate_proof.proofs.Pieces.{more, paid, extends_none, extends_on, ready_part, stop_follows}
-use Rattle.tg_translate_proof.proofs.Locating.{IsAt, a_field, AddressIs, ToldFollows, untold, Needs, PlaceSituation, PlaceShown, PlaceOnward, StorageFollows, IsOwn, reads, locates, place_source, by_storage}
+use Rattle.tg_translate_proof.proofs.Locating.{IsAt, a_field, AddressIs, ToldFollows, untold, Premises, PlaceSituation, PlaceShown, PlaceOnward, StorageFollows}
+use Rattle.tg_translate_proof.proofs.Locating.{IsOwn, reads, locates, place_source, by_storage}
 use Rattle.tg_translate_proof.proofs.Accessing.{field_at, heap_below}
 use Rattle.tg_translate_proof.proofs.Reading.{own_value, read_follows}
 
@@ -86,14 +88,14 @@ module _ (P : Program) where
       (subst (λ o. FollowsHere P (q + 2) n c (with_word o w go2)) (sym has)
       (worked P q (q + 2) 2 n c (arms u) (omega arith) f))))
 
-module _ (P : Program) (set : Setting P) (needs : Needs P) where
+module _ (P : Program) (set : Setting P) (premises : Premises P) where
   abbrev located : Value → (name : ℕ) → (Location → Rest) → (out : Rest) → Rest
   located v name go out = evaluation.locate_field Passing (passing P.heap P.stack) v name go out
 
   -- a field of what stands in a temporary
   pub field_found : (n q j : ℕ) (p : Part) (h : Holdings) (types : List Ty) (s : SourceWorld) (w : World) (t : Temps) (v : Value) (at name k i u : ℕ) (ty : Ty) (fs : List (ℕ × Ty))
       (go : Location → Rest) (out : Rest) (go' : Go ℕ) → Holds P p h types s w t → Stands h v (record_type at) u → t i ≡ Some u →
-      named at P.shapes ≡ Some (record_shape fs) → placed name 0 fs ≡ Some (k, ty) →
+      looked_up at P.shapes ≡ Some (record_shape fs) → placed name 0 fs ≡ Some (k, ty) →
       ((l : Location) (z : ℕ) → IsAt P p.places h types l ty z → AddressIs P p w t (plus (Temp i) (4 * k)) z → FollowsHere P q n (rest_run (go l) s) (go' z w t)) →
       FollowsHere P (q + j + 20) n (rest_run (located v name go out) s)
       (statements_run P p (stm (nil_check (Temp i)) no_stms) p.around (λ w1 t1. charged j (value_runs P p (plus (Temp i) (4 * k)) p.around go' w1 t1)) w t)
@@ -104,10 +106,10 @@ module _ (P : Program) (set : Setting P) (needs : Needs P) where
       (more P 3 (q + 5) n _ _ (omega arith) (worked P 0 3 3 n _ _ (omega arith) (stop_follows P 0 n by_nil s w hh.invariant.input))))
   field_found n q j p h types s w t _ _ name k i _ ty fs go out go' hh (a_record r at a object) has shape field onward_ =
       let next : Next = λ w1 t1. charged j (value_runs P p (plus (Temp i) (4 * k)) p.around go' w1 t1) in
-      let x = field_at P set needs p h types s w t hh r name at a k ty fs object shape field in
+      let x = field_at P set premises p h types s w t hh r name at a k ty fs object shape field in
       let low = (hh.invariant.in_heap r (a, record_of at) object).0 in
       let known = hh.invariant.known (a + 4 * k) (λ e. known_part r k (sym x.here.3 ∙ e)) in
-      let under = heap_below P set needs p h types s w t hh in
+      let under = heap_below P set premises p h types s w t hh in
       let source : Run Source = rest_run (go (in_field r name)) s in
       let is_zero : (a == 0) ≡ false = ne_eqb a 0 (λ e. omega (arith, low, e)) in
       more P (q + 3 + j + 10) (q + j + 20) n source _ (omega arith)
@@ -124,7 +126,7 @@ module _ (P : Program) (set : Setting P) (needs : Needs P) where
     pub fs : List (ℕ × Ty)
     pub k : ℕ
     pub record_typed : HasPlace P.shapes P.notes v p.scope (record_type at)
-    pub shape : named at P.shapes ≡ Some (record_shape fs)
+    pub shape : looked_up at P.shapes ≡ Some (record_shape fs)
     pub field : placed (name_of f) 0 fs ≡ Some (k, t)
     pub says : Says P.notes (at_of f) (means.Field k)
 
@@ -164,7 +166,7 @@ module _ (P : Program) (set : Setting P) (needs : Needs P) where
       words = x.words;
       covers = x.covers;
       may_assign = x.may_assign;
-      ready = ready_part P set x.p x.types x.types x.σ x.τ x.σ s (extends_none x.types) (later_none x.σ) (needs.place_grows v x.p.within storage x.σ s made) last x.ready;
+      ready = ready_part P set x.p x.types x.types x.σ x.τ x.σ s (extends_none x.types) (later_none x.σ) (premises.place_grows v x.p.within storage x.σ s made) last x.ready;
       is_made = made;
       outward = λ g ms s2 w2 t2 l g2 e2 h2.
           more P (x.r + left_over) (x.r + j + 150 + left_over) n (rest_run x.out s2) (x.p.around.out x.p.within.leave w2 t2) (omega arith) (x.outward g ms s2 w2 t2 l g2 e2 h2);
@@ -180,7 +182,7 @@ module _ (P : Program) (set : Setting P) (needs : Needs P) where
         let go2 : Go ℕ = λ u w1 t2. statements_run P x.p (stm (nil_check (Temp t1)) no_stms) x.p.around next w1 (set_temp t1 u t2) in
         paid P (x.r + j) n inner _
         (worked P (x.r + j + 150 + 1) (x.r + j + 256) 2 n inner (value_runs P x.p (read storage) x.p.around go2 x.w x.t) (omega arith)
-        (read_follows P set needs n (x.r + j + 150) x.p x.h x.types (record_type typed_.at) with_record x.out inner x.s x.w x.t storage x.holds (show_v (inner_at j storage s1 made last)) go2
+        (read_follows P set premises n (x.r + j + 150) x.p x.h x.types (record_type typed_.at) with_record x.out inner x.s x.w x.t storage x.holds (show_v (inner_at j storage s1 made last)) go2
         (λ g ms val u s2 w2 t2 gg ee hh st.
         let hh2 : Holds P x.p g ms s2 w2 (set_temp t1 u t2) = holds_with_temp P x.p g ms s2 w2 t2 t1 u idle hh in
         more P (x.r + left_over + j + 20) (x.r + j + 150 + left_over) n (rest_run (with_record val) s2) (go2 u w2 t2) (omega arith)
@@ -193,7 +195,7 @@ module _ (P : Program) (set : Setting P) (needs : Needs P) where
         (stm (nil_check (Temp i)) no_stms) (plus (Temp i) (4 * typed_.k))
     direct i s1 made last j go' onward =
         let own : IsOwn P n (x.r + j + 150) x.p x.types (record_type typed_.at) (λ l. reads P l with_record x.out) inner x.s i = show_v (inner_at j (in_temp i) s1 made last) in
-        let y = own_value P set needs x.p x.h x.types x.s x.w x.t (record_type typed_.at) own.place i x.holds own.is_of own.type_is in
+        let y = own_value P set premises x.p x.h x.types x.s x.w x.t (record_type typed_.at) own.place i x.holds own.is_of own.type_is in
         let next : Next = λ w1 t1. charged j (value_runs P x.p (plus (Temp i) (4 * typed_.k)) x.p.around go' w1 t1) in
         let target : Run Ran = statements_run P x.p (stm (nil_check (Temp i)) no_stms) x.p.around next x.w x.t in
         paid P (x.r + j) n inner target
@@ -216,7 +218,7 @@ module _ (P : Program) (set : Setting P) (needs : Needs P) where
         (untold P n x.r x.p x.h x.types x.ty x.go (place_source P n (Field v f) x) x.s x.w x.t (stm (nil_check (Temp i)) no_stms) (plus (Temp i) (4 * typed_.k)) (direct i s1 made last))
     by_place (at_address b a) s1 made rest =
         let t1 : ℕ = s1.frame.temps in
-        let before = needs.place_grows v x.p.within (at_address b a) x.σ s1 made in
+        let before = premises.place_grows v x.p.within (at_address b a) x.σ s1 made in
         let all : drawn (at_address (stm (Move t1 (after_all b (Load a))) (stm (nil_check (Temp t1)) no_stms)) (plus (Temp t1) (4 * typed_.k))) (kept_state s1) ≡ drawn x.storage x.τ =
         sym (ap (λ o. after o (λ (r : Held) s. drawn (field_of typed_.k r.before (operand r.operand)) s)) (hold_loaded true no_stms b a s1)) ∙ rest in
         let to_kept : Later s1 (kept_state s1) = record {

@@ -8,7 +8,7 @@ use Rattle.tg_state.specs.State.{heap_base}
 use Rattle.tg_base.specs.Words.{is_negative}
 use Rattle.tg_syntax.specs.declared.tokens.Ident.{Ident}
 use Rattle.tg_syntax.specs.Tree.{Exp, Exps, no_exps, exp, Fill}
-use Rattle.tg_symbols.specs.Tables.{named}
+use Rattle.tg_symbols.specs.Tables.{looked_up}
 use Rattle.tg_simulation.specs.Runs.{Run}
 use Rattle.tg_simulation.specs.Ran.{Ran, Ended}
 use Rattle.tg_simulation.specs.Outcomes.{ended, costs}
@@ -93,7 +93,7 @@ module _ (P : Program) (set : Setting P) (p : Part) (scene : IsScene (floor P) P
       (more P (r + 252 + 0) (r + 252) n (rest_run (ends (ended by_size)) s1) d (omega arith) f))
       (stop_follows P (r + 64) n by_size s1 w x.invariant.input)
 
-  module _ (at : ℕ) (ty : Ty) (shape : named at P.shapes ≡ Some (array_shape ty)) (k u : ℕ) (v : Value) (st : Stands h v ty u)
+  module _ (at : ℕ) (ty : Ty) (shape : looked_up at P.shapes ≡ Some (array_shape ty)) (k u : ℕ) (v : Value) (st : Stands h v ty u)
       (u_small : u < 2 ^ 32) (k_small : k < 2 ^ 32) (sign : is_negative k ≡ false) where
     abbrev block : List ℕ
     block = array_block k u
@@ -145,7 +145,7 @@ module _ (P : Program) (set : Setting P) (p : Part) (scene : IsScene (floor P) P
         (follows_coming P (r + 64) (r + 252 + 256 * k) (call_units + turn_units * k) n c d (go' a w3 t) (omega arith) comes
         (onward added.g s3 w3 added.grown holds3 value_is a (an_array (length s.objects) at k a added.there))))))
 
-  pub array_acts : (at : ℕ) (ty : Ty) → named at P.shapes ≡ Some (array_shape ty) → (k u : ℕ) (v : Value) → Stands h v ty u →
+  pub array_acts : (at : ℕ) (ty : Ty) → looked_up at P.shapes ≡ Some (array_shape ty) → (k u : ℕ) (v : Value) → Stands h v ty u →
       HasValues ty → k < 2 ^ 32 → Goes (array_type at) →
       CallFollows P set p scene same r n go out go' h types s w t x own routine.MakeArray (k ∷ u ∷ [])
       (making k v (is_negative k))
@@ -160,7 +160,7 @@ module _ (P : Program) (set : Setting P) (p : Part) (scene : IsScene (floor P) P
 
 -- The creation of an array where it stands.
 module _ (P : Program) (set : Setting P) (grow : StatesGrow P) (owns : Owns P) (n : ℕ) (sp : Span) (name : Ident) (size item : Exp)
-    (x : Situation P n (Fill sp name size item)) (at : ℕ) (t u : Ty) (shape : named at P.shapes ≡ Some (array_shape t))
+    (x : Situation P n (Fill sp name size item)) (at : ℕ) (t u : Ty) (shape : looked_up at P.shapes ≡ Some (array_shape t))
     (result : x.ty ≡ array_type at) (fits : Fits u t) (has_values : HasValues t)
     (piece_size : Piece P set grow n (Fill sp name size item) x size int_type)
     (piece_item : Piece P set grow n (Fill sp name size item) x item u) where

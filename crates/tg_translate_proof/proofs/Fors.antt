@@ -17,7 +17,8 @@ use Rattle.tg_semantics.specs.Passing.{Rest, Passing, passing}
 use Rattle.tg_semantics.specs.MachineEnds.{rest_run}
 use Rattle.tg_semantics.specs.Laws.{behind}
 use Rattle.tg_types.specs.Types.{Ty, int_type, none_type}
-use Rattle.tg_types.specs.Scopes.{variable_at, binding, in_a_loop, name_of, at_of}
+use Rattle.tg_semantics.specs.Environments.{name_of}
+use Rattle.tg_types.specs.Scopes.{variable_at, binding, in_a_loop, at_of}
 use Rattle.tg_types.specs.Has as has
 use Rattle.tg_types.specs.Has.{Has}
 use Rattle.tg_frame.specs.declared.accesses.Access.{Access}
@@ -26,7 +27,7 @@ use Rattle.tg_tree.specs.Tree as tree
 use Rattle.tg_tree.specs.Tree.{Tx, Ts, Stms, no_stms, stm}
 use Rattle.tg_tree.specs.Lists.{join_stms}
 use Rattle.tg_tree.specs.Shapes.{is_flat}
-use Rattle.tg_tree.specs.Units.{Trees, lifted_units}
+use Rattle.tg_tree.specs.Units.{Trees, hoisted_units}
 use Rattle.tg_tree.specs.Forms.{nothing as nothing_done, when}
 use Rattle.tg_tree.specs.Actions.{World, Temps, Next, leaving}
 use Rattle.tg_tree.specs.Operators.{holds}
@@ -328,7 +329,7 @@ module _ (P : Program) (set : Setting P) (grow : StatesGrow P) (n : ℕ) (sp : S
           let source : Run Source = rest_run (counts (less z u) z place) s2 in
           let flat = lifted_small (is_flat (operand l)) in
           worked P (x.r + 146) (x.r + 150) 4 n source _ (omega arith)
-          (worked P (x.r + 130 + 2 + 2) (x.r + 146) (4 + lifted_units Trees (is_flat (operand l))) n source _ (omega (arith, flat))
+          (worked P (x.r + 130 + 2 + 2) (x.r + 146) (4 + hoisted_units Trees (is_flat (operand l))) n source _ (omega (arith, flat))
           (operand_follows P set grow x.p (Kept (record { 0 = bound })) z (x.r + 130 + 2) n source
           (λ z1 w1 t1. value_runs P x.p (operand l) x.p.around (λ u1 w2 t2. arms (holds rel.GreaterEqual z1 u1) w2 t2) w1 t1) w t there
           (operand_follows P set grow x.p l u (x.r + 130) n source (λ u1 w2 t2. arms (holds rel.GreaterEqual z u1) w2 t2) w t is (by (less z u) refl))))

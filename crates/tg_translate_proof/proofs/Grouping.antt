@@ -8,13 +8,14 @@ use Rattle.tg_syntax.specs.declared.trees.Param.{Param}
 use Rattle.tg_syntax.specs.OfWords.{BodiesOfWords}
 use Rattle.tg_syntax.specs.Functions.{own_functions}
 use Rattle.tg_syntax.specs.Tree.{Exp, FunDecs, no_functions, function}
-use Rattle.tg_symbols.specs.Tables.{named}
+use Rattle.tg_symbols.specs.Tables.{looked_up}
 use Rattle.tg_semantics.specs.Values.{Entry, group}
 use Rattle.tg_semantics.specs.Levels.{levels_of}
-use Rattle.tg_semantics.specs.Evaluation.{count}
+use Rattle.tg_semantics.specs.Evaluation.{function_count}
 use Rattle.tg_types.specs.Types.{none_type}
 use Rattle.std.proofs.lemmas.List.Elements.{Contains-append_right}
-use Rattle.tg_types.specs.Scopes.{Scope, Signature, function_at, name_of, binding, in_no_loop}
+use Rattle.tg_semantics.specs.Environments.{name_of}
+use Rattle.tg_types.specs.Scopes.{Scope, Signature, function_at, binding, in_no_loop}
 use Rattle.tg_types.specs.Groups.{with_functions}
 use Rattle.tg_types.specs.Has as has
 use Rattle.tg_types.specs.Has.{HasBodies, Apart, GivesBack}
@@ -60,7 +61,7 @@ declared_later level no_functions s a u e = subst (λ o. Later s o) (ap state_in
 declared_later level (function f ps r x rest) s a u e = later_on s (one_declared level f s) u (one_later level f s) (declared_later level rest
     (one_declared level f s) a u e)
 
-many_bodies : (P : Program) (fs : FunDecs) (ss : List Signature) (scope : Scope) → HasBodies P.shapes P.notes fs ss scope → length ss ≡ count fs
+many_bodies : (P : Program) (fs : FunDecs) (ss : List Signature) (scope : Scope) → HasBodies P.shapes P.notes fs ss scope → length ss ≡ function_count fs
 many_bodies P _ _ scope has.end_bodies = refl
 many_bodies P (function f ps r e rest) (s ∷ ss) scope (has.a_body u many values result typed fits more) = ap suc (many_bodies P rest ss scope more)
 
@@ -74,21 +75,21 @@ module _ (P : Program) (set : Setting P) where
   -- functions, by the label of the first, have these callees in the table
   abbrev Tabled : (level label : ℕ) → FunDecs → Type 0
   Tabled level label no_functions = Unit {0}
-  Tabled level label (function f ps r e rest) = (named (at_of f) P.table.callees ≡ Some
+  Tabled level label (function f ps r e rest) = (looked_up (at_of f) P.table.callees ≡ Some
       (record { level = level; label = record { 0 = label } })) × Tabled level (label + 1) rest
 
   -- and a state has found them
   abbrev FoundAll : TranslationState → FunDecs → Type 0
   FoundAll s no_functions = Unit {0}
-  FoundAll s (function f ps r e rest) = (named (at_of f) s.callees ≡ named (at_of f) P.table.callees) × FoundAll s rest
+  FoundAll s (function f ps r e rest) = (looked_up (at_of f) s.callees ≡ looked_up (at_of f) P.table.callees) × FoundAll s rest
 
   tabled_one : (level : ℕ) (f : Ident) (s v : TranslationState) → Later (one_declared level f s) v → IsMoment P.table P.code v →
-      named (at_of f) P.table.callees ≡ Some (record { level = level; label = record { 0 = s.label } })
+      looked_up (at_of f) P.table.callees ≡ Some (record { level = level; label = record { 0 = s.label } })
   tabled_one level f s v l m =
       let callee : Callee = record { level = level; label = record { 0 = s.label } } in
       let s1 : TranslationState = one_declared level f s in
       let b = behind_on m.callees l.callees in
-      let here : named (at_of f) s1.callees ≡ Some callee = ap (λ o. if o then Some callee else named (at_of f) s.callees) (eq-eqb (at_of f)
+      let here : looked_up (at_of f) s1.callees ≡ Some callee = ap (λ o. if o then Some callee else looked_up (at_of f) s.callees) (eq-eqb (at_of f)
       (at_of f) refl) in
       set.callees_once (at_of f) callee b.more s1.callees b.whole_is here
 
@@ -106,7 +107,7 @@ module _ (P : Program) (set : Setting P) where
       let s1 : TranslationState = one_declared level f s in
       let callee : Callee = record { level = level; label = record { 0 = s.label } } in
       let l1 : Later s1 v = later_on s1 u v (declared_later level rest s1 a u e) l in
-      let here : named (at_of f) s1.callees ≡ Some callee = ap (λ o. if o then Some callee else named (at_of f) s.callees) (eq-eqb (at_of f)
+      let here : looked_up (at_of f) s1.callees ≡ Some callee = ap (λ o. if o then Some callee else looked_up (at_of f) s.callees) (eq-eqb (at_of f)
       (at_of f) refl) in
       let sig : Signature = record { params = []; result = none_type } in (
         (found_later P set s1 v ((name_of f, function_at (at_of f) sig) ∷ []) l1 m (

@@ -2,6 +2,7 @@
 -- callees, literals, and the functions that are done.
 use Rattle.std.proofs.Common.{◌≡◌, ◌≤◌, ◌+◌, ℕ, Bool, true, false, Option, Some, List, [], ◌∷◌, ◌++◌, refl, ◌∙◌, arith, subst}
 use Rattle.std.specs.Prelude.{is_some, if◌then◌else◌, ◌==◌, ◌||◌}
+use Rattle.tg_simulation.specs.Bytes.{IsPrefix}
 use Rattle.tg_syntax.specs.declared.trees.Op.{Op}
 use Rattle.tg_syntax.specs.declared.trees.Op.TheVariants as op
 use Rattle.tg_syntax.specs.declared.trees.Param.{Param}
@@ -39,7 +40,7 @@ use Rattle.tg_translate.specs.Functions.{at_of, asked, parameters, own_homes, fr
 use Rattle.tg_translate.specs.Functions.{closing, body, body_in}
 use Rattle.tg_translate.specs.Translate.{connective, with_left, chosen_arm, choice, is_conjunction, assignment, assigned, updated, declaration_of}
 use Rattle.tg_translate.specs.Translate.{expression, behind_read, locate, values, fields, sequence, declarations, bodies}
-use Rattle.tg_translate_proof.specs.Tables.{IsBehind, IsFront, Later}
+use Rattle.tg_translate_proof.specs.Tables.{IsSuffix, Later}
 use Rattle.tg_translate_proof.specs.Situations.{Program}
 use Rattle.tg_translate_proof.proofs.States.{state_in, behind_none, behind_on, front_none, later_none, later_on}
 use Rattle.tg_translate_proof.proofs.Pieces.{StatesGrow}
@@ -79,8 +80,8 @@ then_grows {s = s} {d = drawn a t} {next = next} h k = record {
 }
 
 -- temporaries, slots, homes, callees and literals may come
-grow_by : {A : Type 0} {a : A} {s t : TranslationState} → s.frame.temps ≤ t.frame.temps → s.frame.slots ≤ t.frame.slots → IsBehind t.homes s.homes →
-    IsBehind t.callees s.callees → IsFront t.literals s.literals → t.functions ≡ s.functions → FrameStays s t → Growing (drawn a t) s
+grow_by : {A : Type 0} {a : A} {s t : TranslationState} → s.frame.temps ≤ t.frame.temps → s.frame.slots ≤ t.frame.slots → IsSuffix t.homes s.homes →
+    IsSuffix t.callees s.callees → IsPrefix s.literals t.literals → t.functions ≡ s.functions → FrameStays s t → Growing (drawn a t) s
 grow_by {t = t} temps slots homes callees literals same kept = record {
   on =
       record {
@@ -89,7 +90,7 @@ grow_by {t = t} temps slots homes callees literals same kept = record {
         homes = homes;
         callees = callees;
         literals = literals;
-        functions = subst (λ l. IsFront t.functions l) same front_none;
+        functions = subst (λ l. IsPrefix l t.functions) same front_none;
       };
   frame = kept;
 }
@@ -214,7 +215,7 @@ pub home_grows : (escapes : Bool) (s : TranslationState) → Growing (local esca
 home_grows escapes s = local_grows escapes s
 
 -- with these homes before those that there are
-pub homes_grow : {A : Type 0} {d : Translated A} (s : TranslationState) (homes : List (ℕ × Home)) → IsBehind homes s.homes →
+pub homes_grow : {A : Type 0} {d : Translated A} (s : TranslationState) (homes : List (ℕ × Home)) → IsSuffix homes s.homes →
     Growing d (record s { homes = homes }) → Growing d s
 homes_grow {d = drawn a t} s homes h k = record {
   on =
@@ -223,11 +224,11 @@ homes_grow {d = drawn a t} s homes h k = record {
   frame = frame_on (frame_same refl refl refl) k.frame;
 }
 
-pub one_behind : {A : Type 0} (x : A) (xs : List A) → IsBehind (x ∷ xs) xs
+pub one_behind : {A : Type 0} (x : A) (xs : List A) → IsSuffix (x ∷ xs) xs
 one_behind x xs = record { more = x ∷ []; whole_is = refl }
 
-one_front : {A : Type 0} (x : A) (xs : List A) → IsFront (xs ++ x ∷ []) xs
-one_front x xs = record { more = x ∷ []; whole_is = refl }
+one_front : {A : Type 0} (x : A) (xs : List A) → IsPrefix xs (xs ++ x ∷ [])
+one_front x xs = record { more = x ∷ []; whole = refl }
 
 declare_grows : (escapes : Bool) (level at : ℕ) (s : TranslationState) → Growing (declare_variable escapes level at s) s
 declare_grows escapes level at s =
@@ -266,7 +267,7 @@ functions_declared_grow level no_functions s = stays
 functions_declared_grow level (function f ps r e rest) s =
     callee_grows s (at_of f) (record { level = level; label = record { 0 = s.label } }) (functions_declared_grow level rest _)
 
-pub parameters_behind : (level : ℕ) (ps : List Param) (homes : List Access) (seen : List (ℕ × Home)) → IsBehind (parameters level ps homes seen) seen
+pub parameters_behind : (level : ℕ) (ps : List Param) (homes : List Access) (seen : List (ℕ × Home)) → IsSuffix (parameters level ps homes seen) seen
 parameters_behind level [] homes seen = behind_none
 parameters_behind level (p ∷ ps) [] seen = behind_none
 parameters_behind level (p ∷ ps) (home ∷ homes) seen =

@@ -9,7 +9,8 @@ use Rattle.tg_simulation.specs.Agreement.{Source}
 use Rattle.tg_semantics.specs.Evaluation.{in_variable}
 use Rattle.tg_semantics.specs.MachineEnds.{rest_run}
 use Rattle.tg_types.specs.declared.notes.Means.TheVariants as means
-use Rattle.tg_types.specs.Scopes.{at_of, name_of}
+use Rattle.tg_semantics.specs.Environments.{name_of}
+use Rattle.tg_types.specs.Scopes.{at_of}
 use Rattle.tg_frame.specs.declared.accesses.Access.{Access}
 use Rattle.tg_frame.specs.declared.accesses.Access.TheVariants.{InTemp, InFrame}
 use Rattle.tg_tree.specs.declared.operators.Bin.{Bin}
@@ -42,7 +43,7 @@ use Rattle.tg_translate_proof.proofs.Placing.{of_is_used}
 use Rattle.tg_translate_proof.proofs.Linking.{flat_follows}
 use Rattle.tg_translate_proof.proofs.LetBlocks.{joined_runs}
 use Rattle.tg_translate_proof.proofs.Holding.{OperandIs, kept_later, held_as, holding}
-use Rattle.tg_translate_proof.proofs.Locating.{a_slot, SeenVariable, AddressIs, ToldFollows, Needs, PlaceSituation, PlaceShown, place_source}
+use Rattle.tg_translate_proof.proofs.Locating.{a_slot, SeenVariable, AddressIs, ToldFollows, Premises, PlaceSituation, PlaceShown, place_source}
 use Rattle.tg_tree.specs.Memory.{slot}
 use Rattle.tg_translate_proof.proofs.Locating as locating
 use Rattle.tg_translate_proof.proofs.Locating.{slot_is, slot_flat, slot_length}
@@ -175,7 +176,7 @@ module _ (P : Program) where
         ap (λ o. x.p.places (temporary x.p.scene.depth o)) at ∙ idle (omega (arith, at, end)) in
         subst (λ (o : HeldAt). Told o.before (held_address o.address)) (ap made_in same) (g free)
 
-module _ (P : Program) (set : Setting P) (needs : Needs P) where
+module _ (P : Program) (set : Setting P) (premises : Premises P) where
   -- A variable in a slot.
   module _ (n : ℕ) (v : Ident) (x : PlaceSituation P n (Simple v)) (has : HasAddress x.storage) (hd : HeldAt) (τ2 : TranslationState)
       (held : hold_of x.storage x.τ ≡ drawn hd τ2)
@@ -183,8 +184,8 @@ module _ (P : Program) (set : Setting P) (needs : Needs P) where
     abbrev Told_ : Stms → Tx → Type 0
     Told_ before a = ToldFollows P n x.r x.p x.h x.types x.ty x.go (place_source P n (Simple v) x) x.w x.t before a
 
-    abbrev seen_ : SeenVariable P x.p x.types (name_of v) (locating.typed_ P set needs n v x).at x.ty
-    seen_ = locating.seen P set needs n v x
+    abbrev seen_ : SeenVariable P x.p x.types (name_of v) (locating.typed_ P set premises n v x).at x.ty
+    seen_ = locating.seen P set premises n v x
 
     slot_held : (k : ℕ) → seen_.home.access ≡ InFrame k → drawn (at_address no_stms (slot_address (frame_at x.p.within seen_.home.level) k)) x.σ ≡ drawn x.storage x.τ →
         Told_ hd.before (held_address hd.address)
@@ -216,7 +217,7 @@ module _ (P : Program) (set : Setting P) (needs : Needs P) where
             (λ j go' told.
             let more_levels = levels in
             let source : Run Source = rest_run (x.go (in_variable seen_.place)) x.s in
-            locating.source_paid P set needs n v x (x.r + j + 256 + 256 * (x.p.env.level - seen_.level)) (x.r + j) _ (omega arith)
+            locating.source_paid P set premises n v x (x.r + j + 256 + 256 * (x.p.env.level - seen_.level)) (x.r + j) _ (omega arith)
             (worked P (x.r + 256 + 256 * (x.p.env.level - seen_.level)) (x.r + j + 256 + 256 * (x.p.env.level - seen_.level)) j n source _ (omega arith)
             (flat_follows P x.p a u (x.r + left_over) (x.r + 256 + 256 * (x.p.env.level - seen_.level)) n go' x.w x.t source flat is (omega (arith, short, more_levels))
             (told x.h x.types (in_variable seen_.place) u x.s x.w x.t (grows_none x.h) (extends_none x.types) x.holds (a_slot seen_.place u x.ty stands seen_.type_is) is))))
@@ -226,7 +227,7 @@ module _ (P : Program) (set : Setting P) (needs : Needs P) where
             let more_levels = levels in
             let f : ℕ = x.σ.frame.temps in
             let source : Run Source = rest_run (x.go (in_variable seen_.place)) x.s in
-            locating.source_paid P set needs n v x (x.r + j + 256 + 256 * (x.p.env.level - seen_.level)) (x.r + j) _ (omega arith)
+            locating.source_paid P set premises n v x (x.r + j + 256 + 256 * (x.p.env.level - seen_.level)) (x.r + j) _ (omega arith)
             (kept_follows P x.p f op y m u j (x.r + left_over) (x.r + j + 256 + 256 * (x.p.env.level - seen_.level)) n source go' x.w x.t small flat.0 is
             (omega (arith, short, more_levels))
             (λ b now.
@@ -238,27 +239,27 @@ module _ (P : Program) (set : Setting P) (needs : Needs P) where
       where
         by : (access : Access) → seen_.home.access ≡ access → Told_ hd.before (held_address hd.address)
         by (InTemp i) e =
-            let made = sym (ap (λ o. drawn (place_in (frame_at x.p.within seen_.home.level) o) x.σ) e) ∙ locating.is_place P set needs n v x in
+            let made = sym (ap (λ o. drawn (place_in (frame_at x.p.within seen_.home.level) o) x.σ) e) ∙ locating.is_place P set premises n v x in
             absurd (subst (λ o. HasAddress o) (sym (ap made_in made)) has)
         by (InFrame k) e =
-            slot_held k e (sym (ap (λ o. drawn (place_in (frame_at x.p.within seen_.home.level) o) x.σ) e) ∙ locating.is_place P set needs n v x)
+            slot_held k e (sym (ap (λ o. drawn (place_in (frame_at x.p.within seen_.home.level) o) x.σ) e) ∙ locating.is_place P set premises n v x)
 
   -- A field.
   module _ (n : ℕ) (v : LValue) (f : Ident) (show_v : PlaceShown P n v) (x : PlaceSituation P n (Field v f)) (hd : HeldAt) (τ2 : TranslationState)
       (held : hold_of x.storage x.τ ≡ drawn hd τ2)
       (idle : x.τ.frame.temps < τ2.frame.temps → x.p.places (temporary x.p.scene.depth x.τ.frame.temps) ≡ nowhere) where
     abbrev k_ : ℕ
-    k_ = (fields.typed_ P set needs n v f show_v x).k
+    k_ = (fields.typed_ P set premises n v f show_v x).k
 
     by_record : (storage : Storage) (s1 : TranslationState) → locate P.findings v x.p.within x.σ ≡ drawn storage s1 → field_place k_ (read storage) s1 ≡ drawn x.storage x.τ →
         ToldFollows P n x.r x.p x.h x.types x.ty x.go (place_source P n (Field v f) x) x.w x.t hd.before (held_address hd.address)
     by_record (in_temp i) s1 made rest =
         let last : Later s1 x.τ = subst (λ o. Later s1 o) (ap state_in rest) (later_none s1) in
         held_itself P n (Field v f) x hd τ2 held idle (stm (nil_check (Temp i)) no_stms) (plus (Temp i) (4 * k_)) s1 rest (plus_held i (4 * k_))
-        (fields.direct P set needs n v f show_v x i s1 made last)
+        (fields.direct P set premises n v f show_v x i s1 made last)
     by_record (at_address b a) s1 made rest =
         let t1 : ℕ = s1.frame.temps in
-        let before = needs.place_grows v x.p.within (at_address b a) x.σ s1 made in
+        let before = premises.place_grows v x.p.within (at_address b a) x.σ s1 made in
         let kept_state : TranslationState = with_frame (one_temp s1.frame) s1 in
         let all : drawn (at_address (stm (Move t1 (after_all b (Load a))) (stm (nil_check (Temp t1)) no_stms)) (plus (Temp t1) (4 * k_))) kept_state ≡ drawn x.storage x.τ =
         sym (ap (λ o. after o (λ (r : Held) s. drawn (field_of k_ r.before (operand r.operand)) s)) (hold_loaded true no_stms b a s1)) ∙ rest in
@@ -266,32 +267,32 @@ module _ (P : Program) (set : Setting P) (needs : Needs P) where
         let drawn_one : t1 < x.τ.frame.temps = let e = ap (λ d. (state_in d).frame.temps) all in omega (arith, e) in
         held_itself P n (Field v f) x hd τ2 held idle (stm (Move t1 (after_all b (Load a))) (stm (nil_check (Temp t1)) no_stms)) (plus (Temp t1) (4 * k_)) kept_state all
         (plus_held t1 (4 * k_))
-        (fields.loaded P set needs n v f show_v x t1 (at_address b a) s1 (x.ready.temps_free t1 before.temps drawn_one) made last)
+        (fields.loaded P set premises n v f show_v x t1 (at_address b a) s1 (x.ready.temps_free t1 before.temps drawn_one) made last)
 
     pub field_held : ToldFollows P n x.r x.p x.h x.types x.ty x.go (place_source P n (Field v f) x) x.w x.t hd.before (held_address hd.address)
     field_held =
         let i = after_inv (locate P.findings v x.p.within x.σ) _ x.storage x.τ x.is_made in
-        let typed = fields.typed_ P set needs n v f show_v x in
+        let typed = fields.typed_ P set premises n v f show_v x in
         by_record i.0 i.1 i.2 (sym (ap (λ o. field_place (field_number o) (read i.0) i.1) (set.found (at_of f) (means.Field typed.k) typed.says)) ∙ i.3)
 
   -- An element.
   module _ (grow : StatesGrow P) (n : ℕ) (v : LValue) (e : Exp) (show_v : PlaceShown P n v) (show_e : Shown P n e) (x : PlaceSituation P n (Index v e)) (hd : HeldAt)
       (τ2 : TranslationState) (held : hold_of x.storage x.τ ≡ drawn hd τ2)
       (idle : x.τ.frame.temps < τ2.frame.temps → x.p.places (temporary x.p.scene.depth x.τ.frame.temps) ≡ nowhere) where
-    abbrev made_ : elements.ElementMade P set needs grow n v e show_v show_e x
-    made_ = elements.element_made P set needs grow n v e show_v show_e x
+    abbrev made_ : elements.ElementMade P set premises grow n v e show_v show_e x
+    made_ = elements.element_made P set premises grow n v e show_v show_e x
 
     abbrev array_ : Operand
-    array_ = elements.lo_of P set needs grow n v e show_v show_e x made_.storage made_.s3
+    array_ = elements.lo_of P set premises grow n v e show_v show_e x made_.storage made_.s3
 
     abbrev index_ : Operand
-    index_ = elements.ro_of P set needs grow n v e show_v show_e x made_.storage made_.s3 made_.y
+    index_ = elements.ro_of P set premises grow n v e show_v show_e x made_.storage made_.s3 made_.y
 
     abbrev checks_ : Stms
-    checks_ = elements.checks_of P set needs grow n v e show_v show_e x made_.storage made_.s3 made_.y
+    checks_ = elements.checks_of P set premises grow n v e show_v show_e x made_.storage made_.s3 made_.y
 
     abbrev state_ : TranslationState
-    state_ = (held_as made_.y (elements.sh_of P set needs grow n v e show_v show_e x made_.storage made_.s3) (holding made_.y)).after
+    state_ = (held_as made_.y (elements.sh_of P set premises grow n v e show_v show_e x made_.storage made_.s3) (holding made_.y)).after
 
     base_follows : x.p.places (temporary x.p.scene.depth state_.frame.temps) ≡ nowhere →
         ToldFollows P n x.r x.p x.h x.types x.ty x.go (place_source P n (Index v e) x) x.w x.t
@@ -301,7 +302,7 @@ module _ (P : Program) (set : Setting P) (needs : Needs P) where
         let last : Next = λ w1 t1. charged j (value_runs P x.p (Binary Add (Temp f) (Const 4)) x.p.around go' w1 t1) in
         subst (λ o. FollowsHere P (x.r + j) n (place_source P n (Index v e) x) o)
         (sym (joined_runs P x.p checks_ (stm (Move f (element_base array_ index_)) no_stms) last x.w x.t))
-        (elements.tail_follows P set needs grow n v e show_v show_e x made_.storage made_.s1 made_.s2 made_.s3 made_.m made_.y made_.made made_.made_e made_.made_y
+        (elements.tail_follows P set premises grow n v e show_v show_e x made_.storage made_.s1 made_.s2 made_.s3 made_.m made_.y made_.made made_.made_e made_.made_y
         made_.last made_.from_array j
         (λ l o w1 t1. statements_run P x.p (stm (Move f (element_base l o)) no_stms) x.p.around last w1 t1)
         (λ g ms s4 w4 t4 l o u z k gg ee hh at is_l is_o few fits.
@@ -317,5 +318,5 @@ module _ (P : Program) (set : Setting P) (needs : Needs P) where
   -- whatever the l-value is
   pub held_shown : (grow : StatesGrow P) (n : ℕ) (v : LValue) → IndicesShown P n v → HeldShown P n v
   held_shown grow n (Simple v) h x has hd τ2 held idle = name_held n v x has hd τ2 held idle
-  held_shown grow n (Field v f) h x has hd τ2 held idle = field_held n v f (place_shown P set needs grow n v h) x hd τ2 held idle
-  held_shown grow n (Index v e) h x has hd τ2 held idle = element_held_shown grow n v e (place_shown P set needs grow n v h.0) h.1 x hd τ2 held idle
+  held_shown grow n (Field v f) h x has hd τ2 held idle = field_held n v f (place_shown P set premises grow n v h) x hd τ2 held idle
+  held_shown grow n (Index v e) h x has hd τ2 held idle = element_held_shown grow n v e (place_shown P set premises grow n v h.0) h.1 x hd τ2 held idle

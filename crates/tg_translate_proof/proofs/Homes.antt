@@ -12,7 +12,7 @@ use Rattle.tg_types.specs.Types.{Ty, Shape, int_type}
 use Rattle.tg_frame.specs.declared.accesses.Access.{Access}
 use Rattle.tg_frame.specs.declared.accesses.Access.TheVariants.{InTemp, InFrame}
 use Rattle.tg_tree.specs.Tree.{Tx}
-use Rattle.tg_tree.specs.Units.{Trees, lifted_units}
+use Rattle.tg_tree.specs.Units.{Trees, hoisted_units}
 use Rattle.tg_tree.specs.Shapes.{is_flat}
 use Rattle.tg_tree.specs.Memory.{Memory, Closed, Has, put, load, store, slot}
 use Rattle.tg_tree.specs.Actions.{World, Temps, set_temp, Go, Next, with_word, with_memory}
@@ -80,7 +80,7 @@ module _ (P : Program) where
       let put_at : ℕ → Run Ran = λ b. value_runs P p x p.around (stores b) w t in
       let open_ = can a refl in
       let y = slot_written w.memory a u (with_temps p.scene.depth t p.others) whole open_.0 open_.1 open_.2 in
-      worked P (q + 12 + 4) (q + 24) (1 + lifted_units Trees (is_flat x)) n c _ (omega (arith, flat))
+      worked P (q + 12 + 4) (q + 24) (1 + hoisted_units Trees (is_flat x)) n c _ (omega (arith, flat))
       (worked P (q + 12 + 3) (q + 12 + 4) 1 n c _ (omega arith)
       (worked P (q + 12 + 2) (q + 12 + 3) 1 n c _ (omega arith)
       (worked P (q + 12) (q + 12 + 2) 2 n c (put_at (sub base (4 * (k + 1)))) (omega arith)

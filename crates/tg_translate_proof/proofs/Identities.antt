@@ -8,7 +8,7 @@ use Rattle.tg_base.specs.declared.ids.Span.{Span}
 use Rattle.tg_syntax.specs.declared.trees.Op.{Op}
 use Rattle.tg_syntax.specs.declared.trees.Op.TheVariants as op
 use Rattle.tg_syntax.specs.Tree.{Exp, Binary}
-use Rattle.tg_symbols.specs.Tables.{named}
+use Rattle.tg_symbols.specs.Tables.{looked_up}
 use Rattle.tg_simulation.specs.Runs.{Run}
 use Rattle.tg_simulation.specs.Ran.{Ran}
 use Rattle.tg_simulation.specs.Outcomes.{costs}
@@ -25,7 +25,7 @@ use Rattle.tg_types.specs.Has.{Says, Compares, Identifies, Alike, records, array
 use Rattle.tg_tree.specs.Tree as tree
 use Rattle.tg_tree.specs.Tree.{Tx}
 use Rattle.tg_tree.specs.Shapes.{is_flat}
-use Rattle.tg_tree.specs.Units.{Trees, lifted_units}
+use Rattle.tg_tree.specs.Units.{Trees, hoisted_units}
 use Rattle.tg_tree.specs.Operators.{holds}
 use Rattle.tg_tree.specs.Actions.{World, Temps, Go}
 use Rattle.tg_translate.specs.declared.wants.Want.{Want}
@@ -204,7 +204,7 @@ module _ (P : Program) (set : Setting P) (grow : StatesGrow P) (n : ℕ) (sp : S
       follows_along P.stack tree_work x.r n (λ i. costs 1 (sides_run i)) (rest_run (evaluates P E_ x.p.env x.go x.out) x.s) whole whole
       source_is (λ i. refl)
       (paid P x.r n sides_run whole
-      (worked P (x.r + 246 + 4) (x.r + 256) (4 + lifted_units Trees (is_flat q.right)) n sides_run _
+      (worked P (x.r + 246 + 4) (x.r + 256) (4 + hoisted_units Trees (is_flat q.right)) n sides_run _
       (let small = lifted_small (is_flat q.right) in omega (arith, small))
       (sides_follow P set grow n E_ a b left_side x makes q ta tb
       (record { begun = tt; typed = piece_a.typed; words = piece_a.words; covers = piece_a.covers; may_assign = piece_a.may_assign }) piece_b (alike_left ta tb alike) (alike_right ta tb alike)

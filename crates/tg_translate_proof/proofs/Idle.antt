@@ -7,7 +7,7 @@ use Rattle.tg_syntax.specs.declared.tokens.Ident.{Ident}
 use Rattle.tg_syntax.specs.declared.trees.Op.{Op}
 use Rattle.tg_syntax.specs.declared.trees.Op.TheVariants.{Plus, Minus, Times, Divide, Equal, NotEqual, Less, LessEqual, Greater, GreaterEqual, And, Or}
 use Rattle.tg_syntax.specs.Tree.{Exp, Nil, Break, Int, Text, Read, Call, Neg, Binary, Make, Fill, Assign, If, When, While, For, Let, Seq, LValue, Simple, Field, Index}
-use Rattle.tg_symbols.specs.Tables.{named}
+use Rattle.tg_symbols.specs.Tables.{looked_up}
 use Rattle.tg_simulation.specs.Outcomes.{ended, stuck, costs}
 use Rattle.tg_semantics.specs.Values.{Value, int, string, nil, reference, nothing, SourceWorld, Env, Object, fields, elements, by_nil, by_index, by_overflow}
 use Rattle.tg_semantics.specs.Actions.{Actions}
@@ -21,7 +21,8 @@ use Rattle.tg_semantics.specs.Levels.{levels_of}
 use Rattle.tg_types.specs.declared.notes.Means.{Means}
 use Rattle.tg_types.specs.declared.notes.Means.TheVariants as means
 use Rattle.tg_types.specs.Types.{Ty, record_type, array_type, record_shape, array_shape, int_type}
-use Rattle.tg_types.specs.Scopes.{name_of, at_of, Scope}
+use Rattle.tg_semantics.specs.Environments.{name_of}
+use Rattle.tg_types.specs.Scopes.{at_of, Scope}
 use Rattle.tg_types.specs.Has as has
 use Rattle.tg_types.specs.Has.{Has, HasPlace}
 use Rattle.tg_translate.specs.States.{TranslationState}
@@ -33,7 +34,7 @@ use Rattle.tg_translate_proof.specs.Situations.{Program, Part, Setting, IsReady,
 use Rattle.tg_translate_proof.proofs.Placing.{some_same}
 use Rattle.tg_translate_proof.proofs.Sides.{both_true}
 use Rattle.tg_translate_proof.proofs.Objects.{first_of, first_is}
-use Rattle.tg_translate_proof.proofs.Locating.{Needs, SeenVariable, name_typed}
+use Rattle.tg_translate_proof.proofs.Locating.{Premises, SeenVariable, name_typed}
 
 -- both are sums, or both differences
 one_of_two : (op o : Op) → is_sum_or_difference op o ≡ true → (op ≡ o) × ((op ≡ Plus) ⊎ (op ≡ Minus))
@@ -397,7 +398,7 @@ module _ (heap stack : ℕ) where
       index_idle (Seq s d) f2 e env s0 = cc
 
 -- Two l-values that are told the same find the same location, in each world.
-module _ (P : Program) (set : Setting P) (needs : Needs P) (p : Part) (types : List Ty) (σ τ : TranslationState) (ready : IsReady P p types σ τ) where
+module _ (P : Program) (set : Setting P) (premises : Premises P) (p : Part) (types : List Ty) (σ τ : TranslationState) (ready : IsReady P p types σ τ) where
   abbrev N : (at : ℕ) → Option Means
   N = P.findings.meaning
 
@@ -431,9 +432,9 @@ module _ (P : Program) (set : Setting P) (needs : Needs P) (p : Part) (types : L
       let told : (a.at == b.at) ≡ true =
       ap (λ o. is_same_variable (Some (means.Variable a.at)) o) (sym fb) ∙ (ap (λ o. is_same_variable o (N (at_of y))) (sym fa) ∙ e) in
       let at_is : a.at ≡ b.at = eqb-true a.at b.at told in
-      let sx : SeenVariable P p types (name_of x) a.at t = needs.sees p types σ τ x a.at t a.loop ready cx a.is_bound a.says in
-      let sy : SeenVariable P p types (name_of y) b.at u = needs.sees p types σ τ y b.at u b.loop ready cy b.is_bound b.says in
-      let home_is : sx.home ≡ sy.home = some_same sx.home sy.home (sym sx.tabled ∙ (ap (λ o. named o P.table.homes) at_is ∙ sy.tabled)) in
+      let sx : SeenVariable P p types (name_of x) a.at t = premises.sees p types σ τ x a.at t a.loop ready cx a.is_bound a.says in
+      let sy : SeenVariable P p types (name_of y) b.at u = premises.sees p types σ τ y b.at u b.loop ready cy b.is_bound b.says in
+      let home_is : sx.home ≡ sy.home = some_same sx.home sy.home (sym sx.tabled ∙ (ap (λ o. looked_up o P.table.homes) at_is ∙ sy.tabled)) in
       let level_is : sx.level ≡ sy.level = sym sx.home_level ∙ (ap (λ h. h.level) home_is ∙ sy.home_level) in
       let key_is : key_of p.scene sy.level sy.home.access ≡ key_of p.scene sx.level sx.home.access =
       ap (λ o. key_of p.scene o sy.home.access) (sym level_is) ∙ ap (λ h. key_of p.scene sx.level h.access) (sym home_is) in
@@ -452,7 +453,7 @@ module _ (P : Program) (set : Setting P) (needs : Needs P) (p : Part) (types : L
         let b = both_true _ _ e in
         let rec_ = same_place v w (record_type at) (record_type at2) b.1 hv hw cx cy in
         let at_is : at ≡ at2 = let q = rec_.0 in cc in
-        let fs_is : fs ≡ fs2 = let q : Some (record_shape fs) ≡ Some (record_shape fs2) = sym shape ∙ (ap (λ o. named o P.shapes) at_is ∙ shape2) in cc in
+        let fs_is : fs ≡ fs2 = let q : Some (record_shape fs) ≡ Some (record_shape fs2) = sym shape ∙ (ap (λ o. looked_up o P.shapes) at_is ∙ shape2) in cc in
         let told : (k == k2) ≡ true =
         ap (λ o. k == field_number o) (sym (set.found (at_of g) (means.Field k2) says2)) ∙
         (ap (λ o. field_number o == field_number (N (at_of g))) (sym (set.found (at_of f) (means.Field k) says)) ∙ b.0) in
@@ -473,7 +474,7 @@ module _ (P : Program) (set : Setting P) (needs : Needs P) (p : Part) (types : L
         let rec_ = same_place v w (array_type at) (array_type at2) c.0 hv hw cx.0 cy.0 in
         let at_is : at ≡ at2 = let q = rec_.0 in cc in
         let value_is = same_index a b int_type int_type c.1 ha hb cx.1 cy.1 in (
-          (let q : Some (array_shape t) ≡ Some (array_shape u) = sym shape ∙ (ap (λ o. named o P.shapes) at_is ∙ shape2) in cc),
+          (let q : Some (array_shape t) ≡ Some (array_shape u) = sym shape ∙ (ap (λ o. looked_up o P.shapes) at_is ∙ shape2) in cc),
           ap (λ o. element_location P.heap P.stack o (evaluated a)) rec_.1 ∙ ap (λ o. element_location P.heap P.stack (finds w) o) value_is,
         )
     same_place (Simple x) (Field w g) t u e hx hy cx cy = cc

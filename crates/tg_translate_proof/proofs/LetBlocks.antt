@@ -10,7 +10,7 @@ use Rattle.tg_simulation.specs.Ran.{Ran}
 use Rattle.tg_simulation.specs.Agreement.{Source}
 use Rattle.tg_simulation.proofs.Following.{follows_paying}
 use Rattle.tg_semantics.specs.Values.{Value, nothing, SourceWorld, Env}
-use Rattle.tg_semantics.specs.Evaluation.{count}
+use Rattle.tg_semantics.specs.Evaluation.{function_count}
 use Rattle.tg_semantics.specs.Levels.{levels_of}
 use Rattle.tg_semantics.specs.Passing.{Rest}
 use Rattle.tg_semantics.specs.MachineEnds.{rest_run}
@@ -156,8 +156,8 @@ module _ (P : Program) (set : Setting P) (grow : StatesGrow P) (groups : Groups 
         opened = opened_further P set grow n k (functions fs rest) rest scope inner σ2 u env x.env k.p.places k.p.places k.h k.h k.types k.types k.s k.s k.w k.w k.t k.t (grows_none k.h) (extends_none k.types) loop ready hh back
             (ap (λ o2. own_decs level rest o2) seen_is) x.opened;
         leads = λ go q d f.
-            follows_paying P.stack tree_work q n (count fs) (rest_run (declares P set grow rest env go k.out) k.s) d
-            (more P q (q + tree_work * count fs) n (rest_run (declares P set grow rest env go k.out) k.s) d (omega arith) (x.leads go q d f));
+            follows_paying P.stack tree_work q n (function_count fs) (rest_run (declares P set grow rest env go k.out) k.s) d
+            (more P q (q + tree_work * function_count fs) n (rest_run (declares P set grow rest env go k.out) k.s) d (omega arith) (x.leads go q d f));
       }
 
   -- A block.

@@ -15,12 +15,13 @@ use Rattle.tg_simulation.proofs.Following.{follows_paying}
 use Rattle.tg_semantics.specs.Values.{Value, SourceWorld, Env, group}
 use Rattle.tg_semantics.specs.Levels.{levels_of}
 use Rattle.tg_semantics.specs.Evaluation as evaluation
-use Rattle.tg_semantics.specs.Evaluation.{count, with_variable}
+use Rattle.tg_semantics.specs.Evaluation.{function_count, with_variable}
 use Rattle.tg_semantics.specs.Passing.{Rest, Passing, passing}
 use Rattle.tg_semantics.specs.MachineEnds.{rest_run}
 use Rattle.tg_semantics.specs.Laws.{behind}
 use Rattle.tg_types.specs.Types.{Ty}
-use Rattle.tg_types.specs.Scopes.{Scope, Signature, variable_at, binding, name_of, at_of, in_no_loop}
+use Rattle.tg_semantics.specs.Environments.{name_of}
+use Rattle.tg_types.specs.Scopes.{Scope, Signature, variable_at, binding, at_of, in_no_loop}
 use Rattle.tg_types.specs.Groups.{with_functions}
 use Rattle.tg_types.specs.Has as has
 use Rattle.tg_types.specs.Has.{Has, HasDecs, HasBodies, Apart}
@@ -90,7 +91,7 @@ module _ (P : Program) (set : Setting P) (grow : StatesGrow P) where
   -- What is asked of a group of functions that is declared: that its functions are done, and found.
   pub record GroupDone (n : ℕ) (k : Standing P set grow n) (fs : FunDecs) (ss : List Signature) (v : TranslationState) : Type 0 where
     pub later : Later k.σ v
-    pub many : length ss ≡ count fs
+    pub many : length ss ≡ function_count fs
     pub done : AreDone P (with_functions fs ss k.p.scope) k.p.env.level k.p.scene.keeps (group k.p.env.level fs ∷ k.p.env.entries) fs ss
     pub found : HasFound P.table v (with_functions fs ss k.p.scope).bindings
     pub fits : situations.GroupsFit P (group k.p.env.level fs ∷ k.p.env.entries)
@@ -350,8 +351,8 @@ module _ (P : Program) (set : Setting P) (grow : StatesGrow P) where
       let seen_is : levels_of env.entries ≡ own_functions level fs (levels_of k.p.env.entries) = ap (λ o. own_functions o fs (levels_of k.p.env.entries)) k.ready.same_level in
       let source : Run Source = rest_run (declares rest env go k.out) k.s in
       let target : Run Ran = statements_run P k.p ss k.p.around next k.w k.t in
-      follows_paying P.stack tree_work k.r n (count fs) source target
-      (more P k.r (k.r + tree_work * count fs) n source target (omega arith)
+      follows_paying P.stack tree_work k.r n (function_count fs) source target
+      (more P k.r (k.r + tree_work * function_count fs) n source target (omega arith)
       (declare_all groups n
       (stands_inside n k scope σ2 env k.p.places k.h k.types k.s k.w k.t k.r (omega arith) (grows_none k.h) (extends_none k.types) loop ready hh back)
       rest inner ss u made typed shown words.1

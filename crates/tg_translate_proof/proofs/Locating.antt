@@ -7,7 +7,7 @@ use Rattle.tg_state.specs.State.{stack_top, heap_base, most_room}
 use Rattle.tg_syntax.specs.declared.tokens.Ident.{Ident}
 use Rattle.tg_syntax.specs.Tree.{Exp, LValue, Simple, Field, Index, Exps, Decs}
 use Rattle.tg_syntax.specs.OfWords.{PlaceOfWords}
-use Rattle.tg_symbols.specs.Tables.{named}
+use Rattle.tg_symbols.specs.Tables.{looked_up}
 use Rattle.tg_simulation.specs.Runs.{Run}
 use Rattle.tg_simulation.specs.Ran.{Ran, works}
 use Rattle.tg_simulation.specs.Outcomes.{costs}
@@ -24,7 +24,8 @@ use Rattle.tg_semantics.specs.Laws.{behind}
 use Rattle.tg_types.specs.declared.notes.Means.TheVariants as means
 use Rattle.tg_types.specs.Types.{Ty, Shape, record_shape, array_shape}
 use Rattle.tg_types.specs.Typing.{placed}
-use Rattle.tg_types.specs.Scopes.{bound, variable_at, function_at, standard_one, name_of, at_of, Binding}
+use Rattle.tg_semantics.specs.Environments.{name_of}
+use Rattle.tg_types.specs.Scopes.{bound, variable_at, function_at, standard_one, at_of, Binding}
 use Rattle.tg_types.specs.Has as has
 use Rattle.tg_types.specs.Has.{HasPlace, HasValues, FieldsHaveValues, ShapeHasValues, ShapesHaveValues, Says}
 use Rattle.tg_frame.specs.declared.accesses.Access.{Access}
@@ -67,11 +68,11 @@ pub data IsAt (P : Program) (places : Places) (h : Holdings) (types : List Ty) :
       IsAt P places h types (in_variable place) t u
   a_field :
       (r name at a k : ℕ) (t : Ty) (fs : _) → slice_get h.objects r ≡ Some (a, record_of at) →
-      named at P.shapes ≡ Some (record_shape fs) → placed name 0 fs ≡ Some (k, t) →
+      looked_up at P.shapes ≡ Some (record_shape fs) → placed name 0 fs ≡ Some (k, t) →
       IsAt P places h types (in_field r name) t (a + 4 * k)
   an_element :
       (r i at a count : ℕ) (t : Ty) → slice_get h.objects r ≡ Some (a, array_of at count) →
-      named at P.shapes ≡ Some (array_shape t) → i < count →
+      looked_up at P.shapes ≡ Some (array_shape t) → i < count →
       IsAt P places h types (in_element r i) t (a + 4 + 4 * i)
 
 -- it stays where holdings grow
@@ -88,7 +89,7 @@ pub record SeenVariable (P : Program) (p : Part) (types : List Ty) (name at : �
   pub home : Home
   pub found : find name p.env.entries ≡ Some (to_variable level place)
   pub around : level ≤ p.scene.level
-  pub tabled : named at P.table.homes ≡ Some home
+  pub tabled : looked_up at P.table.homes ≡ Some home
   pub home_level : home.level ≡ level
   pub near : IsNear p.scene level home.access
   pub stands : IsOf place (p.places (key_of p.scene level home.access))
@@ -98,7 +99,7 @@ pub record SeenVariable (P : Program) (p : Part) (types : List Ty) (name at : �
 
 -- What the lemmas on places need of others: uses of variables, cells that are never kept, objects
 -- below the end of the heap that is taken.
-pub record Needs (P : Program) : Type 0 where
+pub record Premises (P : Program) : Type 0 where
   pub sees :
       (p : Part) (types : List Ty) (σ τ : TranslationState) (v : Ident) (at : ℕ) (t : Ty) (loop : Bool) → IsReady P p types σ τ →
       CoversName P.findings P.table P.weight p.scene.level p.scene.keeps v → bound v p.scope ≡ Some (variable_at at t loop) →
@@ -119,8 +120,9 @@ abbrev pub PlaceMayAssign : Part → LValue → Type 0
 PlaceMayAssign p v =
     (place_assigns_nothing v ≡ true) ⊎ ((i place u : ℕ) → p.places (temporary p.scene.depth i) ≢ kept place u)
 
-home_first : (b : Bool) (x at : ℕ) (t : Ty) (loop : Bool) (one : Binding) (bs : List (ℕ × Binding)) (P : Type 0) → (one ≡ variable_at at t loop → P) → (named x bs ≡ Some (variable_at at t loop) → P) →
-    (if b then Some one else named x bs) ≡ Some (variable_at at t loop) → P
+home_first : (b : Bool) (x at : ℕ) (t : Ty) (loop : Bool) (one : Binding) (bs : List (ℕ × Binding)) (P : Type 0) → (one ≡ variable_at at t loop → P) →
+    (looked_up x bs ≡ Some (variable_at at t loop) → P) →
+    (if b then Some one else looked_up x bs) ≡ Some (variable_at at t loop) → P
 home_first true x at t loop one bs P f g e = f (some_same one (variable_at at t loop) e)
 home_first false x at t loop one bs P f g e = g e
 
@@ -134,16 +136,17 @@ is_variable (variable_at at t loop) = true
 is_variable _ = false
 
 -- a home that a state has found is the table's
-pub found_home : (table : Table) (s : TranslationState) (bs : List (ℕ × Binding)) (x at : ℕ) (t : Ty) (loop : Bool) → HasFound table s bs → named x bs ≡ Some (variable_at at t loop) →
-    named at s.homes ≡ named at table.homes
+pub found_home : (table : Table) (s : TranslationState) (bs : List (ℕ × Binding)) (x at : ℕ) (t : Ty) (loop : Bool) → HasFound table s bs →
+    looked_up x bs ≡ Some (variable_at at t loop) →
+    looked_up at s.homes ≡ looked_up at table.homes
 found_home table s [] x at t loop f e = cc
 found_home table s ((y, variable_at a u l) ∷ bs) x at t loop f e =
-    home_first (y == x) x at t loop (variable_at a u l) bs (named at s.homes ≡ named at table.homes)
-    (λ g. subst (λ o. named o s.homes ≡ named o table.homes) (ap at_in g) f.0) (λ g. found_home table s bs x at t loop f.1 g) e
+    home_first (y == x) x at t loop (variable_at a u l) bs (looked_up at s.homes ≡ looked_up at table.homes)
+    (λ g. subst (λ o. looked_up o s.homes ≡ looked_up o table.homes) (ap at_in g) f.0) (λ g. found_home table s bs x at t loop f.1 g) e
 found_home table s ((y, function_at a sig) ∷ bs) x at t loop f e =
-    home_first (y == x) x at t loop (function_at a sig) bs (named at s.homes ≡ named at table.homes) (λ g. let k = ap is_variable g in cc) (λ g. found_home table s bs x at t loop f.1 g) e
+    home_first (y == x) x at t loop (function_at a sig) bs (looked_up at s.homes ≡ looked_up at table.homes) (λ g. let k = ap is_variable g in cc) (λ g. found_home table s bs x at t loop f.1 g) e
 found_home table s ((y, standard_one one) ∷ bs) x at t loop f e =
-    home_first (y == x) x at t loop (standard_one one) bs (named at s.homes ≡ named at table.homes) (λ g. let k = ap is_variable g in cc) (λ g. found_home table s bs x at t loop f g) e
+    home_first (y == x) x at t loop (standard_one one) bs (looked_up at s.homes ≡ looked_up at table.homes) (λ g. let k = ap is_variable g in cc) (λ g. found_home table s bs x at t loop f g) e
 
 module _ (P : Program) where
   -- evaluation of an l-value, with what comes next
@@ -237,27 +240,30 @@ module _ (P : Program) where
 
   -- There are values of an l-value's type.
 
-  field_values : (name : ℕ) (fs : List (ℕ × Ty)) (t : Ty) → FieldsHaveValues fs → named name fs ≡ Some t → HasValues t
+  field_values : (name : ℕ) (fs : List (ℕ × Ty)) (t : Ty) → FieldsHaveValues fs → looked_up name fs ≡ Some t → HasValues t
   field_values name [] t all e = cc
   field_values name (one ∷ rest) t all e = by (one.0 == name) (λ g. field_values name rest t all.1 g) e
     where
-      by : (b : Bool) → (named name rest ≡ Some t → HasValues t) → (if b then Some one.1 else named name rest) ≡ Some t → HasValues t
+      by : (b : Bool) → (looked_up name rest ≡ Some t → HasValues t) → (if b then Some one.1 else looked_up name rest) ≡ Some t → HasValues t
       by true k g = subst (λ o. HasValues o) (some_same one.1 t g) all.0
       by false k g = k g
 
-  shape_values : (at : ℕ) (shapes : List (ℕ × Shape)) (one : Shape) → ShapesHaveValues shapes → named at shapes ≡ Some one → ShapeHasValues one
+  shape_values : (at : ℕ) (shapes : List (ℕ × Shape)) (one : Shape) → ShapesHaveValues shapes → looked_up at shapes ≡ Some one → ShapeHasValues one
   shape_values at [] one all e = cc
   shape_values at (first ∷ rest) one all e = by (first.0 == at) (λ g. shape_values at rest one all.1 g) e
     where
-      by : (b : Bool) → (named at rest ≡ Some one → ShapeHasValues one) → (if b then Some first.1 else named at rest) ≡ Some one → ShapeHasValues one
+      by : (b : Bool) → (looked_up at rest ≡ Some one → ShapeHasValues one) → (if b then Some first.1 else looked_up at rest) ≡ Some one → ShapeHasValues one
       by true k g = subst (λ o. ShapeHasValues o) (some_same first.1 one g) all.0
       by false k g = k g
 
-  pub place_has_values : Needs P → (p : Part) (types : List Ty) (σ τ : TranslationState) (v : LValue) (t : Ty) → IsReady P p types σ τ →
+  pub place_has_values : Premises P → (p : Part) (types : List Ty) (σ τ : TranslationState) (v : LValue) (t : Ty) → IsReady P p types σ τ →
       CoversPlace P.findings P.table P.weight p.scene.level p.scene.keeps (levels_of p.env.entries) v → HasPlace P.shapes P.notes v p.scope t → HasValues t
-  place_has_values needs p types σ τ (Simple x) t ready covers (has.simple at loop e says) = (needs.sees p types σ τ x at t loop ready covers e says).has_values
-  place_has_values needs p types σ τ (Field v f) t ready covers (has.field at fs k _ shape is _ _) = field_values (name_of f) fs t (shape_values at P.shapes (record_shape fs) needs.shapes_have_values shape) is
-  place_has_values needs p types σ τ (Index v e) t ready covers (has.index at _ shape _) = shape_values at P.shapes (array_shape t) needs.shapes_have_values shape
+  place_has_values premises p types σ τ (Simple x) t ready covers (has.simple at loop e says) =
+      (premises.sees p types σ τ x at t loop ready covers e says).has_values
+  place_has_values premises p types σ τ (Field v f) t ready covers (has.field at fs k _ shape is _ _) =
+      field_values (name_of f) fs t (shape_values at P.shapes (record_shape fs) premises.shapes_have_values shape) is
+  place_has_values premises p types σ τ (Index v e) t ready covers (has.index at _ shape _) =
+      shape_values at P.shapes (array_shape t) premises.shapes_have_values shape
 
   -- A variable that is used by its name.
 
@@ -297,17 +303,18 @@ module _ (P : Program) where
   pub slot_length : (p : Part) (level k : ℕ) → expression_length Trees (slot_address (frame_at p.within level) k) ≤ 4 * (p.within.level - level) + 8
   slot_length p level k = let x = frame_length p.within.link_in_slot (p.within.level - level) in omega (arith, x)
 
-  module _ (set : Setting P) (needs : Needs P) (n : ℕ) (v : Ident) (x : PlaceSituation n (Simple v)) where
+  module _ (set : Setting P) (premises : Premises P) (n : ℕ) (v : Ident) (x : PlaceSituation n (Simple v)) where
     abbrev pub typed_ : NameTyped v x.p x.ty
     typed_ = name_typed v x.p x.ty x.typed
 
     abbrev pub seen : SeenVariable P x.p x.types (name_of v) typed_.at x.ty
-    seen = needs.sees x.p x.types x.σ x.τ v typed_.at x.ty typed_.loop x.ready x.covers typed_.is_bound typed_.says
+    seen = premises.sees x.p x.types x.σ x.τ v typed_.at x.ty typed_.loop x.ready x.covers typed_.is_bound typed_.says
 
     -- where it stands, by the translation
     pub is_place : drawn (place_in (frame_at x.p.within seen.home.level) seen.home.access) x.σ ≡ drawn x.storage x.τ
     is_place =
-        let home_is : named typed_.at x.σ.homes ≡ Some seen.home = found_home P.table x.σ x.p.scope.bindings (name_of v) typed_.at x.ty typed_.loop x.ready.found typed_.is_bound ∙ seen.tabled in
+        let home_is : looked_up typed_.at x.σ.homes ≡ Some seen.home =
+            found_home P.table x.σ x.p.scope.bindings (name_of v) typed_.at x.ty typed_.loop x.ready.found typed_.is_bound ∙ seen.tabled in
         sym (ap (λ o. drawn (home_place x.p.within o) x.σ) home_is) ∙
         (sym (ap (λ o. variable_place x.p.within o x.σ) (set.found (at_of v) (means.Variable typed_.at) typed_.says)) ∙ x.is_made)
 

@@ -2,7 +2,7 @@
 use Rattle.std.proofs.Common.{◌≡◌, ◌≢◌, ℕ, ◌+◌, ◌<◌, ◌≤◌, List, [], ◌∷◌, Option, Some, None, Bool, true, false, refl, sym, ap, ◌∙◌, arith, subst, inl, inr, eq-eqb}
 use Rattle.std.specs.Prelude.{◌⊎◌, if◌then◌else◌}
 use Rattle.tg_syntax.specs.Tree.{Exp}
-use Rattle.tg_symbols.specs.Tables.{named}
+use Rattle.tg_symbols.specs.Tables.{looked_up}
 use Rattle.tg_simulation.specs.Runs.{Run}
 use Rattle.tg_simulation.specs.Agreement.{Source}
 use Rattle.tg_semantics.specs.Values.{Value, SourceWorld}
@@ -270,16 +270,16 @@ module _ (P : Program) (set : Setting P) (grow : StatesGrow P) (n : ℕ) where
   named_place : (k : Standing P set grow n) (e : Exp) (ty : Ty) (q : Asked P set grow n k e ty) (go : Value → Rest) (m : Made) (s1 s2 : TranslationState)
       (i : ℕ) → IsNamed P n k.r k.p k.s go (asked_source P set grow n k e ty q go) m → value_of m s1 ≡ drawn (Temp i) s2 →
       (place : ℕ) × IsOf place (k.p.places (temporary k.p.scene.depth i))
-  named_place k e ty q go (value y) s1 s2 i named made =
+  named_place k e ty q go (value y) s1 s2 i looked_up made =
       let same : value y ≡ value (Temp i) = ap value (tree_in made) in
       let own : IsVariables P n k.r k.p k.s go (asked_source P set grow n k e ty q go) i =
-      subst (λ o. IsNamed P n k.r k.p k.s go (asked_source P set grow n k e ty q go) o) same named in
+      subst (λ o. IsNamed P n k.r k.p k.s go (asked_source P set grow n k e ty q go) o) same looked_up in
       (own.place, own.is_of)
     where
       tree_in : {a b : Tx} {s t : TranslationState} → drawn a s ≡ drawn b t → a ≡ b
       tree_in e = cc
-  named_place k e ty q go (done y) s1 s2 i named made = cc
-  named_place k e ty q go (test c) s1 s2 i named made = cc
+  named_place k e ty q go (done y) s1 s2 i looked_up made = cc
+  named_place k e ty q go (test c) s1 s2 i looked_up made = cc
 
   -- Behind an expression that is held: what comes next is told the operand, and where its word stays meanwhile.
   abbrev pub HeldOn : (k : Standing P set grow n) (direct : Bool) (sh : TranslationState) (ty : Ty) → (Value → Rest) → (Operand → Next) → Type 0

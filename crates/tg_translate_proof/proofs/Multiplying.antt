@@ -23,7 +23,7 @@ use Rattle.tg_tree.specs.Tree as tree
 use Rattle.tg_tree.specs.Tree.{Tx, Const, Temp, Move, Stms, no_stms, stm}
 use Rattle.tg_tree.specs.Lists.{join_stms}
 use Rattle.tg_tree.specs.Shapes.{is_flat}
-use Rattle.tg_tree.specs.Units.{Trees, lifted_units}
+use Rattle.tg_tree.specs.Units.{Trees, hoisted_units}
 use Rattle.tg_tree.specs.Operators.{operate}
 use Rattle.tg_tree.specs.Actions.{World, Temps, set_temp, Go, Next, with_given, with_word}
 use Rattle.tg_translate.specs.declared.operands.Operand.{Operand}
@@ -165,15 +165,15 @@ module _ (P : Program) (set : Setting P) (grow : StatesGrow P) (n : ℕ) (sp : S
         let moved : ℕ → World → Temps → Run _ = λ v w3 t3. check_next l r w3 (set_temp p v t3) in
         let compared : Go ℕ = λ h w3 t3. value_runs P x.p shifted x.p.around (λ k w4 t4. ends_ (not (h == k)) w4 t4) w3 t3 in
         worked P (x.r + 280) (x.r + 290) 2 n c _ (omega arith)
-        (worked P (x.r + 268 + 2 + 2) (x.r + 280) (2 + lifted_units Trees (is_flat (operand r))) n c _ (omega (arith, small))
+        (worked P (x.r + 268 + 2 + 2) (x.r + 280) (2 + hoisted_units Trees (is_flat (operand r))) n c _ (omega (arith, small))
         (operand_follows P set grow x.p l u (x.r + 268 + 2) n c (λ i w1 t1. value_runs P x.p (operand r) x.p.around (λ j w3 t3. with_given (operate bin.Mul i j) w3 (λ v. moved v w3 t3)) w1 t1) w t il
         (operand_follows P set grow x.p r z (x.r + 268) n c (λ j w3 t3. with_given (operate bin.Mul u j) w3 (λ v. moved v w3 t3)) w t ir
         (worked P (x.r + 260) (x.r + 268) 4 n c _ (omega arith)
-        (worked P (x.r + 250) (x.r + 260) (4 + lifted_units Trees (is_flat shifted)) n c _ (omega (arith, small2))
-        (worked P (x.r + 238 + 2 + 2) (x.r + 250) (2 + lifted_units Trees (is_flat (operand r))) n c _ (omega (arith, small))
+        (worked P (x.r + 250) (x.r + 260) (4 + hoisted_units Trees (is_flat shifted)) n c _ (omega (arith, small2))
+        (worked P (x.r + 238 + 2 + 2) (x.r + 250) (2 + hoisted_units Trees (is_flat (operand r))) n c _ (omega (arith, small))
         (operand_follows P set grow x.p l u (x.r + 238 + 2) n c (λ i w1 t1. value_runs P x.p (operand r) x.p.around (λ j w3 t3. with_given (operate bin.MulHigh i j) w3 (λ v. compared v w3 t3)) w1 t1) w t2 kl
         (operand_follows P set grow x.p r z (x.r + 238) n c (λ j w3 t3. with_given (operate bin.MulHigh u j) w3 (λ v. compared v w3 t3)) w t2 kr
-        (worked P (x.r + 220) (x.r + 238) (1 + lifted_units Trees (is_flat (Const 31))) n c _ (omega (arith, small3))
+        (worked P (x.r + 220) (x.r + 238) (1 + hoisted_units Trees (is_flat (Const 31))) n c _ (omega (arith, small3))
         (worked P (x.r + 220) (x.r + 220) 0 n c (with_word (t2 p) w (λ k. value_runs P x.p (Const 31) x.p.around (λ j w3 t3. with_given (operate bin.ShiftSigned k j) w3 (λ v. ends_ (not (product_high u z == v)) w3 t3)) w t2)) (omega arith)
         (subst (λ o. FollowsHere P (x.r + 220) n c (with_word o w (λ k. value_runs P x.p (Const 31) x.p.around (λ j w3 t3. with_given (operate bin.ShiftSigned k j) w3 (λ v. ends_ (not (product_high u z == v)) w3 t3)) w t2)))
         (sym (set_here p (mul u z) t))

@@ -3,7 +3,8 @@
 use Rattle.std.proofs.Common.{◌≡◌, ℕ, ◌≤◌, List, Some, refl, sym, ap, ◌∙◌, arith, subst}
 use Rattle.tg_types.specs.declared.notes.Means.TheVariants as means
 use Rattle.tg_types.specs.Types.{Ty}
-use Rattle.tg_types.specs.Scopes.{variable_at, bound, name_of, at_of}
+use Rattle.tg_semantics.specs.Environments.{name_of}
+use Rattle.tg_types.specs.Scopes.{variable_at, bound, at_of}
 use Rattle.tg_types.specs.Has.{Says}
 use Rattle.tg_syntax.specs.declared.tokens.Ident.{Ident}
 use Rattle.tg_translate.specs.States.{TranslationState}
@@ -12,7 +13,7 @@ use Rattle.tg_translate_proof.specs.Worlds.{cell, HoldsAt}
 use Rattle.tg_translate_proof.specs.Situations.{Program, Part, Setting, IsReady, IsNear, with_temps}
 use Rattle.tg_translate_proof.proofs.Growing.{place_grows, grows_by}
 use Rattle.tg_translate_proof.proofs.Seeing.{IsSeenVariable, is_seen, is_near}
-use Rattle.tg_translate_proof.proofs.Locating.{Needs, SeenVariable}
+use Rattle.tg_translate_proof.proofs.Locating.{Premises, SeenVariable}
 
 module _ (P : Program) (set : Setting P) where
   -- a variable where its name is used
@@ -44,8 +45,8 @@ module _ (P : Program) (set : Setting P) where
         leads = λ l lo hi. near.1 l (omega (arith, lo, same)) hi;
       }
 
-  pub needs : Needs P
-  needs = record {
+  pub premises : Premises P
+  premises = record {
     sees = variable_seen;
     cells_are_plain = λ p h types s w t hh a l u e.
         subst (λ c. HoldsAt h types s w.memory (with_temps p.scene.depth t p.others) (cell a) c) e (hh.invariant.holds (cell a));

@@ -21,7 +21,7 @@ use Rattle.tg_tree.specs.declared.operators.Bin.TheVariants.{SubTrap}
 use Rattle.tg_tree.specs.Tree as tree
 use Rattle.tg_tree.specs.Tree.{Tx, Const}
 use Rattle.tg_tree.specs.Shapes.{is_flat}
-use Rattle.tg_tree.specs.Units.{Trees, lifted_units}
+use Rattle.tg_tree.specs.Units.{Trees, hoisted_units}
 use Rattle.tg_tree.specs.Operators.{exactly}
 use Rattle.tg_tree.specs.Actions.{World, Temps, Go, with_given}
 use Rattle.tg_translate.specs.declared.wants.Want.TheVariants as want
@@ -112,7 +112,7 @@ module _ (P : Program) (set : Setting P) (grow : StatesGrow P) (n : ℕ) (sp : S
             by_made P n E_ x (value (tree.Binary SubTrap (Const 0) y)) τ (sym (ap (λ z. drawn (value z) τ) is) ∙ whole) tt
             (λ go' onward.
             paid P x.r n _ _
-            (worked P (x.r + 253) (x.r + 256) (1 + lifted_units Trees (is_flat y)) n _ _ (let small = lifted_small (is_flat y) in omega (arith, small))
+            (worked P (x.r + 253) (x.r + 256) (1 + hoisted_units Trees (is_flat y)) n _ _ (let small = lifted_small (is_flat y) in omega (arith, small))
             (worked P (x.r + 244) (x.r + 253) 2 n _ _ (omega arith)
             (operand_follows y τ made last go' (λ u w t. with_given (exactly (exact_difference 0 u)) w (λ r. go' r w t)) onward (λ u w t small. refl)))))
         by y τ made whole last (a_number k y_is not_least is) =

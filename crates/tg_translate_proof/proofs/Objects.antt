@@ -3,7 +3,7 @@ use Rattle.std.proofs.Common.{◌≡◌, ◌≢◌, ℕ, zero, suc, ◌+◌, ◌
 use Rattle.std.proofs.Common.{arith, subst, inl, inr, eqb-true, eq-eqb}
 use Rattle.std.specs.Prelude.{if◌then◌else◌, slice_get, slice_set, length, All, ◌⊎◌}
 use Rattle.tg_state.specs.State.{heap_base}
-use Rattle.tg_symbols.specs.Tables.{named}
+use Rattle.tg_symbols.specs.Tables.{looked_up}
 use Rattle.tg_semantics.specs.Values.{Value, SourceWorld, Object, fields, elements, put_object}
 use Rattle.tg_semantics.specs.Operators.{get_field, set_field, with_field, with_element}
 use Rattle.tg_types.specs.Types.{Ty, Shape, record_shape, array_shape}
@@ -144,7 +144,7 @@ pub record LaidRecord (h : Holdings) (shapes : List (ℕ × Shape)) (m : Memory)
   pub fs : List (ℕ × Ty)
   pub parts : List (ℕ × Value)
   pub is : x ≡ fields parts
-  pub shape : named at shapes ≡ Some (record_shape fs)
+  pub shape : looked_up at shapes ≡ Some (record_shape fs)
   pub many : length parts ≡ length fs
   pub each : (k name : ℕ) (t : Ty) → slice_get fs k ≡ Some (name, t) → FieldHas h m r a parts k name t
 
@@ -153,7 +153,7 @@ pub record LaidArray (h : Holdings) (shapes : List (ℕ × Shape)) (m : Memory) 
   pub values : List Value
   pub is : x ≡ elements values
   pub counted : count ≡ length values
-  pub shape : named at shapes ≡ Some (array_shape t)
+  pub shape : looked_up at shapes ≡ Some (array_shape t)
   pub few : length values < 2 ^ 26
   pub length_is : h.at a ≡ word (length values)
   pub each : (k : ℕ) (v : Value) → slice_get values k ≡ Some v → ElementHas h m r a k t v

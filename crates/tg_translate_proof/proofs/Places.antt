@@ -4,7 +4,7 @@ use Rattle.tg_syntax.specs.Tree.{LValue, Simple, Field, Index}
 use Rattle.tg_translate_proof.specs.Situations.{Program, Setting}
 use Rattle.tg_translate_proof.specs.Shown.{Shown}
 use Rattle.tg_translate_proof.proofs.Pieces.{StatesGrow}
-use Rattle.tg_translate_proof.proofs.Locating.{Needs, PlaceShown, name_shown}
+use Rattle.tg_translate_proof.proofs.Locating.{Premises, PlaceShown, name_shown}
 use Rattle.tg_translate_proof.proofs.Fields.{field_shown}
 use Rattle.tg_translate_proof.proofs.Elements.{element_shown}
 
@@ -14,7 +14,7 @@ IndicesShown P n (Simple x) = Unit {0}
 IndicesShown P n (Field v f) = IndicesShown P n v
 IndicesShown P n (Index v e) = IndicesShown P n v × Shown P n e
 
-pub place_shown : (P : Program) (set : Setting P) (needs : Needs P) (grow : StatesGrow P) (n : ℕ) (v : LValue) → IndicesShown P n v → PlaceShown P n v
-place_shown P set needs grow n (Simple x) h = λ s. name_shown P set needs n x s
-place_shown P set needs grow n (Field v f) h = λ s. field_shown P set needs n v f (place_shown P set needs grow n v h) s
-place_shown P set needs grow n (Index v e) h = λ s. element_shown P set needs grow n v e (place_shown P set needs grow n v h.0) h.1 s
+pub place_shown : (P : Program) (set : Setting P) (premises : Premises P) (grow : StatesGrow P) (n : ℕ) (v : LValue) → IndicesShown P n v → PlaceShown P n v
+place_shown P set premises grow n (Simple x) h = λ s. name_shown P set premises n x s
+place_shown P set premises grow n (Field v f) h = λ s. field_shown P set premises n v f (place_shown P set premises grow n v h) s
+place_shown P set premises grow n (Index v e) h = λ s. element_shown P set premises grow n v e (place_shown P set premises grow n v h.0) h.1 s

@@ -5,7 +5,7 @@ use Rattle.std.proofs.Common.{arith, subst, inl, inr, eq-eqb, eqb-true, ne_eqb, 
 use Rattle.std.specs.Prelude.{if◌then◌else◌, slice_get, slice_set, length, ◌&&◌, ◌⊎◌, All, ◌^◌}
 use Rattle.std.proofs.lemmas.Option.{slice_get_within}
 use Rattle.tg_state.specs.State.{stack_top, heap_base}
-use Rattle.tg_symbols.specs.Tables.{named}
+use Rattle.tg_symbols.specs.Tables.{looked_up}
 use Rattle.tg_semantics.specs.Values.{Value, SourceWorld, add_variable, put_variable, Object}
 use Rattle.tg_types.specs.Types.{Ty, Shape}
 use Rattle.tg_tree.specs.Memory.{Memory, Closed, load}

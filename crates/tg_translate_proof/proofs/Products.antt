@@ -28,7 +28,7 @@ use Rattle.tg_tree.specs.Tree.{Tx, Const, Address, Temp, FrameAddress, Load, Loa
 use Rattle.tg_tree.specs.Forms.{nothing as nothing_done}
 use Rattle.tg_tree.specs.Lists.{join_stms}
 use Rattle.tg_tree.specs.Shapes.{is_flat, is_flat_condition}
-use Rattle.tg_tree.specs.Units.{Trees, lifted_units, joined_units}
+use Rattle.tg_tree.specs.Units.{Trees, hoisted_units, joined_units}
 use Rattle.tg_tree.specs.Operators.{word, exactly, operate, stops_by}
 use Rattle.tg_tree.specs.Actions.{World, Temps, Go, Next, with_given}
 use Rattle.tg_translate.specs.declared.operands.Operand.{Operand}
@@ -128,7 +128,7 @@ module _ (P : Program) (set : Setting P) (grow : StatesGrow P) where
       let small = lifted_small (is_flat (Const least_int)) in
       let added : Go ℕ = λ z w2 t2. with_given (exactly (exact_sum least_int z)) w2 (λ r. next w2 t2) in
       worked P (q + 7) (q + 7) 0 n c _ (omega arith)
-      (worked P (q + 4) (q + 7) (1 + lifted_units Trees (is_flat (Const least_int))) n c _ (omega (arith, small))
+      (worked P (q + 4) (q + 7) (1 + hoisted_units Trees (is_flat (Const least_int))) n c _ (omega (arith, small))
       (worked P (q + 2) (q + 4) 2 n c _ (omega arith)
       (worked P q (q + 2) 2 n c _ (omega arith)
       (subst (λ o. FollowsHere P q n c (with_given (exactly o) w (λ r. next w t))) (sym least_twice) (stop_follows P q n by_overflow s w input)))))
@@ -143,7 +143,7 @@ module _ (P : Program) (set : Setting P) (grow : StatesGrow P) where
   zero_checked p r z q n c next w t is f =
       let small = lifted_small (is_flat (Const 0)) in
       worked P (q + 10) (q + 14) 4 n c _ (omega arith)
-      (worked P (q + 2 + 2) (q + 10) (4 + lifted_units Trees (is_flat (Const 0))) n c _ (omega (arith, small))
+      (worked P (q + 2 + 2) (q + 10) (4 + hoisted_units Trees (is_flat (Const 0))) n c _ (omega (arith, small))
       (operand_follows P set grow p r z (q + 2) n c (λ k w1 t1. value_runs P p (Const 0) p.around (λ j w2 t2. check_ends p (Fault 7) next (k == j) w2 t2) w1 t1) w t is
       (worked P q (q + 2) 2 n c _ (omega arith) f)))
 
@@ -156,7 +156,7 @@ module _ (P : Program) (set : Setting P) (grow : StatesGrow P) where
       let joined = joined_small (is_flat_condition (Compare rel.Equal (operand l) (Const least_int))) in
       worked P (q + 51) (q + 55) 4 n c _ (omega arith)
       (worked P (q + 20) (q + 51) (joined_units Trees (is_flat_condition (Compare rel.Equal (operand l) (Const least_int)))) n c _ (omega (arith, joined))
-      (worked P (q + 12 + 2) (q + 20) (4 + lifted_units Trees (is_flat (Const minus_one))) n c _ (omega (arith, small))
+      (worked P (q + 12 + 2) (q + 20) (4 + hoisted_units Trees (is_flat (Const minus_one))) n c _ (omega (arith, small))
       (operand_follows P set grow p r z (q + 12) n c
       (λ k w1 t1. value_runs P p (Const minus_one) p.around (λ j w2 t2. second (k == j) w2 t2) w1 t1) w t is_r
       (worked P (q + 10) (q + 12) 2 n c _ (omega arith) (by (z == minus_one) f)))))
@@ -167,7 +167,7 @@ module _ (P : Program) (set : Setting P) (grow : StatesGrow P) where
       by : (b : Bool) → FollowsHere P q n c (check_ends p overflow next (b && u == least_int) w t) → FollowsHere P (q + 10) n c (second b w t)
       by true g =
           let small = lifted_small (is_flat (Const least_int)) in
-          worked P (q + 2 + 2) (q + 10) (4 + lifted_units Trees (is_flat (Const least_int))) n c _ (omega (arith, small))
+          worked P (q + 2 + 2) (q + 10) (4 + hoisted_units Trees (is_flat (Const least_int))) n c _ (omega (arith, small))
           (operand_follows P set grow p l u (q + 2) n c (λ k w1 t1. value_runs P p (Const least_int) p.around (λ j w2 t2. check_ends p overflow next (k == j) w2 t2) w1 t1) w t is_l
           (worked P q (q + 2) 2 n c _ (omega arith) g))
       by false g = more P q (q + 10) n c _ (omega arith) g
@@ -177,7 +177,7 @@ module _ (P : Program) (set : Setting P) (grow : StatesGrow P) where
       FollowsHere P q n c (go' (quot u (suc k)) w t) → FollowsHere P (q + 8) n c (value_runs P p (tree.Binary bin.Div (operand l) (operand r)) p.around go' w t)
   divided p l r u k q n c go' w t is_l is_r f =
       let small = lifted_small (is_flat (operand r)) in
-      worked P (q + 2 + 2) (q + 8) (2 + lifted_units Trees (is_flat (operand r))) n c _ (omega (arith, small))
+      worked P (q + 2 + 2) (q + 8) (2 + hoisted_units Trees (is_flat (operand r))) n c _ (omega (arith, small))
       (operand_follows P set grow p l u (q + 2) n c (λ i w1 t1. value_runs P p (operand r) p.around (λ j w2 t2. with_given (operate bin.Div i j) w2 (λ v. go' v w2 t2)) w1 t1) w t is_l
       (operand_follows P set grow p r (suc k) q n c (λ j w2 t2. with_given (operate bin.Div u j) w2 (λ v. go' v w2 t2)) w t is_r
       (subst (λ b. FollowsHere P q n c (with_given (if b then stops_by Wrong else word (quot u (suc k))) w (λ v. go' v w t))) (sym (eqb-suc-zero k)) f)))
@@ -345,7 +345,7 @@ module _ (P : Program) (set : Setting P) (grow : StatesGrow P) where
       number_follows q is last onward =
           let source : Run Source = rest_run (evaluates P a x.p.env (λ v. evaluates P b x.p.env (λ y. divides v y) x.out) x.out) x.s in
           let small = lifted_small (is_flat (Const (suc k))) in
-          worked P (x.r + 240 + 4) (x.r + 256) (2 + lifted_units Trees (is_flat (Const (suc k)))) n source (number_run q.left (suc k == 0)) (omega (arith, small))
+          worked P (x.r + 240 + 4) (x.r + 256) (2 + hoisted_units Trees (is_flat (Const (suc k)))) n source (number_run q.left (suc k == 0)) (omega (arith, small))
           (subst (λ o. FollowsHere P (x.r + 240 + 4) n source (number_run q.left o)) (sym (eqb-suc-zero k))
           (subst (λ o. FollowsHere P (x.r + 240 + 4) n source (chosen_run q.left o)) (eq-eqb (suc k) (suc k) refl)
           (subst (λ o. FollowsHere P (x.r + 240 + 4) n source (value_runs P x.p q.left x.p.around (λ u w1 t1. value_runs P x.p o x.p.around (λ j w2 t2. by_number (j == suc k) u j w2 t2) w1 t1) x.w x.t)) is

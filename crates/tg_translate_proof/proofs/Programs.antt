@@ -14,7 +14,7 @@ use Rattle.tg_simulation.specs.Outcomes.{ended, stuck, passes_limit}
 use Rattle.tg_simulation.specs.Agreement.{Source, Follows}
 use Rattle.tg_simulation.proofs.Following.{follows_along, follows_passing, follows_full, follows_working, follows_with_credit}
 use Rattle.tg_semantics.specs.Values.{Value, SourceWorld, normal, Env}
-use Rattle.tg_semantics.specs.Environments.{outermost}
+use Rattle.tg_semantics.specs.Environments.{outermost_entries}
 use Rattle.tg_semantics.specs.Levels.{program_weight}
 use Rattle.tg_semantics.specs.Passing.{Rest, ends}
 use Rattle.tg_semantics.specs.MachineEnds.{program_run, rest_run, as_source}
@@ -63,7 +63,7 @@ first_state = beginning 33 (frame_for 32 [])
 -- A program's body as it was translated, and the statics: what the first activation begins with.
 pub record IsBegun (P : Program) (names : List (List ℕ)) (body : Exp) : Type 0 where
   pub ty : Ty
-  pub typed : Has P.shapes P.notes body (scopes.outermost names) ty
+  pub typed : Has P.shapes P.notes body (scopes.outermost_scope names) ty
   pub words : OfWords body
   pub covers : Covers P.findings P.table P.weight 0 (λ k. false) [] body
   pub made : Made
@@ -91,7 +91,7 @@ names_fit : (P : Program) (k : ℕ) (names : List (List ℕ)) → GroupsFit P (o
 names_fit P k [] = tt
 names_fit P k (text ∷ names) = standards_fit P text k standards (outermost_from (suc k) names) (names_fit P (suc k) names)
 
-outermost_fits : (P : Program) (names : List (List ℕ)) → GroupsFit P (outermost names)
+outermost_fits : (P : Program) (names : List (List ℕ)) → GroupsFit P (outermost_entries names)
 outermost_fits P names = names_fit P 0 names
 
 module _ (P : Program) (set : Setting P) (names : List (List ℕ)) (body : Exp) (begun : IsBegun P names body) (input : List ℕ)
@@ -124,7 +124,7 @@ module _ (P : Program) (set : Setting P) (names : List (List ℕ)) (body : Exp) 
   weight = program_weight body
 
   abbrev env : Env
-  env = record { level = 0; entries = outermost names }
+  env = record { level = 0; entries = outermost_entries names }
 
   abbrev go : Value → Rest
   go v = ends (ended normal)
@@ -143,7 +143,7 @@ module _ (P : Program) (set : Setting P) (names : List (List ℕ)) (body : Exp) 
 
   abbrev part : Part
   part = record {
-    scope = scopes.outermost names;
+    scope = scopes.outermost_scope names;
     env = env;
     within = functions.outermost;
     scene = first_scene f.slots size weight;

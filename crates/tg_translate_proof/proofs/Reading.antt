@@ -32,10 +32,10 @@ use Rattle.tg_translate_proof.proofs.States.{state_in, after_inv}
 use Rattle.tg_translate_proof.proofs.Making.{by_made, source_of, wanted_of, worked, grows_none}
 use Rattle.tg_translate_proof.proofs.Pieces.{more, paid, extends_none}
 use Rattle.tg_translate_proof.proofs.Placing.{held_word, own_temps, some_same}
-use Rattle.tg_translate_proof.proofs.Locating.{IsAt, Needs, PlaceSituation, PlaceShown, PlaceMayAssign, PlaceOnward, StorageFollows, IsOwn, reads, locates}
+use Rattle.tg_translate_proof.proofs.Locating.{IsAt, Premises, PlaceSituation, PlaceShown, PlaceMayAssign, PlaceOnward, StorageFollows, IsOwn, reads, locates}
 use Rattle.tg_translate_proof.proofs.Accessing.{ReadAt, read_at}
 
-module _ (P : Program) (set : Setting P) (needs : Needs P) where
+module _ (P : Program) (set : Setting P) (premises : Premises P) where
   -- what a variable in a temporary of this activation has
   pub record OwnValue (p : Part) (h : Holdings) (s : SourceWorld) (t : Temps) (ty : Ty) (place i : ℕ) : Type 0 where
     pub v : Value
@@ -81,7 +81,7 @@ module _ (P : Program) (set : Setting P) (needs : Needs P) where
       by before
       (follows 1 go2
       (λ g ms l u s1 w1 t1 gg ee hh1 at.
-      let x = read_at P set needs p g ms s1 w1 t1 hh1 l ty u at in
+      let x = read_at P set premises p g ms s1 w1 t1 hh1 l ty u at in
       follows_along P.stack tree_work (r + left_over) n (rest_run (go x.v) s1) (rest_run (reads P l go out) s1) (go2 u w1 t1) (go2 u w1 t1) (λ k. x.gives go out k) (λ k. refl)
       (subst (λ o. FollowsHere P (r + left_over) n (rest_run (go x.v) s1) (with_word o w1 (λ v. go' v w1 t1))) (sym x.there)
       (onward g ms x.v x.word s1 w1 t1 gg ee hh1 x.stands))))

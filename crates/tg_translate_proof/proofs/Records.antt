@@ -7,7 +7,7 @@ use Rattle.tg_syntax.specs.declared.tokens.Ident.{Ident}
 use Rattle.tg_base.specs.declared.ids.Span.{Span}
 use Rattle.tg_state.specs.State.{heap_base}
 use Rattle.tg_syntax.specs.Tree.{Exp, Make, Inits, no_inits, init}
-use Rattle.tg_symbols.specs.Tables.{named}
+use Rattle.tg_symbols.specs.Tables.{looked_up}
 use Rattle.tg_semantics.specs.Environments.{name_of}
 use Rattle.tg_semantics.specs.Levels.{levels_of}
 use Rattle.tg_types.specs.Scopes.{Scope}
@@ -251,14 +251,14 @@ operands_many [] (u ∷ us) t have = absurd have
 operands_many (l ∷ os) [] t have = absurd have
 operands_many (l ∷ os) (u ∷ us) t have = ap suc (operands_many os us t have.1)
 
-pub shape_values : (at : ℕ) (shapes : List (ℕ × Shape)) (one : Shape) → ShapesHaveValues shapes → named at shapes ≡ Some one → ShapeHasValues one
+pub shape_values : (at : ℕ) (shapes : List (ℕ × Shape)) (one : Shape) → ShapesHaveValues shapes → looked_up at shapes ≡ Some one → ShapeHasValues one
 shape_values at [] one all e = cc
 shape_values at (first ∷ rest) one all e = by (first.0 == at) (λ g. shape_values at rest one all.1 g) e
   where
     shape_in : (a b : Shape) → Some a ≡ Some b → a ≡ b
     shape_in a b e = cc
 
-    by : (b : Bool) → (named at rest ≡ Some one → ShapeHasValues one) → (if b then Some first.1 else named at rest) ≡ Some one → ShapeHasValues one
+    by : (b : Bool) → (looked_up at rest ≡ Some one → ShapeHasValues one) → (if b then Some first.1 else looked_up at rest) ≡ Some one → ShapeHasValues one
     by true k g = subst (λ o. ShapeHasValues o) (shape_in first.1 one g) all.0
     by false k g = k g
 
@@ -292,7 +292,7 @@ module _ (P : Program) (set : Setting P) (grow : StatesGrow P) (owns : Owns P) (
     record MakeTyped (scope : Scope) (ty : Ty) : Type 0 where
       pub at : ℕ
       pub fs : List (ℕ × Ty)
-      pub shape : named at P.shapes ≡ Some (record_shape fs)
+      pub shape : looked_up at P.shapes ≡ Some (record_shape fs)
       pub typed : HasInits P.shapes P.notes inits fs scope
       pub result : ty ≡ record_type at
 

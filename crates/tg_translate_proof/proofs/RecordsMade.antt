@@ -6,7 +6,7 @@ use Rattle.std.proofs.lemmas.Bool.{cases_lt, lt-ltb, le-ltb}
 use Rattle.tg_state.specs.declared.ends.RunEnd.TheVariants.{HeapFull}
 use Rattle.tg_state.specs.State.{heap_base}
 use Rattle.tg_state.specs.Services.{whole_words}
-use Rattle.tg_symbols.specs.Tables.{named}
+use Rattle.tg_symbols.specs.Tables.{looked_up}
 use Rattle.tg_simulation.specs.Runs.{Run}
 use Rattle.tg_simulation.specs.Ran.{Ran, Ended}
 use Rattle.tg_simulation.specs.Outcomes.{ended, passes_limit}
@@ -49,7 +49,7 @@ bytes_of (suc n) = record { zeros = 0; are = omega arith; words = refl; some = o
 
 module _ (P : Program) (set : Setting P) (p : Part) (q n : ℕ) (go : Value → Rest) (out : Rest) (next : Next)
     (h : Holdings) (types : List Ty) (s : SourceWorld) (w : World) (t : Temps) (x : Holds P p h types s w t)
-    (own : AreOwned h (length w.memory.heap)) (at : ℕ) (fs : List (ℕ × Ty)) (shape : named at P.shapes ≡ Some (record_shape fs))
+    (own : AreOwned h (length w.memory.heap)) (at : ℕ) (fs : List (ℕ × Ty)) (shape : looked_up at P.shapes ≡ Some (record_shape fs))
     (parts : List (ℕ × Value)) (us : List ℕ) (xs : List Operand) (stand : FieldsStand h parts fs us) (i : ℕ)
     (idle : p.places (temporary p.scene.depth i) ≡ nowhere)
     (many : length xs ≡ length parts)

@@ -12,7 +12,7 @@ use Rattle.tg_syntax.specs.declared.tokens.Ident.{Ident}
 use Rattle.tg_syntax.specs.declared.trees.Param.{Param}
 use Rattle.tg_syntax.specs.Tree.{Exp, FunDecs, no_functions, function}
 use Rattle.tg_syntax.specs.Functions.{own_params}
-use Rattle.tg_symbols.specs.Tables.{named}
+use Rattle.tg_symbols.specs.Tables.{looked_up}
 use Rattle.tg_semantics.specs.declared.standards.Standard.{Standard}
 use Rattle.tg_semantics.specs.Values.{Entry, variable, group, standard}
 use Rattle.tg_semantics.specs.Levels.{levels_of, function_weight}
@@ -21,7 +21,8 @@ use Rattle.tg_semantics.specs.Environments.{standard_text, outermost_from}
 use Rattle.tg_types.specs.declared.notes.Means.TheVariants as means
 use Rattle.tg_types.specs.Types.{Ty}
 use Rattle.tg_types.specs.Scopes.{Signature, Binding, variable_at, function_at, standard_one, Scope}
-use Rattle.tg_types.specs.Scopes.{name_of, at_of, binding, standard_of, entry, standard_bindings}
+use Rattle.tg_semantics.specs.Environments.{name_of}
+use Rattle.tg_types.specs.Scopes.{at_of, binding, standard_of, entry, standard_bindings}
 use Rattle.tg_types.specs.Groups.{with_functions}
 use Rattle.tg_types.specs.Has.{Apart, HasValues}
 use Rattle.tg_translate.specs.declared.homes.Home.{Home}
@@ -53,7 +54,7 @@ module _ (P : Program) where
     pub home : Home
     pub found : find name es ≡ Some (to_variable l place)
     pub within : l ≤ level
-    pub tabled : named at P.table.homes ≡ Some home
+    pub tabled : looked_up at P.table.homes ≡ Some home
     pub home_level : home.level ≡ l
     pub stands : IsNear c l home.access → IsOf place (places (key_of c l home.access))
     pub type_is : slice_get types place ≡ Some t
@@ -90,13 +91,13 @@ module _ (P : Program) where
     there : (f : Ident) (ps : List Param) (has_result : Bool) (e : Exp) (sig : Signature) →
         function_named x fs ≡ Some (record { params = ps; body = e }) → b ≡ function_at (at_of f) sig → IsDone P scope l keeps seen f ps has_result e sig →
         P.weight (at_of f) ≡ function_weight l (record { params = ps; body = e }) seen → InGroup x fs beyond scope l keeps seen b
-    not_there : function_named x fs ≡ None → named x beyond ≡ Some b → InGroup x fs beyond scope l keeps seen b
+    not_there : function_named x fs ≡ None → looked_up x beyond ≡ Some b → InGroup x fs beyond scope l keeps seen b
 
   module _ (scope : Scope) (l : ℕ) (keeps : Keeping) (seen : List Entry) (x : ℕ) (b : Binding) where
     one_of_group : (f : Ident) (ps : List Param) (has_result : Bool) (e : Exp) (sig : Signature) (rest : FunDecs) (beyond : List (ℕ × Binding)) (c : Bool) →
         IsDone P scope l keeps seen f ps has_result e sig → P.weight (at_of f) ≡ function_weight l (record { params = ps; body = e }) seen →
         (r : Option Ident) → (name_of f == x) ≡ c →
-        function_named x rest ≡ None → (if c then Some (function_at (at_of f) sig) else named x beyond) ≡ Some b →
+        function_named x rest ≡ None → (if c then Some (function_at (at_of f) sig) else looked_up x beyond) ≡ Some b →
         InGroup x (function f ps r e rest) beyond scope l keeps seen b
     one_of_group f ps has_result e sig rest beyond true d w r is n h =
         there f ps has_result e sig (ap (λ o. if o then Some (record { params = ps; body = e }) else function_named x rest) is) (sym (some_inj h)) d w
@@ -112,7 +113,7 @@ module _ (P : Program) where
     not_first f g rest o false is a e = e
 
     in_group : (fs : FunDecs) (ss : List Signature) (outer : Scope) → Apart fs → AllWeigh P l seen fs → AreDone P scope l keeps seen fs ss →
-        named x (with_functions fs ss outer).bindings ≡ Some b → InGroup x fs outer.bindings scope l keeps seen b
+        looked_up x (with_functions fs ss outer).bindings ≡ Some b → InGroup x fs outer.bindings scope l keeps seen b
     in_group no_functions [] outer a w d e = not_there refl e
     in_group no_functions (s ∷ ss) outer a w d e = absurd d
     in_group (function f ps r body rest) [] outer a w d e = absurd d
@@ -164,13 +165,13 @@ module _ (P : Program) where
 
   module _ (places : Places) (types : List Ty) (c : Scene) (x : ℕ) (b : Binding) where
     abbrev StandardSeen : List Entry → List (ℕ × Binding) → Type 0
-    StandardSeen es bs = named x bs ≡ Some b → (f : Standard) × (b ≡ standard_one f) × (find x es ≡ Some (to_standard f))
+    StandardSeen es bs = looked_up x bs ≡ Some b → (f : Standard) × (b ≡ standard_one f) × (find x es ≡ Some (to_standard f))
 
     standard_first : (n : ℕ) (f : Standard) (es : List Entry) (bs : List (ℕ × Binding)) → StandardSeen es bs →
         StandardSeen (standard n f ∷ es) ((n, standard_one f) ∷ bs)
     standard_first n f es bs rest = by (n == x)
       where
-        by : (t : Bool) → (if t then Some (standard_one f) else named x bs) ≡ Some b →
+        by : (t : Bool) → (if t then Some (standard_one f) else looked_up x bs) ≡ Some b →
             (g : Standard) × (b ≡ standard_one g) × ((if t then Some (to_standard f) else find x es) ≡ Some (to_standard g))
         by true e = (f, sym (some_inj e), refl)
         by false e = rest e
@@ -196,8 +197,8 @@ module _ (P : Program) where
     standard_is_seen level es h = subst (λ o. IsSeen places types c level es x o) (sym h.1) h.2
 
     variable_first : (level l y at place : ℕ) (t : Ty) (loop : Bool) (es : List Entry) (bs : List (ℕ × Binding)) (test : Bool) → (y == x) ≡ test →
-        IsSeenVariable places types c level (variable y l place ∷ es) y at t → (named x bs ≡ Some b → IsSeen places types c level es x b) →
-        (if test then Some (variable_at at t loop) else named x bs) ≡ Some b → IsSeen places types c level (variable y l place ∷ es) x b
+        IsSeenVariable places types c level (variable y l place ∷ es) y at t → (looked_up x bs ≡ Some b → IsSeen places types c level es x b) →
+        (if test then Some (variable_at at t loop) else looked_up x bs) ≡ Some b → IsSeen places types c level (variable y l place ∷ es) x b
     variable_first level l y at place t loop es bs true is h rest e =
         subst (λ o. IsSeen places types c level (variable y l place ∷ es) x o) (some_inj e)
         (subst (λ z. IsSeenVariable places types c level (variable y l place ∷ es) z at t) (eqb-true y x is) h)
@@ -207,7 +208,7 @@ module _ (P : Program) where
 
     group_first : (level l : ℕ) (keeps : Keeping) (fs : FunDecs) (es : List Entry) (scope outer : Scope) → l ≤ level → ((k : ℕ) → k ≤ l → keeps k ≡ c.keeps k) →
         Along P places types c l (group l fs ∷ es) scope.bindings → GroupsFit P (group l fs ∷ es) →
-        (named x outer.bindings ≡ Some b → IsSeen places types c l es x b) →
+        (looked_up x outer.bindings ≡ Some b → IsSeen places types c l es x b) →
         InGroup x fs outer.bindings scope l keeps (group l fs ∷ es) b → IsSeen places types c level (group l fs ∷ es) x b
     group_first level l keeps fs es scope outer le agree along fit rest (there f ps has_result e sig e1 k done weighs) =
         subst (λ o. IsSeen places types c level (group l fs ∷ es) x o) (sym k) (record {
@@ -232,7 +233,7 @@ module _ (P : Program) where
         beyond_entry places types c l level es (group l fs ∷ es) x b le (ap (λ o. or_beyond o l (group l fs ∷ es) (find x es)) n) (rest e)
 
     -- what a name that the scope binds stands for
-    pub is_seen : (level : ℕ) (es : List Entry) (bs : List (ℕ × Binding)) → Along P places types c level es bs → GroupsFit P es → named x bs ≡ Some b →
+    pub is_seen : (level : ℕ) (es : List Entry) (bs : List (ℕ × Binding)) → Along P places types c level es bs → GroupsFit P es → looked_up x bs ≡ Some b →
         IsSeen places types c level es x b
     is_seen _ _ _ (situations.nothing_declared level names) fit e =
         standard_is_seen level (outermost_from 0 names) (standards_seen 0 names e)
@@ -258,16 +259,16 @@ module _ (P : Program) where
 
   -- what the state of a translation has found of a binding is what the table has
   abbrev pub IsFound : TranslationState → Binding → Type 0
-  IsFound s (variable_at at t loop) = named at s.homes ≡ named at P.table.homes
-  IsFound s (function_at at sig) = named at s.callees ≡ named at P.table.callees
+  IsFound s (variable_at at t loop) = looked_up at s.homes ≡ looked_up at P.table.homes
+  IsFound s (function_at at sig) = looked_up at s.callees ≡ looked_up at P.table.callees
   IsFound s (standard_one f) = Unit {0}
 
   found_first : (s : TranslationState) (x : ℕ) (b d : Binding) (bs : List (ℕ × Binding)) (test : Bool) → IsFound s d →
-      (named x bs ≡ Some b → IsFound s b) → (if test then Some d else named x bs) ≡ Some b → IsFound s b
+      (looked_up x bs ≡ Some b → IsFound s b) → (if test then Some d else looked_up x bs) ≡ Some b → IsFound s b
   found_first s x b d bs true f rest e = subst (λ o. IsFound s o) (some_inj e) f
   found_first s x b d bs false f rest e = rest e
 
-  pub is_found : (s : TranslationState) (x : ℕ) (b : Binding) (bs : List (ℕ × Binding)) → HasFound P.table s bs → named x bs ≡ Some b → IsFound s b
+  pub is_found : (s : TranslationState) (x : ℕ) (b : Binding) (bs : List (ℕ × Binding)) → HasFound P.table s bs → looked_up x bs ≡ Some b → IsFound s b
   is_found s x b [] h e = cc
   is_found s x b ((y, variable_at at t loop) ∷ bs) h e = found_first s x b (variable_at at t loop) bs (y == x) h.0 (λ k. is_found s x b bs h.1 k) e
   is_found s x b ((y, function_at at sig) ∷ bs) h e = found_first s x b (function_at at sig) bs (y == x) h.0 (λ k. is_found s x b bs h.1 k) e
@@ -292,7 +293,7 @@ module _ (P : Program) where
   ]
 
   pub is_near : Setting P → (c : Scene) (at : ℕ) (home : Home) → CoversUse P.findings P.table P.weight c.level c.keeps (Some (means.Variable at)) →
-      named at P.table.homes ≡ Some home → home.level ≤ c.level → IsNear c home.level home.access × LinksLead c.keeps c.level home.level
+      looked_up at P.table.homes ≡ Some home → home.level ≤ c.level → IsNear c home.level home.access × LinksLead c.keeps c.level home.level
   is_near set c at home covers tabled le = (by (below_or_same home.level c.level le), (covers home tabled).leads)
     where
       by : (home.level < c.level) ⊎ (home.level ≡ c.level) → IsNear c home.level home.access

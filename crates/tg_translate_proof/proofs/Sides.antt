@@ -12,7 +12,7 @@ use Rattle.tg_semantics.specs.Passing.{Rest}
 use Rattle.tg_semantics.specs.MachineEnds.{rest_run}
 use Rattle.tg_types.specs.Types.{Ty, none_type}
 use Rattle.tg_tree.specs.Tree.{Tx}
-use Rattle.tg_tree.specs.Units.{Trees, lifted_units}
+use Rattle.tg_tree.specs.Units.{Trees, hoisted_units}
 use Rattle.tg_tree.specs.Actions.{World, Temps, Go}
 use Rattle.tg_translate.specs.declared.homes.Within.{Within}
 use Rattle.tg_translate.specs.declared.wants.Want.{Want}
@@ -32,7 +32,7 @@ use Rattle.tg_translate_proof.proofs.Pieces.{StatesGrow, Piece, LeftPiece, Momen
 use Rattle.tg_translate_proof.proofs.Making.{grows_on}
 use Rattle.tg_translate_proof.proofs.Standing.{stands_grows}
 
-pub lifted_small : (b : Bool) → lifted_units Trees b ≤ 2
+pub lifted_small : (b : Bool) → hoisted_units Trees b ≤ 2
 lifted_small true = omega arith
 lifted_small false = omega arith
 

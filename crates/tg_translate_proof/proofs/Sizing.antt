@@ -5,13 +5,13 @@ use Rattle.tg_state.specs.declared.ends.RunEnd.TheVariants.{StackFull}
 use Rattle.tg_simulation.specs.Bytes.{IsPrefix}
 use Rattle.tg_simulation.specs.Ran.{Ran, Ended}
 use Rattle.tg_types.specs.Programs.{CheckedProgram}
-use Rattle.tg_translate_proof.specs.Laws.{MayRun, MeaningIsKept, trees_run, EndsAlike, IsFullBefore, LinksOfCallsAreRight, SizesTellNothing}
+use Rattle.tg_translate_proof.specs.Laws.{MayRun, TranslateIsCorrect, trees_run, EndsAlike, IsFullBefore, LinksOfCallsAreRight, SizesTellNothing}
 
-pub links_are_right : MeaningIsKept → LinksOfCallsAreRight
+pub links_are_right : TranslateIsCorrect → LinksOfCallsAreRight
 links_are_right kept p size heap stack input may = (kept p size heap stack input may).links
 
 -- one run ends as the program does, and so does the other
-pub sizes_tell_nothing : MeaningIsKept → SizesTellNothing
+pub sizes_tell_nothing : TranslateIsCorrect → SizesTellNothing
 sizes_tell_nothing kept p one other heap stack input may may_other m e stops ne =
     let first = (kept p one heap stack input may).agrees.ends_only m e stops ne in
     let then_ = (kept p other heap stack input may_other).agrees.ends m e first.meets in (

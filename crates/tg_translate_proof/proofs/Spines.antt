@@ -35,7 +35,7 @@ use Rattle.tg_translate_proof.proofs.Making.{by_made, wanted_of, grows_none}
 use Rattle.tg_translate_proof.proofs.Pieces.{StatesGrow, extends_none}
 use Rattle.tg_translate_proof.proofs.Lefts.{LeftSide, binary_by}
 use Rattle.tg_translate_proof.proofs.Linking.{flat_follows}
-use Rattle.tg_translate_proof.proofs.Locating.{IsAt, AddressIs, Needs, reads}
+use Rattle.tg_translate_proof.proofs.Locating.{IsAt, AddressIs, Premises, reads}
 use Rattle.tg_translate_proof.proofs.Accessing.{read_at}
 use Rattle.tg_translate_proof.proofs.Growing.{behind_grows_read, grows_by}
 use Rattle.tg_translate_proof.proofs.Arithmetic.{plus_by, minus_by}
@@ -158,7 +158,7 @@ module _ (P : Program) (set : Setting P) (grow : StatesGrow P) (n : ℕ) where
   ints_shown sp op.And at a b left show_b y starts is_int says ta tb = and_from P set grow n sp at a b left show_b y starts is_int ta tb
   ints_shown sp op.Or at a b left show_b y starts is_int says ta tb = or_from P set grow n sp at a b left show_b y starts is_int ta tb
 
-module _ (P : Program) (set : Setting P) (needs : Needs P) (grow : StatesGrow P) (n : ℕ) (v : LValue) (ty : Ty) (address : Tx) (flat : IsFlat address)
+module _ (P : Program) (set : Setting P) (premises : Premises P) (grow : StatesGrow P) (n : ℕ) (v : LValue) (ty : Ty) (address : Tx) (flat : IsFlat address)
     (short : expression_length Trees address ≤ 8) where
   -- What is known where such an expression begins: the read gives what stands at the address.
   pub record ReadHere (f : Exp) (p : Part) (h : Holdings) (types : List Ty) (s : SourceWorld) (w : World) (t : Temps) : Type 0 where
@@ -175,7 +175,7 @@ module _ (P : Program) (set : Setting P) (needs : Needs P) (grow : StatesGrow P)
   leaf_shown : (sp : Span) (w : LValue) (y : SituationBy P n (Read sp w) (λ w1 within. behind_read P.findings (Read sp w) (Load address) w1 within)) →
       ReadHere (Read sp w) y.p y.h y.types y.s y.w y.t → IsShown P n (Read sp w) y
   leaf_shown sp w y c =
-      let z = read_at P set needs y.p y.h y.types y.s y.w y.t y.holds c.location ty c.u c.at in
+      let z = read_at P set premises y.p y.h y.types y.s y.w y.t y.holds c.location ty c.u c.at in
       let loaded : AddressIs P y.p y.w y.t (Load address) z.word = ap (λ g. onward g (λ a. or_wrong (load y.w.memory a))) c.is ∙ ap or_wrong z.there in
       by_made P n (Read sp w) y (value (Load address)) y.σ y.is_made tt
       (λ go' onward_.

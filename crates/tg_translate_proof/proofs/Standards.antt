@@ -11,7 +11,7 @@ use Rattle.tg_base.specs.Words.{is_negative, signed}
 use Rattle.tg_simulation.specs.Bytes.{AreBytes}
 use Rattle.tg_simulation.specs.Runs.{Run}
 use Rattle.tg_simulation.specs.Ran.{Ran, Ended}
-use Rattle.tg_simulation.specs.Outcomes.{ended, costs, writes}
+use Rattle.tg_simulation.specs.Outcomes.{ended, costs, writes_first}
 use Rattle.tg_simulation.specs.Agreement.{Source}
 use Rattle.tg_simulation.proofs.Following.{follows_paying, follows_writing}
 use Rattle.tg_semantics.specs.Values.{Value, int, string, nothing, SourceWorld, Ending, add_weight, drop_weight, add_heap, drop_byte}
@@ -241,9 +241,9 @@ module _ (P : Program) (set : Setting P) (p : Part) (scene : IsScene (floor P) P
       let k = length bytes in
       acts routine.Print (a ∷ []) k (256 * k) (λ b. written bytes (b 0 w))
       (E.call_standard Passing (passing P.heap P.stack) Print (string bytes ∷ []) go_on out)
-      (rest_run (λ s1 i. writes bytes (go_on nothing s1 i)) opened) (omega arith) (omega arith)
+      (rest_run (λ s1 i. writes_first bytes (go_on nothing s1 i)) opened) (omega arith) (omega arith)
       (well.prints a bytes (stands_there a bytes text))
-      (λ d f. spends k (λ s1 i. writes bytes (go_on nothing s1 i)) d f)
+      (λ d f. spends k (λ s1 i. writes_first bytes (go_on nothing s1 i)) d f)
       (follows_writing P.stack tree_work (r + 64) n bytes (rest_run (go nothing) (drop_weight runtime_weight opened)) (go' 0 w t)
       (onward h (drop_weight runtime_weight opened) w (grows_none h) closed nothing 0 (no_value 0)))
 

@@ -5,14 +5,15 @@ use Rattle.std.specs.Prelude.{if◌then◌else◌, ◌==◌}
 use Rattle.std.specs.List.{Contains}
 use Rattle.std.proofs.lemmas.List.{append-nil}
 use Rattle.std.proofs.lemmas.List.Elements.{Contains-append_left}
-use Rattle.tg_symbols.specs.Tables.{named}
+use Rattle.tg_simulation.specs.Bytes.{IsPrefix}
+use Rattle.tg_symbols.specs.Tables.{looked_up}
 use Rattle.tg_types.specs.Scopes.{Binding, variable_at, function_at, standard_one}
 use Rattle.tg_tree.specs.Tree.{Tx, Ts, Function, Code}
 use Rattle.tg_translate.specs.declared.homes.Home.{Home}
 use Rattle.tg_translate.specs.declared.homes.Callee.{Callee}
 use Rattle.tg_translate.specs.States.{TranslationState, Translated, drawn, Translates, after}
 use Rattle.tg_translate.specs.Wants.{Made, value, done, test, value_of}
-use Rattle.tg_translate_proof.specs.Tables.{Table, IsBehind, IsFront, IsMoment, Later, HasFound}
+use Rattle.tg_translate_proof.specs.Tables.{Table, IsSuffix, IsMoment, Later, HasFound}
 use Rattle.tg_translate_proof.specs.Situations.{Program, Setting}
 
 -- Translations, one after another.
@@ -30,22 +31,22 @@ after_inv (drawn a s) next b u e = (a, s, refl, e)
 
 -- Lists that grow at their front or at their end.
 
-pub behind_none : {A : Type 0} {xs : List A} → IsBehind xs xs
+pub behind_none : {A : Type 0} {xs : List A} → IsSuffix xs xs
 behind_none = record { more = []; whole_is = refl }
 
-pub behind_on : {A : Type 0} {xs ys zs : List A} → IsBehind xs ys → IsBehind ys zs → IsBehind xs zs
+pub behind_on : {A : Type 0} {xs ys zs : List A} → IsSuffix xs ys → IsSuffix ys zs → IsSuffix xs zs
 behind_on {zs = zs} a b = record {
   more = a.more ++ b.more;
   whole_is = a.whole_is ∙ ap (λ l. a.more ++ l) b.whole_is ∙ sym (append_assoc a.more b.more zs);
 }
 
-pub front_none : {A : Type 0} {xs : List A} → IsFront xs xs
-front_none {xs = xs} = record { more = []; whole_is = sym (append-nil xs) }
+pub front_none : {A : Type 0} {xs : List A} → IsPrefix xs xs
+front_none {xs = xs} = record { more = []; whole = sym (append-nil xs) }
 
-pub front_on : {A : Type 0} {xs ys zs : List A} → IsFront xs ys → IsFront ys zs → IsFront xs zs
+pub front_on : {A : Type 0} {xs ys zs : List A} → IsPrefix ys xs → IsPrefix zs ys → IsPrefix zs xs
 front_on {zs = zs} a b = record {
   more = b.more ++ a.more;
-  whole_is = a.whole_is ∙ ap (λ l. l ++ a.more) b.whole_is ∙ append_assoc zs b.more a.more;
+  whole = a.whole ∙ ap (λ l. l ++ a.more) b.whole ∙ append_assoc zs b.more a.more;
 }
 
 pub later_none : (s : TranslationState) → Later s s
@@ -78,24 +79,24 @@ moment_before table code s t h k = record {
       (subst (λ l. Contains l f) (sym k.functions.whole_is) (Contains-append_left s.functions k.functions.more f c));
 }
 
-named_first : {A : Type 0} (b : Bool) (at : ℕ) (a : A) (xs ys : List (ℕ × A)) → (named at (xs ++ ys) ≡ None → named at ys ≡ None) →
-    (if b then Some a else named at (xs ++ ys)) ≡ None → named at ys ≡ None
+named_first : {A : Type 0} (b : Bool) (at : ℕ) (a : A) (xs ys : List (ℕ × A)) → (looked_up at (xs ++ ys) ≡ None → looked_up at ys ≡ None) →
+    (if b then Some a else looked_up at (xs ++ ys)) ≡ None → looked_up at ys ≡ None
 named_first true at a xs ys k e = cc
 named_first false at a xs ys k e = k e
 
-named_none : {A : Type 0} (at : ℕ) (xs ys : List (ℕ × A)) → named at (xs ++ ys) ≡ None → named at ys ≡ None
+named_none : {A : Type 0} (at : ℕ) (xs ys : List (ℕ × A)) → looked_up at (xs ++ ys) ≡ None → looked_up at ys ≡ None
 named_none at [] ys e = e
 named_none at (x ∷ xs) ys e = named_first (x.0 == at) at x.1 xs ys (named_none at xs ys) e
 
 -- what a name has in a list stays where more comes before it, if nothing there hides it
-stays_named : {A : Type 0} (at : ℕ) (whole later before : List (ℕ × A)) → IsBehind whole later → IsBehind later before →
-    ((a : A) (more rest : List (ℕ × A)) → whole ≡ more ++ rest → named at rest ≡ Some a → named at whole ≡ Some a) →
-    named at before ≡ named at whole → named at later ≡ named at whole
-stays_named {A = A} at whole later before w l once f = one (named at later) refl
+stays_named : {A : Type 0} (at : ℕ) (whole later before : List (ℕ × A)) → IsSuffix whole later → IsSuffix later before →
+    ((a : A) (more rest : List (ℕ × A)) → whole ≡ more ++ rest → looked_up at rest ≡ Some a → looked_up at whole ≡ Some a) →
+    looked_up at before ≡ looked_up at whole → looked_up at later ≡ looked_up at whole
+stays_named {A = A} at whole later before w l once f = one (looked_up at later) refl
   where
-    one : (o : Option A) → named at later ≡ o → named at later ≡ named at whole
+    one : (o : Option A) → looked_up at later ≡ o → looked_up at later ≡ looked_up at whole
     one (Some a) e = e ∙ sym (once a w.more later w.whole_is e)
-    one None e = e ∙ sym (sym f ∙ named_none at l.more before (sym (ap (λ o. named at o) l.whole_is) ∙ e))
+    one None e = e ∙ sym (sym f ∙ named_none at l.more before (sym (ap (λ o. looked_up at o) l.whole_is) ∙ e))
 
 pub found_later : (P : Program) → Setting P → (s t : TranslationState) (bs : List (ℕ × Binding)) → Later s t → IsMoment P.table P.code t → HasFound P.table s bs → HasFound P.table t bs
 found_later P set s t [] l m f = tt

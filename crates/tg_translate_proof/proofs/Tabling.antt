@@ -15,7 +15,7 @@ use Rattle.tg_syntax.specs.Functions.{declared_functions}
 use Rattle.tg_syntax.specs.Tree.{Exp}
 use Rattle.tg_syntax.specs.Tree.{variable, functions, FunDecs}
 use Rattle.tg_syntax.specs.Tree.{no_functions, function}
-use Rattle.tg_symbols.specs.Tables.{named}
+use Rattle.tg_symbols.specs.Tables.{looked_up}
 use Rattle.tg_frame.specs.declared.accesses.Access.{Access}
 use Rattle.tg_frame.specs.Homes.{homes_from}
 use Rattle.tg_tree.specs.Tree.{Tx, Cond, Ts, Function}
@@ -35,7 +35,7 @@ use Rattle.tg_translate.specs.Functions.{body}
 use Rattle.tg_translate.specs.Translate.{connective, with_left, chosen_arm, assigned, updated, declaration_of}
 use Rattle.tg_translate.specs.Translate.{declarations}
 use Rattle.tg_translate_laws.proofs.Counts.{same, times}
-use Rattle.tg_translate_proof.specs.Tables.{Table, IsBehind}
+use Rattle.tg_translate_proof.specs.Tables.{Table, IsSuffix}
 use Rattle.tg_translate_proof.proofs.States.{state_in, behind_none, behind_on}
 use Rattle.tg_translate_proof.proofs.Growing.{Growing, then_grows, homes_grow, callee_grows}
 use Rattle.tg_translate_proof.proofs.Growing.{done_grows, one_behind, parameters_behind, nothing_grows, functions_declared_grow}
@@ -46,7 +46,7 @@ use Rattle.tg_translate_proof.proofs.Declared.{params_declare, names_declare, de
 
 -- what a list has at its end it has as a whole
 abbrev pub Once : {A : Type 0} → List (ℕ × A) → Type 0
-Once {A} whole = (at : ℕ) (a : A) (more rest : List (ℕ × A)) → whole ≡ more ++ rest → named at rest ≡ Some a → named at whole ≡ Some a
+Once {A} whole = (at : ℕ) (a : A) (more rest : List (ℕ × A)) → whole ≡ more ++ rest → looked_up at rest ≡ Some a → looked_up at whole ≡ Some a
 
 -- how often a byte has a home or a callee
 abbrev pub found_times : ℕ → TranslationState → ℕ
@@ -54,19 +54,19 @@ found_times k s = times (λ h. h.0) k s.homes + times (λ c. c.0) k s.callees
 
 -- a callee is an earlier one, or that of one of these functions
 abbrev pub IsOwned : List Measures → (s t : TranslationState) → Type 0
-IsOwned ms s t = (at : ℕ) (c : Callee) → named at t.callees ≡ Some c → (named at s.callees ≡ Some c) ⊎ ((m : Measures) × Contains ms m × (m.at ≡ at))
+IsOwned ms s t = (at : ℕ) (c : Callee) → looked_up at t.callees ≡ Some c → (looked_up at s.callees ≡ Some c) ⊎ ((m : Measures) × Contains ms m × (m.at ≡ at))
 
 some_is : {A : Type 0} {a b : A} → Some a ≡ Some b → a ≡ b
 some_is e = cc
 
-named_here : {A : Type 0} (at : ℕ) (a : A) (xs : List (ℕ × A)) → named at ((at, a) ∷ xs) ≡ Some a
-named_here at a xs = ap (λ t. if t then Some a else named at xs) (eq-eqb at at refl)
+named_here : {A : Type 0} (at : ℕ) (a : A) (xs : List (ℕ × A)) → looked_up at ((at, a) ∷ xs) ≡ Some a
+named_here at a xs = ap (λ t. if t then Some a else looked_up at xs) (eq-eqb at at refl)
 
 module _ (table : Table) (weight : (at : ℕ) → ℕ) where
   -- what a state has found stays in the table
   pub record InTable (t : TranslationState) : Type 0 where
-    pub homes : IsBehind table.homes t.homes
-    pub callees : IsBehind table.callees t.callees
+    pub homes : IsSuffix table.homes t.homes
+    pub callees : IsSuffix table.callees t.callees
     pub homes_once : Once table.homes
     pub callees_once : Once table.callees
 
@@ -85,7 +85,7 @@ module _ (table : Table) (weight : (at : ℕ) → ℕ) where
   -- a function that was made, with the text that it was made of
   pub record IsTied (m : Measures) (f : Function Ts) : Type 0 where
     pub callee : Callee
-    pub tabled : named m.at table.callees ≡ Some callee
+    pub tabled : looked_up m.at table.callees ≡ Some callee
     pub label : callee.label.0 ≡ f.label
     pub level : m.level ≡ suc callee.level
 
@@ -151,7 +151,7 @@ module _ (table : Table) (weight : (at : ℕ) → ℕ) where
             let y = ap (λ l. times (λ o. o.0) k l) h.homes in
             let z = ap (λ l. times (λ o. o.0) k l) h.callees in
             omega (arith, x, y, z);
-        owned = λ at c e. elim (g.owned at c e) [ inl i ↦ inl (ap (λ l. named at l) (sym h.callees) ∙ i) | inr i ↦ inr i ];
+        owned = λ at c e. elim (g.owned at c e) [ inl i ↦ inl (ap (λ l. looked_up at l) (sym h.callees) ∙ i) | inr i ↦ inr i ];
         finds = λ there weighs.
             let y = g.finds there weighs in
             (y.0, subst (λ l. AreTied M l (state_in (next a t)).functions) h.functions y.1);
@@ -168,11 +168,11 @@ module _ (table : Table) (weight : (at : ℕ) → ℕ) where
             let y = ap (λ l. times (λ o. o.0) k l) g.homes in
             let z = ap (λ l. times (λ o. o.0) k l) g.callees in
             omega (arith, x, y, z);
-        owned = λ at c e. h.owned at c (ap (λ l. named at l) (sym g.callees) ∙ e);
+        owned = λ at c e. h.owned at c (ap (λ l. looked_up at l) (sym g.callees) ∙ e);
         finds = λ there weighs.
             let y = h.finds (record {
-              homes = subst (λ l. IsBehind table.homes l) g.homes there.homes;
-              callees = subst (λ l. IsBehind table.callees l) g.callees there.callees;
+              homes = subst (λ l. IsSuffix table.homes l) g.homes there.homes;
+              callees = subst (λ l. IsSuffix table.callees l) g.callees there.callees;
               homes_once = there.homes_once;
               callees_once = there.callees_once;
             }) weighs in
@@ -187,7 +187,7 @@ module _ (table : Table) (weight : (at : ℕ) → ℕ) where
         let y = ap (λ l. times (λ o. o.0) k l) h.homes in
         let z = ap (λ l. times (λ o. o.0) k l) h.callees in
         omega (arith, y, z);
-    owned = λ at c e. inl (ap (λ l. named at l) (sym h.callees) ∙ e);
+    owned = λ at c e. inl (ap (λ l. looked_up at l) (sym h.callees) ∙ e);
     finds = λ there weighs. (tt, tied_none s.functions (state_in d).functions h.functions);
   }
 
@@ -205,11 +205,11 @@ module _ (table : Table) (weight : (at : ℕ) → ℕ) where
 
   -- A variable is declared.
 
-  has_variable : (t : TranslationState) (at : ℕ) (home : Home) (rest : List (ℕ × Home)) → InTable t → IsBehind t.homes ((at, home) ∷ rest) →
+  has_variable : (t : TranslationState) (at : ℕ) (home : Home) (rest : List (ℕ × Home)) → InTable t → IsSuffix t.homes ((at, home) ∷ rest) →
       HasVariable table home.level at
   has_variable t at home rest h b other e =
-      let all : IsBehind table.homes ((at, home) ∷ rest) = behind_on h.homes b in
-      let here : named at table.homes ≡ Some home = h.homes_once at home all.more ((at, home) ∷ rest) all.whole_is (named_here at home rest) in
+      let all : IsSuffix table.homes ((at, home) ∷ rest) = behind_on h.homes b in
+      let here : looked_up at table.homes ≡ Some home = h.homes_once at home all.more ((at, home) ∷ rest) all.whole_is (named_here at home rest) in
       ap (λ o. o.level) (some_is (sym e ∙ here))
 
   home_declared : {A : Type 0} {a : A} (at : ℕ) (home : Home) (s : TranslationState) →
@@ -237,7 +237,7 @@ module _ (table : Table) (weight : (at : ℕ) → ℕ) where
       let h = params_counted k level ps homes ((at_of p.name, record { level = level; access = home }) ∷ seen) in omega (arith, h)
 
   params_found : (t : TranslationState) (level : ℕ) (ps : List Param) (homes : List Access) (seen : List (ℕ × Home)) → length homes ≡ length ps → InTable t →
-      IsBehind t.homes (parameters level ps homes seen) → DeclareParams (HasVariable table) (IsWeighed table weight) level ps
+      IsSuffix t.homes (parameters level ps homes seen) → DeclareParams (HasVariable table) (IsWeighed table weight) level ps
   params_found t level [] homes seen e h b = tt
   params_found t level (p ∷ ps) [] seen e h b = absurd (omega (arith, e))
   params_found t level (p ∷ ps) (home ∷ homes) seen e h b =
@@ -279,7 +279,7 @@ module _ (table : Table) (weight : (at : ℕ) → ℕ) where
   abbrev pub HaveCallees : (level label : ℕ) → FunDecs → Type 0
   HaveCallees level label no_functions = Unit {0}
   HaveCallees level label (function f _ _ _ rest) =
-      (named (at_of f) table.callees ≡ Some (record { level = level; label = record { 0 = label } })) × HaveCallees level (label + 1) rest
+      (looked_up (at_of f) table.callees ≡ Some (record { level = level; label = record { 0 = label } })) × HaveCallees level (label + 1) rest
 
   -- a name of the group, among earlier callees
   abbrev IsName : FunDecs → (at : ℕ) → Type 0
@@ -304,18 +304,18 @@ module _ (table : Table) (weight : (at : ℕ) → ℕ) where
   group_found level no_functions s h = tt
   group_found level (function f ps r e rest) s h =
       let one : Callee = record { level = level; label = record { 0 = s.label } } in
-      let all : IsBehind table.callees ((at_of f, one) ∷ s.callees) = behind_on h.callees (group_grows level rest (with_callee level f s)).on.callees in (
+      let all : IsSuffix table.callees ((at_of f, one) ∷ s.callees) = behind_on h.callees (group_grows level rest (with_callee level f s)).on.callees in (
         h.callees_once (at_of f) one all.more ((at_of f, one) ∷ s.callees) all.whole_is (named_here (at_of f) one s.callees),
         group_found level rest (with_callee level f s) h,
       )
 
-  one_owned : (x at : ℕ) (c d : Callee) (rest : List (ℕ × Callee)) (t : Bool) → (x == at) ≡ t → (if t then Some d else named at rest) ≡ Some c →
-      (x ≡ at) ⊎ (named at rest ≡ Some c)
+  one_owned : (x at : ℕ) (c d : Callee) (rest : List (ℕ × Callee)) (t : Bool) → (x == at) ≡ t → (if t then Some d else looked_up at rest) ≡ Some c →
+      (x ≡ at) ⊎ (looked_up at rest ≡ Some c)
   one_owned x at c d rest true is e = inl (eqb-true x at is)
   one_owned x at c d rest false is e = inr e
 
-  group_owned : (level : ℕ) (fs : FunDecs) (s : TranslationState) (at : ℕ) (c : Callee) → named at (state_by level fs s).callees ≡ Some c →
-      (named at s.callees ≡ Some c) ⊎ IsName fs at
+  group_owned : (level : ℕ) (fs : FunDecs) (s : TranslationState) (at : ℕ) (c : Callee) → looked_up at (state_by level fs s).callees ≡ Some c →
+      (looked_up at s.callees ≡ Some c) ⊎ IsName fs at
   group_owned level no_functions s at c e = inl e
   group_owned level (function f ps r b rest) s at c e = elim (group_owned level rest (with_callee level f s) at c e) [
     | inl i ↦ elim (one_owned (at_of f) at c (record { level = level; label = record { 0 = s.label } }) s.callees (at_of f == at) refl i) [
@@ -395,7 +395,7 @@ module _ (table : Table) (weight : (at : ℕ) → ℕ) where
   body_shows : {N : ℕ → ℕ} {M : List Measures} {D : Type 0} {d : Translated Ts} (n label : ℕ) (asks : List Bool) (m : Measures) (s : TranslationState) →
       m.level ≡ suc n →
       Shows N M D d (opened s (frame_for label asks)) →
-      (InTable (state_in (finish s d)) → named m.at table.callees ≡ Some (record { level = n; label = record { 0 = label } })) →
+      (InTable (state_in (finish s d)) → looked_up m.at table.callees ≡ Some (record { level = n; label = record { 0 = label } })) →
       (InTable (state_in (finish s d)) → AreWeighed (m ∷ M) → D × AreTied (m ∷ M) s.functions (state_in (finish s d)).functions)
   body_shows {M = M} {d = drawn x u} n label asks m s deep h have there weighs =
       let y = h.finds (record { homes = there.homes; callees = there.callees; homes_once = there.homes_once; callees_once = there.callees_once })

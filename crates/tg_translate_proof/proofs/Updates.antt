@@ -18,7 +18,8 @@ use Rattle.tg_semantics.specs.MachineEnds.{rest_run, as_source}
 use Rattle.tg_types.specs.declared.notes.Means.{Means}
 use Rattle.tg_types.specs.declared.notes.Means.TheVariants as means
 use Rattle.tg_types.specs.Types.{Ty}
-use Rattle.tg_types.specs.Scopes.{at_of, name_of}
+use Rattle.tg_semantics.specs.Environments.{name_of}
+use Rattle.tg_types.specs.Scopes.{at_of}
 use Rattle.tg_types.specs.Has as has
 use Rattle.tg_types.specs.Has.{Has, HasPlace, HasValues}
 use Rattle.tg_frame.specs.declared.accesses.Access.{Access}
@@ -44,7 +45,8 @@ use Rattle.tg_translate_proof.specs.Worlds.{Holdings, temporary, IsOf, GrowsTo}
 use Rattle.tg_translate_proof.specs.Situations.{Program, Part, Setting, Holds, Extends, value_runs, statements_run}
 use Rattle.tg_translate_proof.specs.Shown.{Situation, IsShown, FollowsHere, evaluates, left_over}
 use Rattle.tg_translate_proof.proofs.States.{made_in, state_in, after_inv}
-use Rattle.tg_translate_proof.proofs.Locating.{Needs, SeenVariable, NameTyped, name_typed, found_home, IsAt, PlaceSituation, PlaceShown, StorageFollows, place_source, locates, reads}
+use Rattle.tg_translate_proof.proofs.Locating.{Premises, SeenVariable, NameTyped, name_typed, found_home, IsAt, PlaceSituation, PlaceShown, StorageFollows}
+use Rattle.tg_translate_proof.proofs.Locating.{place_source, locates, reads}
 use Rattle.tg_translate_proof.proofs.Pieces.{more, paid}
 use Rattle.tg_translate_proof.proofs.Placing.{some_same}
 use Rattle.tg_translate_proof.proofs.Sides.{both_true}
@@ -154,7 +156,7 @@ module _ (P : Program) (n : ℕ) (sp : Span) (v : Ident) (e : Exp) (x : Situatio
       (sym (ap (λ o. after (assignment o i.0 E_of (λ r w. behind_read P.findings e r w x.p.within) i.1) (λ st u. drawn (done st) u)) begins) ∙ i.3))
 
 -- A variable of the activation at work stays held: it is in a temporary or in the frame at work.
-module _ (P : Program) (set : Setting P) (needs : Needs P) (n : ℕ) (sp : Span) (v : Ident) (e : Exp) (x : Situation P n (Assign sp (Simple v) e)) where
+module _ (P : Program) (set : Setting P) (premises : Premises P) (n : ℕ) (sp : Span) (v : Ident) (e : Exp) (x : Situation P n (Assign sp (Simple v) e)) where
   pub assigned_typed : (ty : Ty) → Has P.shapes P.notes (Assign sp (Simple v) e) x.p.scope ty → (t : Ty) × HasPlace P.shapes P.notes (Simple v) x.p.scope t
   assigned_typed ty (has.assign {t = t} place he fits) = (t, place)
 
@@ -166,7 +168,7 @@ module _ (P : Program) (set : Setting P) (needs : Needs P) (n : ℕ) (sp : Span)
 
   -- what the name stands for
   abbrev pub variable_here : SeenVariable P x.p x.types (name_of v) name_here.at type_of
-  variable_here = needs.sees x.p x.types x.σ x.τ v name_here.at type_of name_here.loop x.ready x.covers.0 name_here.is_bound name_here.says
+  variable_here = premises.sees x.p x.types x.σ x.τ v name_here.at type_of name_here.loop x.ready x.covers.0 name_here.is_bound name_here.says
 
   place_is : locate P.findings (Simple v) x.p.within x.σ ≡ drawn (place_in (frame_at x.p.within variable_here.home.level) variable_here.home.access) x.σ
   place_is =

@@ -16,7 +16,7 @@ use Rattle.tg_types.specs.Scopes.{at_of}
 use Rattle.tg_types.specs.Has as has
 use Rattle.tg_types.specs.Has.{Has, HasPlace, Fits}
 use Rattle.tg_tree.specs.Tree.{Tx, Ts, Load, Stms, no_stms}
-use Rattle.tg_tree.specs.Units.{Trees, lifted_units}
+use Rattle.tg_tree.specs.Units.{Trees, hoisted_units}
 use Rattle.tg_tree.specs.Sizes.{expression_length}
 use Rattle.tg_tree.specs.Shapes.{IsFlat, is_flat}
 use Rattle.tg_tree.specs.Memory.{store}
@@ -47,7 +47,7 @@ use Rattle.tg_translate_proof.proofs.Making.{by_made, source_of, grows_on, value
 use Rattle.tg_translate_proof.proofs.Pieces.{StatesGrow, more, paid, extends_on, ready_part}
 use Rattle.tg_translate_proof.proofs.Sides.{lifted_small}
 use Rattle.tg_translate_proof.proofs.Standing.{stands_fit, fits_has_values}
-use Rattle.tg_translate_proof.proofs.Locating.{IsAt, is_at_grows, AddressIs, Needs, PlaceSituation, PlaceShown, place_source, locates}
+use Rattle.tg_translate_proof.proofs.Locating.{IsAt, is_at_grows, AddressIs, Premises, PlaceSituation, PlaceShown, place_source, locates}
 use Rattle.tg_translate_proof.proofs.Accessing.{write_at}
 use Rattle.tg_translate_proof.proofs.Places.{IndicesShown, place_shown}
 use Rattle.tg_translate_proof.proofs.HeldPlaces.{hold_of, HasAddress, HeldShown, held_shown}
@@ -131,37 +131,38 @@ module _ (P : Program) (n : ℕ) (v w : LValue) (same : is_same_place P.findings
       where_follows P n v w same x.p.env x.go (x.r + left_over) l s1 (go' u w1 t1) (λ found. onward g ms l u s1 w1 t1 gg ee hh at is found)))
 
 -- a place in a temporary is a variable's
-temp_updated : (P : Program) (set : Setting P) (needs : Needs P) (grow : StatesGrow P) (n : ℕ) (sp : Span) (v : LValue) (e : Exp) → IndicesShown P n v → Shown P n e →
+temp_updated : (P : Program) (set : Setting P) (premises : Premises P) (grow : StatesGrow P) (n : ℕ) (sp : Span) (v : LValue) (e : Exp) → IndicesShown P n v →
+    Shown P n e →
     (x : Situation P n (Assign sp v e)) → begins_with P.findings.meaning e v ≡ true → (i : ℕ) (s1 : TranslationState) →
     locate P.findings v x.p.within x.σ ≡ drawn (in_temp i) s1 → IsShown P n (Assign sp v e) x
-temp_updated P set needs grow n sp (Simple name) e indices show_e x begins i s1 made =
+temp_updated P set premises grow n sp (Simple name) e indices show_e x begins i s1 made =
     variable_update_shown P n sp name e x
-    (λ storage s made2 rest. assigning.by_place P set needs grow n sp (Simple name) e (place_shown P set needs grow n (Simple name) indices) show_e x storage s made2 rest) begins
+    (λ storage s made2 rest. assigning.by_place P set premises grow n sp (Simple name) e (place_shown P set premises grow n (Simple name) indices) show_e x storage s made2 rest) begins
     (λ storage s made2. subst (λ o. StaysHeld o) (ap made_in (sym made ∙ made2)) (a_temporary i))
-temp_updated P set needs grow n sp (Field v f) e indices show_e x begins i s1 made =
+temp_updated P set premises grow n sp (Field v f) e indices show_e x begins i s1 made =
     let j = after_inv (locate P.findings v x.p.within x.σ) _ (in_temp i) s1 made in
     absurd (field_in_memory (field_number (P.findings.meaning (at_of f))) (read j.0) j.1 s1 i j.3)
-temp_updated P set needs grow n sp (Index v e2) e indices show_e x begins i s1 made =
+temp_updated P set premises grow n sp (Index v e2) e indices show_e x begins i s1 made =
     let j = after_inv (locate P.findings v x.p.within x.σ) _ (in_temp i) s1 made in
     let k = after_inv (value_from (λ s. expression P.findings e2 want.Value x.p.within s) j.1) _ (in_temp i) s1 j.3 in
     absurd (element_in_memory (assigns_nothing e2) (read j.0) k.0 k.1 s1 i k.3)
 
-module _ (P : Program) (set : Setting P) (needs : Needs P) (grow : StatesGrow P) (n : ℕ) (sp : Span) (v : LValue) (e : Exp) (indices : IndicesShown P n v)
+module _ (P : Program) (set : Setting P) (premises : Premises P) (grow : StatesGrow P) (n : ℕ) (sp : Span) (v : LValue) (e : Exp) (indices : IndicesShown P n v)
     (show_e : Shown P n e) (rights : RightsShown P n e) (x : Situation P n (Assign sp v e)) where
   abbrev E : Exp
   E = Assign sp v e
 
   abbrev show_v : PlaceShown P n v
-  show_v = place_shown P set needs grow n v indices
+  show_v = place_shown P set premises grow n v indices
 
-  abbrev typed_ : assigning.AssignTyped P set needs grow v e x.p x.ty
-  typed_ = assigning.typed_ P set needs grow n sp v e show_v show_e x
+  abbrev typed_ : assigning.AssignTyped P set premises grow v e x.p x.ty
+  typed_ = assigning.typed_ P set premises grow n sp v e show_v show_e x
 
   abbrev writes : Location → Value → Rest
-  writes = assigning.writes_value P set needs grow n sp v e show_v show_e x
+  writes = assigning.writes_value P set premises grow n sp v e show_v show_e x
 
   abbrev evaluated : Location → Rest
-  evaluated = assigning.with_location P set needs grow n sp v e show_v show_e x
+  evaluated = assigning.with_location P set premises grow n sp v e show_v show_e x
 
   abbrev B_of : Tx → Want → Translates Made
   B_of r w = λ s. behind_read P.findings e r w x.p.within s
@@ -183,7 +184,7 @@ module _ (P : Program) (set : Setting P) (needs : Needs P) (grow : StatesGrow P)
 
     alike : (t : Ty) → Has P.shapes P.notes (leaf e) x.p.scope t → Alike t
     alike t h =
-        same_place P set needs x.p x.types x.σ x.τ x.ready v leaf_.w typed_.t t leaf_.same typed_.place (leaf_place t h) x.covers.0
+        same_place P set premises x.p x.types x.σ x.τ x.ready v leaf_.w typed_.t t leaf_.same typed_.place (leaf_place t h) x.covers.0
         (subst (λ o. IsCovered P x.p o) leaf_.is (leaf_covered P v x.p e q x.covers.1))
 
     is_int : is_binary e ≡ true → typed_.t ≡ int_type
@@ -196,7 +197,7 @@ module _ (P : Program) (set : Setting P) (needs : Needs P) (grow : StatesGrow P)
         (held : hold_address b a s1 ≡ drawn hd s2) (made_m : behind_read P.findings e (Load (held_address hd.address)) want.Value x.p.within s2 ≡ drawn m s3)
         (made_y : value_of m s3 ≡ drawn y s4) (last : Later s4 x.τ) where
       l1 : Later x.σ s1
-      l1 = needs.place_grows v x.p.within (at_address b a) x.σ s1 made
+      l1 = premises.place_grows v x.p.within (at_address b a) x.σ s1 made
 
       l2 : Later s1 s2
       l2 = grows_by (hold_address_grows b a s1) held
@@ -214,7 +215,7 @@ module _ (P : Program) (set : Setting P) (needs : Needs P) (grow : StatesGrow P)
       l34 = later_on s3 s4 x.τ l4 last
 
       able : typed_.u ≢ none_type
-      able = fits_has_values typed_.u typed_.t typed_.fits (has_values P set needs grow n sp v e show_v show_e x)
+      able = fits_has_values typed_.u typed_.t typed_.fits (has_values P set premises grow n sp v e show_v show_e x)
 
       -- the value, behind the place
       value_at : (g : Holdings) (ms : List Ty) (l : Location) (u : ℕ) (s : SourceWorld) (w : World) (t : Temps) → GrowsTo x.h g → Extends x.types ms → Holds P x.p g ms s w t →
@@ -241,7 +242,7 @@ module _ (P : Program) (set : Setting P) (needs : Needs P) (grow : StatesGrow P)
             words = x.words.1;
             covers = x.covers.1;
             wantable = able;
-            may_assign = inr (may_all P set needs grow n sp v e show_v show_e x);
+            may_assign = inr (may_all P set premises grow n sp v e show_v show_e x);
             ready = ready_part P set x.p x.types ms x.σ x.τ s2 s3 ee l02 l3 l34 x.ready;
             is_made = made_m;
             outward = λ g2 ms2 sx w2 t2 lo gg2 ee2 hh2.
@@ -250,7 +251,7 @@ module _ (P : Program) (set : Setting P) (needs : Needs P) (grow : StatesGrow P)
             holds = hh;
           } in
           let one = leaf_typed P v x.p.scope e typed_.u q typed_.value_typed in
-          let here : ReadHere P set needs grow n v typed_.t (held_address hd.address) (held_flat hd.address) (held_short hd.address) (leaf e) x.p g ms s w t = record {
+          let here : ReadHere P set premises grow n v typed_.t (held_address hd.address) (held_flat hd.address) (held_short hd.address) (leaf e) x.p g ms s w t = record {
             location = l;
             u = u;
             at = at;
@@ -260,24 +261,24 @@ module _ (P : Program) (set : Setting P) (needs : Needs P) (grow : StatesGrow P)
                 subst (λ o. FollowsHere P r n (rest_run (evaluates P o x.p.env go out) s) d) (sym leaf_.is)
                 (read_again P n v leaf_.w leaf_.same leaf_.sp x.p.env (alike one.0 one.1).1 r go out l s d found f);
           } in
-          let shown = spine_shown P set needs grow n v typed_.t (held_address hd.address) (held_flat hd.address) (held_short hd.address) e q rights is_int begins here in
+          let shown = spine_shown P set premises grow n v typed_.t (held_address hd.address) (held_flat hd.address) (held_short hd.address) e q rights is_int begins here in
           value_follows P n (x.r + 150) x.p g ms want.Value typed_.u (writes l) (rest_run (evaluated l) s) w t m s3 s4 y go' tt made_y
           (λ i lo hi. x.ready.temps_free i (omega (arith, l02.temps, l3.temps, lo)) (omega (arith, hi, last.temps))) shown.1 onward
 
       update_follows : (next : Next) → OnwardHere next →
           FollowsHere P (x.r + 256) n (rest_run (locates P v x.p.env evaluated x.out) x.s) (statement_runs P x.p (store_at hd.before (held_address hd.address) y) x.p.around next x.w x.t)
       update_follows next onward =
-          let j : ℕ = 1 + lifted_units Trees (is_flat y) in
+          let j : ℕ = 1 + hoisted_units Trees (is_flat y) in
           let source : Run Source = rest_run (locates P v x.p.env evaluated x.out) x.s in
           let stores : ℕ → Go ℕ = λ u z w2 t2. with_memory (store w2.memory u z) w2 (λ w3. next w3 t2) in
           let go' : Go ℕ = λ u w1 t1. value_runs P x.p y x.p.around (stores u) w1 t1 in
           let small = lifted_small (is_flat y) in
           let to_end : Later s1 x.τ = later_on s1 s2 x.τ l2 (later_on s2 s3 x.τ l3 l34) in
-          let place = place_at P set needs grow n sp v e show_v show_e x (at_address b a) s1 made to_end in
+          let place = place_at P set premises grow n sp v e show_v show_e x (at_address b a) s1 made to_end in
           store_runs P x.p (x.r + 256) n source hd.before (held_address hd.address) y next x.w x.t
           (more P (x.r + 150 + j) (x.r + 256) n source
           (statements_run P x.p hd.before x.p.around (λ w1 t1. charged j (value_runs P x.p (held_address hd.address) x.p.around go' w1 t1)) x.w x.t) (omega (arith, small))
-          (held_again P n v leaf_.w leaf_.same (held_shown P set needs grow n v indices) place tt hd s2 held
+          (held_again P n v leaf_.w leaf_.same (held_shown P set premises grow n v indices) place tt hd s2 held
           (λ drew. x.ready.temps_free s1.frame.temps l1.temps (omega (arith, drew, l3.temps, l34.temps)))
           j go'
           (λ g ms l u sx w1 t1 gg ee hh at is found.
@@ -285,7 +286,7 @@ module _ (P : Program) (set : Setting P) (needs : Needs P) (grow : StatesGrow P)
           (value_at g ms l u sx w1 t1 gg ee hh at is found (stores u)
           (λ g2 ms2 val z s5 w5 t5 gg2 ee2 hh2 st.
           let at2 = is_at_grows P x.p.places g g2 ms ms2 l typed_.t u gg2 ee2 at in
-          let o = write_at P set needs x.p g2 ms2 s5 w5 t5 hh2 l typed_.t u val z at2 (has_values P set needs grow n sp v e show_v show_e x)
+          let o = write_at P set premises x.p g2 ms2 s5 w5 t5 hh2 l typed_.t u val z at2 (has_values P set premises grow n sp v e show_v show_e x)
           (stands_fit g2 val typed_.u typed_.t z typed_.fits st) in
           follows_along P.stack tree_work (x.r + 150 + 56) n (rest_run (x.go nothing) o.s1) (rest_run (writes l val) s5) (stores u z w5 t5) (stores u z w5 t5)
           (λ i. o.does (λ k. x.go nothing) x.out i) (λ i. refl)
@@ -321,11 +322,11 @@ module _ (P : Program) (set : Setting P) (needs : Needs P) (grow : StatesGrow P)
     where
       by_storage : begins_with P.findings.meaning e v ≡ true → (storage : Storage) (s1 : TranslationState) → locate P.findings v x.p.within x.σ ≡ drawn storage s1 →
           after (updated storage B_of s1) (λ st u. drawn (done st) u) ≡ drawn x.m x.τ → IsShown P n E x
-      by_storage begins (in_temp i) s1 made rest = temp_updated P set needs grow n sp v e indices show_e x begins i s1 made
+      by_storage begins (in_temp i) s1 made rest = temp_updated P set premises grow n sp v e indices show_e x begins i s1 made
       by_storage begins (at_address b a) s1 made rest = address_updated (spine_of P v e begins) b a s1 made rest
 
       by : (begins : Bool) → begins_with P.findings.meaning e v ≡ begins → IsShown P n E x
-      by false plain = assigning.assign_shown P set needs grow n sp v e show_v show_e x plain
+      by false plain = assigning.assign_shown P set premises grow n sp v e show_v show_e x plain
       by true begins =
           let i = after_inv (locate P.findings v x.p.within x.σ) _ x.m x.τ x.is_made in
           by_storage begins i.0 i.1 i.2 (sym (ap (λ o. after (assignment o i.0 E_of B_of i.1) (λ st u. drawn (done st) u)) begins) ∙ i.3)

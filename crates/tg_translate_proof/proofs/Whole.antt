@@ -22,7 +22,7 @@ use Rattle.tg_translate_proof.specs.Tables.{IsMoment}
 use Rattle.tg_translate_proof.specs.Bounds.{bound_by, measures_of}
 use Rattle.tg_translate_proof.specs.Situations.{Program}
 use Rattle.tg_translate_proof.specs.Shown.{ExpressionFollows}
-use Rattle.tg_translate_proof.specs.Laws.{findings_of, own_trees, trees_of, bound_in, MayRun, LinkedTreesFollow, MeaningIsKept}
+use Rattle.tg_translate_proof.specs.Laws.{findings_of, own_trees, trees_of, bound_in, MayRun, LinkedTreesFollow, TranslateIsCorrect}
 use Rattle.tg_translate_proof.proofs.States.{behind_none}
 use Rattle.tg_translate_proof.proofs.Programs.{IsBegun, first_state, program_follows}
 use Rattle.tg_translate_proof.proofs.Growing.{expression_grows, FrameStays}
@@ -112,5 +112,5 @@ trees_follow follow p size heap stack input may n =
     (begun p size heap stack input may) input may.bytes n
     (follow (simulated p size heap stack input may) n)
 
-pub translate_is_correct : ((P : Program) (n : ℕ) → ExpressionFollows P n) → MeaningIsKept
+pub translate_is_correct : ((P : Program) (n : ℕ) → ExpressionFollows P n) → TranslateIsCorrect
 translate_is_correct follow = kept_by_simulation (trees_follow follow)

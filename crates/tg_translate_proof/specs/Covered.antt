@@ -10,7 +10,7 @@ use Rattle.tg_syntax.specs.Tree.{Index, Exps, no_exps, exp, Inits, no_inits, ini
 use Rattle.tg_syntax.specs.Tree.{types, variable, functions, FunDecs, no_functions, function}
 use Rattle.tg_syntax.specs.Functions.{Levels, own, own_params, own_functions, own_decs}
 use Rattle.tg_syntax.specs.Functions.{function_nodes, function_hops}
-use Rattle.tg_symbols.specs.Tables.{named}
+use Rattle.tg_symbols.specs.Tables.{looked_up}
 use Rattle.tg_semantics.specs.Levels.{activation}
 use Rattle.tg_types.specs.declared.notes.Means.{Means}
 use Rattle.tg_types.specs.declared.notes.Means.TheVariants.{Variable, Function}
@@ -44,9 +44,9 @@ module _ (findings : Findings) (table : Table) (weight : (at : ℕ) → ℕ) whe
   -- a use of a name, by what is noted there
   abbrev pub CoversUse : (level : ℕ) → Keeping → Option Means → Type 0
   CoversUse n keeps (Some (Variable at)) =
-      (home : Home) → named at table.homes ≡ Some home → IsNearVariable n keeps at home
+      (home : Home) → looked_up at table.homes ≡ Some home → IsNearVariable n keeps at home
   CoversUse n keeps (Some (Function at)) =
-      (callee : Callee) → named at table.callees ≡ Some callee → LinksLead keeps n callee.level
+      (callee : Callee) → looked_up at table.callees ≡ Some callee → LinksLead keeps n callee.level
   CoversUse n keeps _ = Unit {0}
 
   abbrev pub CoversName : (level : ℕ) → Keeping → Ident → Type 0

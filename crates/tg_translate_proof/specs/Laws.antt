@@ -96,8 +96,8 @@ pub record IsKept (p : CheckedProgram) (size : ℕ → ℕ) (heap stack : ℕ) (
     pub fills : FillsStack stack (source_run p heap stack input) (trees_run p size heap stack input)
     pub links : LinksAreRight Trees (trees_of p) size (stack_top - stack) heap (level_in p) 32 input
 
-abbrev pub MeaningIsKept : Type 0
-MeaningIsKept =
+abbrev pub TranslateIsCorrect : Type 0
+TranslateIsCorrect =
     (p : CheckedProgram) (size : ℕ → ℕ) (heap stack : ℕ) (input : List ℕ) →
     MayRun p size heap stack input → IsKept p size heap stack input
 

@@ -11,15 +11,15 @@ use Rattle.tg_syntax.specs.declared.trees.Param.{Param}
 use Rattle.tg_syntax.specs.OfWords.{OfWords}
 use Rattle.tg_syntax.specs.Tree.{Exp, FunDecs, no_functions, function}
 use Rattle.tg_syntax.specs.Functions.{own_params}
-use Rattle.tg_symbols.specs.Tables.{named}
+use Rattle.tg_symbols.specs.Tables.{looked_up}
 use Rattle.tg_simulation.specs.Runs.{Run}
 use Rattle.tg_simulation.specs.Ran.{Ran}
 use Rattle.tg_semantics.specs.Values.{Value, int, Entry, variable as variable_entry, group, Env}
 use Rattle.tg_semantics.specs.Values.{standard}
 use Rattle.tg_semantics.specs.Values.{SourceWorld}
-use Rattle.tg_semantics.specs.Environments.{outermost}
+use Rattle.tg_semantics.specs.Environments.{outermost_entries}
 use Rattle.tg_semantics.specs.Levels.{levels_of, function_weight}
-use Rattle.tg_semantics.specs.Evaluation.{count}
+use Rattle.tg_semantics.specs.Evaluation.{function_count}
 use Rattle.tg_types.specs.declared.notes.Note.{Note}
 use Rattle.tg_types.specs.declared.notes.Means.{Means}
 use Rattle.tg_types.specs.Types.{Ty, Shape, int_type}
@@ -158,7 +158,7 @@ module _ (P : Program) where
         (with_level (suc level) (P.findings.keeps_link (at_of f)) keeps)
         (own_params (suc level) ps (levels_of seen)) e
     pub callee : Callee
-    pub tabled : named (at_of f) P.table.callees ≡ Some callee
+    pub tabled : looked_up (at_of f) P.table.callees ≡ Some callee
     pub level_is : callee.level ≡ level
     pub within : Within
     pub inner : within.level ≡ level
@@ -204,13 +204,13 @@ module _ (P : Program) where
       : (level : ℕ) → List Entry → List (ℕ × Binding) → Type 0 where
     nothing_declared :
         (level : ℕ) (names : List (List ℕ)) →
-        Along places types c level (outermost names) (standard_bindings 0 names)
+        Along places types c level (outermost_entries names) (standard_bindings 0 names)
     a_variable :
         (level l x at place : ℕ) (t : Ty) (loop : Bool) (home : Home) (es : List Entry)
         (bs : List (ℕ × Binding)) →
         l ≤ level →
         HasValues t →
-        named at P.table.homes ≡ Some home → home.level ≡ l →
+        looked_up at P.table.homes ≡ Some home → home.level ≡ l →
         -- of an outer function's variable in a temporary nothing is said: it isn't used from here
         (IsNear c l home.access → IsOf place (places (key_of c l home.access))) →
         slice_get types place ≡ Some t →
@@ -221,7 +221,7 @@ module _ (P : Program) where
         (scope : Scope) →
         l ≤ level →
         ((k : ℕ) → k ≤ l → keeps k ≡ c.keeps k) →
-        length ss ≡ count fs →
+        length ss ≡ function_count fs →
         AreDone (with_functions fs ss scope) l keeps (group l fs ∷ es) fs ss →
         Along places types c l es scope.bindings →
         Along places types c level (group l fs ∷ es) (with_functions fs ss scope).bindings
@@ -281,28 +281,28 @@ module _ (P : Program) where
     -- no variable and no function is declared twice, so what a state has found stays
     pub homes_once :
         (at : ℕ) (home : Home) (more rest : List (ℕ × Home)) → P.table.homes ≡ more ++ rest →
-        named at rest ≡ Some home → named at P.table.homes ≡ Some home
+        looked_up at rest ≡ Some home → looked_up at P.table.homes ≡ Some home
     pub callees_once :
         (at : ℕ) (callee : Callee) (more rest : List (ℕ × Callee)) →
         P.table.callees ≡ more ++ rest →
-        named at rest ≡ Some callee → named at P.table.callees ≡ Some callee
+        looked_up at rest ≡ Some callee → looked_up at P.table.callees ≡ Some callee
     -- a variable that escapes is in its frame
     pub escaped :
-        (at : ℕ) (home : Home) → named at P.table.homes ≡ Some home →
+        (at : ℕ) (home : Home) → looked_up at P.table.homes ≡ Some home →
         P.findings.escapes at ≡ true → (k : ℕ) × (home.access ≡ InFrame k)
     -- a declared function has a label above the runtime's, and the level of its text
     pub labels :
-        (at : ℕ) (callee : Callee) → named at P.table.callees ≡ Some callee →
+        (at : ℕ) (callee : Callee) → looked_up at P.table.callees ≡ Some callee →
         32 ≤ callee.label.0
     pub levels :
-        (at : ℕ) (callee : Callee) → named at P.table.callees ≡ Some callee →
+        (at : ℕ) (callee : Callee) → looked_up at P.table.callees ≡ Some callee →
         P.level callee.label.0 ≡ suc callee.level
     -- frames have allowed sizes: those of declared functions by what they weigh
     pub sizes :
         (f : Function Ts) → function_of f.label P.code.functions ≡ Some f →
         IsSizeOf f (P.size f.label)
     pub light :
-        (at : ℕ) (callee : Callee) → named at P.table.callees ≡ Some callee →
+        (at : ℕ) (callee : Callee) → looked_up at P.table.callees ≡ Some callee →
         P.size callee.label.0 ≤ P.weight at
     pub light_runtime : (one : Routine) → P.size (label_of one) ≤ 4096
     -- the runtime is there

@@ -5,7 +5,7 @@ use Rattle.std.specs.Prelude.{length, Option, Some, None, Bool, true, false, All
 use Rattle.tg_state.specs.State.{word_at, heap_base, most_room, stack_top}
 use Rattle.tg_semantics.specs.Values.{Value, int, string, nil, reference, nothing, SourceWorld}
 use Rattle.tg_semantics.specs.Values.{Object, fields, elements}
-use Rattle.tg_symbols.specs.Tables.{named}
+use Rattle.tg_symbols.specs.Tables.{looked_up}
 use Rattle.tg_types.specs.Types.{Ty, int_type, string_type, nil_type, none_type, record_type}
 use Rattle.tg_types.specs.Types.{array_type, Shape, record_shape, array_shape}
 use Rattle.tg_tree.specs.Memory.{Memory, Cell, Closed, Unset, Has, load, slot}
@@ -72,7 +72,7 @@ pub data IsLaid (h : Holdings) (shapes : List (ℕ × Shape)) (m : Memory) (r a 
     Made → Object → Type 0 where
   laid_record :
       (at : ℕ) (fs : List (ℕ × Ty)) (parts : List (ℕ × Value)) →
-      named at shapes ≡ Some (record_shape fs) →
+      looked_up at shapes ≡ Some (record_shape fs) →
       length parts ≡ length fs →
       ((k name : ℕ) (t : Ty) → slice_get fs k ≡ Some (name, t) →
       (v : Value) × (u : ℕ) × (slice_get parts k ≡ Some (name, v)) ×
@@ -80,7 +80,7 @@ pub data IsLaid (h : Holdings) (shapes : List (ℕ × Shape)) (m : Memory) (r a 
       IsLaid h shapes m r a (record_of at) (fields parts)
   laid_array :
       (at : ℕ) (t : Ty) (values : List Value) →
-      named at shapes ≡ Some (array_shape t) →
+      looked_up at shapes ≡ Some (array_shape t) →
       length values < 2 ^ 26 →
       h.at a ≡ word (length values) →
       ((k : ℕ) (v : Value) → slice_get values k ≡ Some v →

@@ -4,14 +4,14 @@ ghost use Rattle.tg_translate_proof.specs.Activations.{
 };
 ghost use Rattle.tg_translate_proof.specs.Laws.{
   LinksOfCallsAreRight,
-  MeaningIsKept,
+  TranslateIsCorrect,
   SizesTellNothing,
 };
 
 /// The trees of a checked program, with the runtime's, agree with its meaning, fill the stack where
 /// its calls are too deep, and each of their calls has the right static link.
 pub fn translate_is_correct()
-    ensures { MeaningIsKept }
+    ensures { TranslateIsCorrect }
 {}
 
 /// What comes of it: the static link of each call is right, and runs with other sizes of frames end

@@ -11,8 +11,8 @@ use Rattle.tg_tree.specs.Named.{function, literal, fault, temporary, constant, n
 use Rattle.tg_tree.specs.FrameSizes.{IsSizeOf}
 use Rattle.tg_tree.specs.Units.{Trees, Canonical, operator_units, expression_units, argument_units, condition_units, statement_units, element_units}
 use Rattle.tg_tree.specs.Units.{entry_units, marked_entry_units}
-use Rattle.tg_tree.specs.Sizes.{expression_length, condition_length, statement_length, tree_length, tree_room, canonical_length, canonical_room}
-use Rattle.tg_tree.specs.Sizes.{flat_length, flat_room}
+use Rattle.tg_tree.specs.Sizes.{expression_length, condition_length, statement_length, tree_length, tree_needs, canonical_length, canonical_needs}
+use Rattle.tg_tree.specs.Sizes.{flat_length, flat_needs}
 
 abbrev fun : {Body : Type 0} → Body → Function Body
 fun body = record { label = 33; params = InFrame 0 ∷ []; slots = 1; temps = 2; out = 0; body = body }
@@ -30,8 +30,8 @@ names_in_order = refl
 lengths_as_a_tree : tree_length (fun (Seq body)) ≡ 6 + (4 + (4 + 2) + (2 + (4 + (4 + 1))) + 3) + 16
 lengths_as_a_tree = refl
 
-rooms_as_a_tree : tree_room (fun (Seq body)) ≡ 3 + 2 + (6 + (1 + 2)) + (2 + 1 + (2 + 2)) + 1
-rooms_as_a_tree = refl
+needs_as_a_tree : tree_needs (fun (Seq body)) ≡ 3 + 2 + (6 + (1 + 2)) + (2 + 1 + (2 + 2)) + 1
+needs_as_a_tree = refl
 
 lengths_as_statements : canonical_length (fun body) ≡ 6 + (4 + (4 + 2) + (2 + (2 + (4 + 1))) + 3) + 16
 lengths_as_statements = refl
@@ -56,11 +56,11 @@ service_names = refl
 too_much : HasWords (λ s. named_ts s []) (record { functions = fun (Return (Const (2 ^ 32))) ∷ []; literals = [] }) → ⊥
 too_much h = let e = h _ (2 ^ 32) (0, omega arith, refl) (0, omega arith, refl) in omega arith
 
-rooms_as_statements : canonical_room (fun body) ≡ 3 + 2 + (1 + (0 + 1)) + (1 + 1 + (2 + 1)) + 0
-rooms_as_statements = refl
+needs_as_statements : canonical_needs (fun body) ≡ 3 + 2 + (1 + (0 + 1)) + (1 + 1 + (2 + 1)) + 0
+needs_as_statements = refl
 
-rooms_as_flat_code : flat_room (fun flat_body) ≡ 3 + 2 + (1 + (0 + 1)) + (1 + 1 + (2 + 1)) + 1
-rooms_as_flat_code = refl
+needs_as_flat_code : flat_needs (fun flat_body) ≡ 3 + 2 + (1 + (0 + 1)) + (1 + 1 + (2 + 1)) + 1
+needs_as_flat_code = refl
 
 -- each node alone
 expressions_alone : map (expression_units Trees) (Const 7 ∷ Address 40 ∷ Temp 0 ∷ FrameAddress ∷ Load (Temp 0) ∷
@@ -73,18 +73,18 @@ operators_alone : map (λ op. operator_units op (Temp 1)) (Add ∷ Sub ∷ Mul �
     1 ∷ 1 ∷ 2 ∷ 2 ∷ 1 ∷ 1 ∷ 1 ∷ 21 ∷ 21 ∷ 21 ∷ 1 ∷ 1 ∷ 2 ∷ []
 operators_alone = refl
 
-abbrev lifted : Tx
-lifted = Call 34 no_txs
+abbrev hoisted : Tx
+hoisted = Call 34 no_txs
 
 abbrev holds : Cond
-holds = Compare Equal (Temp 0) lifted
+holds = Compare Equal (Temp 0) hoisted
 
-conditions_alone : map (condition_units Trees) (Compare Equal lifted (Temp 0) ∷ holds ∷ Not holds ∷ Both holds holds ∷ Either holds holds ∷ []) ≡
+conditions_alone : map (condition_units Trees) (Compare Equal hoisted (Temp 0) ∷ holds ∷ Not holds ∷ Both holds holds ∷ Either holds holds ∷ []) ≡
     4 ∷ 6 ∷ 0 ∷ 31 ∷ 31 ∷ []
 conditions_alone = refl
 
-statements_alone : map (statement_units Trees) (Move 0 lifted ∷ Store (Temp 0) lifted ∷ StoreByte (Temp 0) lifted ∷
-    Do lifted ∷ If holds nothing nothing ∷ Loop nothing ∷ Break 0 ∷ Fault 1 ∷ nothing ∷ Return lifted ∷ []) ≡
+statements_alone : map (statement_units Trees) (Move 0 hoisted ∷ Store (Temp 0) hoisted ∷ StoreByte (Temp 0) hoisted ∷
+    Do hoisted ∷ If holds nothing nothing ∷ Loop nothing ∷ Break 0 ∷ Fault 1 ∷ nothing ∷ Return hoisted ∷ []) ≡
     2 ∷ 3 ∷ 3 ∷ 0 ∷ 4 ∷ 4 ∷ 3 ∷ 3 ∷ 0 ∷ 16 ∷ []
 statements_alone = refl
 
@@ -92,7 +92,7 @@ elements_alone : map element_units (Mark 1 ∷ Do' nothing ∷ Jump 1 ∷ Branch
     1 ∷ 0 ∷ 1 ∷ 2 ∷ 1 ∷ 14 ∷ []
 elements_alone = refl
 
-arguments_alone : argument_units Trees no_txs ∷ argument_units Trees (tx lifted no_txs) ∷ argument_units Canonical (tx lifted no_txs) ∷ [] ≡ 4 ∷ 6 ∷ 4 ∷ []
+arguments_alone : argument_units Trees no_txs ∷ argument_units Trees (tx hoisted no_txs) ∷ argument_units Canonical (tx hoisted no_txs) ∷ [] ≡ 4 ∷ 6 ∷ 4 ∷ []
 arguments_alone = refl
 
 -- a shift by a word needs more than one by a constant

@@ -103,17 +103,17 @@ is_flat_condition (Both c d) = is_flat_condition c && is_flat_condition d
 is_flat_condition (Either c d) = is_flat_condition c && is_flat_condition d
 
 -- flat, or a call or a service of flat expressions
-abbrev pub IsFlatSide : Tx → Type 0
-IsFlatSide (Call _ xs) = AreFlat xs
-IsFlatSide (Service _ x) = IsFlat x
-IsFlatSide x = IsFlat x
+abbrev pub IsFlatOrEffect : Tx → Type 0
+IsFlatOrEffect (Call _ xs) = AreFlat xs
+IsFlatOrEffect (Service _ x) = IsFlat x
+IsFlatOrEffect x = IsFlat x
 
 -- a statement that is flat
 abbrev pub IsFlatStatement : Ts → Type 0
-IsFlatStatement (Move _ x) = IsFlatSide x
+IsFlatStatement (Move _ x) = IsFlatOrEffect x
 IsFlatStatement (Store x y) = IsFlat x × IsFlat y
 IsFlatStatement (StoreByte x y) = IsFlat x × IsFlat y
-IsFlatStatement (Do x) = IsFlatSide x
+IsFlatStatement (Do x) = IsFlatOrEffect x
 IsFlatStatement _ = ⊥
 
 -- Canonical statements: each expression is flat but for a call or service that is a whole right

@@ -71,8 +71,8 @@ abbrev pub code_length : List Linear → ℕ
 code_length [] = 0
 code_length (e ∷ rest) = element_length e + code_length rest
 
--- Rooms: what a stage counts for each part.
-pub record Rooms : Type 0 where
+-- Needs: what a stage counts for each part.
+pub record Needs : Type 0 where
   -- an expression, but for a temporary; what a shift, a call or service, an argument count besides
   pub expression : ℕ
   pub temporary : ℕ
@@ -83,62 +83,62 @@ pub record Rooms : Type 0 where
   pub condition : ℕ
   pub parameter : ℕ
 
-module _ (w : Rooms) where
-  abbrev pub shift_room : Bin → ℕ
-  shift_room ShiftLeft = w.shift
-  shift_room ShiftRight = w.shift
-  shift_room ShiftSigned = w.shift
-  shift_room _ = 0
+module _ (w : Needs) where
+  abbrev pub shift_needs : Bin → ℕ
+  shift_needs ShiftLeft = w.shift
+  shift_needs ShiftRight = w.shift
+  shift_needs ShiftSigned = w.shift
+  shift_needs _ = 0
 
   abbrev mutual
-    pub expression_room : Tx → ℕ
-    expression_room (Temp _) = w.temporary
-    expression_room (Binary op x y) =
-        w.expression + shift_room op + (expression_room x + expression_room y)
-    expression_room (Load x) = w.expression + expression_room x
-    expression_room (LoadByte x) = w.expression + expression_room x
-    expression_room (Call _ xs) = w.expression + w.call + arguments_room xs
-    expression_room (Service _ x) = w.expression + w.call + expression_room x
-    expression_room (After s x) = statement_room s + expression_room x
-    expression_room _ = w.expression
+    pub expression_needs : Tx → ℕ
+    expression_needs (Temp _) = w.temporary
+    expression_needs (Binary op x y) =
+        w.expression + shift_needs op + (expression_needs x + expression_needs y)
+    expression_needs (Load x) = w.expression + expression_needs x
+    expression_needs (LoadByte x) = w.expression + expression_needs x
+    expression_needs (Call _ xs) = w.expression + w.call + arguments_needs xs
+    expression_needs (Service _ x) = w.expression + w.call + expression_needs x
+    expression_needs (After s x) = statement_needs s + expression_needs x
+    expression_needs _ = w.expression
 
-    pub arguments_room : Txs → ℕ
-    arguments_room no_txs = 0
-    arguments_room (tx x xs) = w.argument + (expression_room x + arguments_room xs)
+    pub arguments_needs : Txs → ℕ
+    arguments_needs no_txs = 0
+    arguments_needs (tx x xs) = w.argument + (expression_needs x + arguments_needs xs)
 
-    pub condition_room : Cond → ℕ
-    condition_room (Compare _ x y) = w.condition + (expression_room x + expression_room y)
-    condition_room (Not c) = w.condition + condition_room c
-    condition_room (Both c d) = w.condition + (condition_room c + condition_room d)
-    condition_room (Either c d) = w.condition + (condition_room c + condition_room d)
+    pub condition_needs : Cond → ℕ
+    condition_needs (Compare _ x y) = w.condition + (expression_needs x + expression_needs y)
+    condition_needs (Not c) = w.condition + condition_needs c
+    condition_needs (Both c d) = w.condition + (condition_needs c + condition_needs d)
+    condition_needs (Either c d) = w.condition + (condition_needs c + condition_needs d)
 
-    pub statement_room : Ts → ℕ
-    statement_room (Move _ x) = expression_room x
-    statement_room (Store x y) = expression_room x + expression_room y
-    statement_room (StoreByte x y) = expression_room x + expression_room y
-    statement_room (Do x) = expression_room x
-    statement_room (If c s t) = condition_room c + (statement_room s + statement_room t)
-    statement_room (Loop s) = statement_room s
-    statement_room (Seq ss) = statements_room ss
-    statement_room (Return x) = expression_room x
-    statement_room _ = 0
+    pub statement_needs : Ts → ℕ
+    statement_needs (Move _ x) = expression_needs x
+    statement_needs (Store x y) = expression_needs x + expression_needs y
+    statement_needs (StoreByte x y) = expression_needs x + expression_needs y
+    statement_needs (Do x) = expression_needs x
+    statement_needs (If c s t) = condition_needs c + (statement_needs s + statement_needs t)
+    statement_needs (Loop s) = statement_needs s
+    statement_needs (Seq ss) = statements_needs ss
+    statement_needs (Return x) = expression_needs x
+    statement_needs _ = 0
 
-    pub statements_room : Stms → ℕ
-    statements_room no_stms = 0
-    statements_room (stm s ss) = statement_room s + statements_room ss
+    pub statements_needs : Stms → ℕ
+    statements_needs no_stms = 0
+    statements_needs (stm s ss) = statement_needs s + statements_needs ss
 
-  abbrev pub element_room : Linear → ℕ
-  element_room (Do' s) = statement_room s
-  element_room (Branch _ x y _) = w.condition + (expression_room x + expression_room y)
-  element_room (Return' x) = expression_room x
-  element_room _ = 0
+  abbrev pub element_needs : Linear → ℕ
+  element_needs (Do' s) = statement_needs s
+  element_needs (Branch _ x y _) = w.condition + (expression_needs x + expression_needs y)
+  element_needs (Return' x) = expression_needs x
+  element_needs _ = 0
 
-  abbrev pub code_room : List Linear → ℕ
-  code_room [] = 0
-  code_room (e ∷ rest) = element_room e + code_room rest
+  abbrev pub code_needs : List Linear → ℕ
+  code_needs [] = 0
+  code_needs (e ∷ rest) = element_needs e + code_needs rest
 
 -- trees: the value of an expression may be kept in a temporary of its own, and that of a condition
-abbrev pub in_trees : Rooms
+abbrev pub in_trees : Needs
 in_trees = record {
   expression = 2;
   temporary = 1;
@@ -150,7 +150,7 @@ in_trees = record {
 }
 
 -- canonical statements, and flat code: what the choice of instructions may draw
-abbrev pub in_canonical : Rooms
+abbrev pub in_canonical : Needs
 in_canonical = record {
   expression = 1;
   temporary = 0;
@@ -162,31 +162,31 @@ in_canonical = record {
 }
 
 -- the words and temporaries that a frame has, and what its parameters count
-abbrev pub frame_room : {Body : Type 0} → Function Body → ℕ
-frame_room f = f.slots + f.temps + f.out
+abbrev pub frame_needs : {Body : Type 0} → Function Body → ℕ
+frame_needs f = f.slots + f.temps + f.out
 
 abbrev pub parameters_length : {Body : Type 0} → Function Body → ℕ
 parameters_length f = parameter_units * length f.params
 
-abbrev pub parameters_room : {Body : Type 0} → Rooms → Function Body → ℕ
-parameters_room w f = w.parameter * length f.params
+abbrev pub parameters_needs : {Body : Type 0} → Needs → Function Body → ℕ
+parameters_needs w f = w.parameter * length f.params
 
 -- length and room of a function as a tree, as canonical statements, and as flat code
 abbrev pub tree_length : Function Ts → ℕ
 tree_length f = parameters_length f + statement_length Trees f.body
 
-abbrev pub tree_room : Function Ts → ℕ
-tree_room f = frame_room f + (parameters_room in_trees f + statement_room in_trees f.body)
+abbrev pub tree_needs : Function Ts → ℕ
+tree_needs f = frame_needs f + (parameters_needs in_trees f + statement_needs in_trees f.body)
 
 abbrev pub canonical_length : Function Stms → ℕ
 canonical_length f = parameters_length f + statements_length Canonical f.body
 
-abbrev pub canonical_room : Function Stms → ℕ
-canonical_room f =
-    frame_room f + (parameters_room in_canonical f + statements_room in_canonical f.body)
+abbrev pub canonical_needs : Function Stms → ℕ
+canonical_needs f =
+    frame_needs f + (parameters_needs in_canonical f + statements_needs in_canonical f.body)
 
 abbrev pub flat_length : Function (List Linear) → ℕ
 flat_length f = parameters_length f + code_length f.body
 
-abbrev pub flat_room : Function (List Linear) → ℕ
-flat_room f = frame_room f + (parameters_room in_canonical f + code_room in_canonical f.body)
+abbrev pub flat_needs : Function (List Linear) → ℕ
+flat_needs f = frame_needs f + (parameters_needs in_canonical f + code_needs in_canonical f.body)

@@ -17,13 +17,13 @@ use Rattle.tg_tree.specs.Shapes.{is_flat, are_flat, is_flat_condition}
 pub data Stage : Type 0 where
   Trees Canonical : Stage
 
--- a word kept in a temporary: a move of its own, before a part that isn't flat and is lifted in
+-- a word kept in a temporary: a move of its own, before a part that isn't flat and is hoisted in
 -- front of it
-abbrev pub lifted_units : Stage → (flat : Bool) → ℕ
-lifted_units Trees flat = if flat then 0 else 2
-lifted_units Canonical flat = 0
+abbrev pub hoisted_units : Stage → (flat : Bool) → ℕ
+hoisted_units Trees flat = if flat then 0 else 2
+hoisted_units Canonical flat = 0
 
--- Two conditions that are joined. Where a right one has something lifted in front of it, they are
+-- Two conditions that are joined. Where a right one has something hoisted in front of it, they are
 -- tested part by part: each part leaves loops by a test and a break, and a join may be a loop of
 -- its own, with a break at its end. A right side that isn't flat pays for the two loops around both
 -- statements, with their breaks, as well.
@@ -57,7 +57,7 @@ operator_units _ y = 1
 abbrev pub expression_units : Stage → Tx → ℕ
 expression_units g (Const _) = 2
 expression_units g (Temp _) = 0
-expression_units g (Binary op x y) = operator_units op y + lifted_units g (is_flat y)
+expression_units g (Binary op x y) = operator_units op y + hoisted_units g (is_flat y)
 expression_units g (Call _ _) = 2 + given_units g
 expression_units g (Service _ _) = 5 + given_units g
 expression_units g (After _ _) = 0
@@ -65,11 +65,11 @@ expression_units g _ = 1
 
 -- an argument of a call before the rest of them: past the fourth it is stored to the frame
 abbrev pub argument_units : Stage → (rest : Txs) → ℕ
-argument_units g rest = 4 + lifted_units g (are_flat rest)
+argument_units g rest = 4 + hoisted_units g (are_flat rest)
 
 -- a condition: a comparison is a branch, and marks and a jump for its sides
 abbrev pub condition_units : Stage → Cond → ℕ
-condition_units g (Compare _ x y) = 4 + lifted_units g (is_flat y)
+condition_units g (Compare _ x y) = 4 + hoisted_units g (is_flat y)
 condition_units g (Not _) = 0
 condition_units g (Both c d) = joined_units g (is_flat_condition d)
 condition_units g (Either c d) = joined_units g (is_flat_condition d)
@@ -78,8 +78,8 @@ condition_units g (Either c d) = joined_units g (is_flat_condition d)
 -- instructions; a return gives nine registers back
 abbrev pub statement_units : Stage → Ts → ℕ
 statement_units g (Move _ _) = 2
-statement_units g (Store x y) = 1 + lifted_units g (is_flat y)
-statement_units g (StoreByte x y) = 1 + lifted_units g (is_flat y)
+statement_units g (Store x y) = 1 + hoisted_units g (is_flat y)
+statement_units g (StoreByte x y) = 1 + hoisted_units g (is_flat y)
 statement_units g (Do _) = 0
 statement_units g (If _ _ _) = 4
 statement_units g (Loop _) = 4

@@ -3,7 +3,7 @@ use Rattle.std.proofs.Common.{◌≡◌, ◌≢◌, ℕ, zero, suc, ◌<◌, Lis
 use Rattle.std.specs.Prelude.{map, ◌==◌, if◌then◌else◌, slice_index_or}
 use Rattle.std.specs.List.{AllPairs}
 use Rattle.std.proofs.lemmas.Bool.{eqb-true}
-use Rattle.tg_symbols.specs.Tables.{named}
+use Rattle.tg_symbols.specs.Tables.{looked_up}
 use Rattle.tg_types.specs.Types.{Shape}
 use Rattle.tg_types.specs.Checks.{Noted}
 use Rattle.tg_types.specs.Has.{AreApart}
@@ -19,11 +19,11 @@ pub shape_marks : AreMarks bytes_of
 shape_marks = record { noted = λ at m g s. skip at s; shaped = λ at shape g s. keep at s }
 
 -- keys that differ
-not_among : (l : List (ℕ × Shape)) (x : ℕ) → ((j : ℕ) → j < length (keys l) → x ≢ slice_index_or (keys l) j 0) → named x l ≡ None
+not_among : (l : List (ℕ × Shape)) (x : ℕ) → ((j : ℕ) → j < length (keys l) → x ≢ slice_index_or (keys l) j 0) → looked_up x l ≡ None
 not_among [] x h = refl
 not_among (one ∷ l) x h = by (one.0 == x) refl (not_among l x (λ j lt. h (suc j) (omega (arith, lt))))
   where
-    by : (c : Bool) → (one.0 == x) ≡ c → named x l ≡ None → (if c then Some one.1 else named x l) ≡ None
+    by : (c : Bool) → (one.0 == x) ≡ c → looked_up x l ≡ None → (if c then Some one.1 else looked_up x l) ≡ None
     by true is r = absurd (h zero (omega arith) (sym (eqb-true one.0 x is)))
     by false is r = r
 

@@ -17,7 +17,7 @@ use Rattle.tg_syntax.specs.Plain.{plain_type, plain_form}
 use Rattle.tg_syntax.specs.NamesWithin.{TypesWithin, FormWithin, NameIsWithin}
 use Rattle.tg_types.specs.declared.chains.Chain.{Chain as CodeChain}
 use Rattle.tg_types.specs.declared.chains.Chain.TheVariants.{Outside, EndsAt, Onward}
-use Rattle.tg_types.specs.Scopes.{name_of}
+use Rattle.tg_semantics.specs.Environments.{name_of}
 use Rattle.tg_types.specs.Groups.{Chain, ends_at, endless, declared_as, link, chain, chain_of}
 use Rattle.tg_types.proofs.TreeSteps.{from_here, none_left}
 use Rattle.tg_types.specs.Declaring.{place_in, chain_from, ChainWithin, AreDifferent, start_at, start_in, link_at, links_in, LeadsWithin, followed}

@@ -9,11 +9,12 @@ use Rattle.tg_syntax.specs.declared.trees.Param.{Param}
 use Rattle.tg_syntax.specs.Tree.{Form, Alias, Fields, Array, TypeDec, Exp, Nil, Break, Int, Text, Read, Call, Neg, Binary, Make, Fill, Assign, If}
 use Rattle.tg_syntax.specs.Tree.{When, While, For, Let, Seq, LValue, Simple, Field, Index, Exps, no_exps, exp, Inits, no_inits, init, Decs, no_decs}
 use Rattle.tg_syntax.specs.Tree.{types, variable, functions, FunDecs, no_functions, function}
-use Rattle.tg_symbols.specs.Tables.{named}
+use Rattle.tg_symbols.specs.Tables.{looked_up}
 use Rattle.tg_types.specs.declared.notes.Means.TheVariants as means
 use Rattle.tg_types.specs.Types.{Ty, int_type, string_type, nil_type, none_type, record_type, array_type, Shape, record_shape, array_shape}
 use Rattle.tg_types.specs.Checks.{Noted}
-use Rattle.tg_types.specs.Scopes.{Signature, Binding, variable_at, Scope, name_of, at_of, bound, binding, in_a_loop, in_no_loop}
+use Rattle.tg_semantics.specs.Environments.{name_of}
+use Rattle.tg_types.specs.Scopes.{Signature, Binding, variable_at, Scope, at_of, bound, binding, in_a_loop, in_no_loop}
 use Rattle.tg_types.specs.Groups.{with_functions, with_params}
 use Rattle.tg_types.specs.Typing.{placed}
 use Rattle.tg_types.specs.Has.{Fits, Callee, use_of, Apart, HasValues, HaveValues, GivesBack, ShapeHasValues}
@@ -45,10 +46,10 @@ mutual
         {s : Span} {op : Op} {at : ℕ} {a b : Exp} {scope : Scope} {t u : Ty} {g k l h : Noted} → Sides op t u → Checked a scope t g k →
         Notes op at t k l → Checked b scope u l h → Checked (Binary s op at a b) scope int_type g h
     make :
-        {s : Span} {x : Ident} {inits : Inits} {scope : Scope} {at : ℕ} {g h : Noted} (fs : List (ℕ × Ty)) → named at g.shapes ≡ Some (record_shape fs) →
+        {s : Span} {x : Ident} {inits : Inits} {scope : Scope} {at : ℕ} {g h : Noted} (fs : List (ℕ × Ty)) → looked_up at g.shapes ≡ Some (record_shape fs) →
         CheckedInits inits fs scope g h → Checked (Make s x inits) scope (record_type at) g h
     fill :
-        {s : Span} {x : Ident} {size value : Exp} {scope : Scope} {at : ℕ} {g k h : Noted} (t u : Ty) → named at g.shapes ≡ Some (array_shape t) →
+        {s : Span} {x : Ident} {size value : Exp} {scope : Scope} {at : ℕ} {g k h : Noted} (t u : Ty) → looked_up at g.shapes ≡ Some (array_shape t) →
         Checked size scope int_type g k → Checked value scope u k h → Fits u t → Checked (Fill s x size value) scope (array_type at) g h
     assign :
         {s : Span} {v : LValue} {e : Exp} {scope : Scope} {t u : Ty} {g k h : Noted} → CheckedPlace v scope t g k → Checked e scope u k h → Fits u t →
@@ -76,11 +77,11 @@ mutual
         CheckedPlace (Simple x) scope t g (noting (at_of x) (means.Variable at) g)
     field :
         {v : LValue} {f : Ident} {scope : Scope} {t : Ty} {g h : Noted} (at : ℕ) (fs : List (ℕ × Ty)) (k : ℕ) → CheckedPlace v scope (record_type at) g h →
-        named at h.shapes ≡ Some (record_shape fs) → named (name_of f) fs ≡ Some t → placed (name_of f) 0 fs ≡ Some (k, t) →
+        looked_up at h.shapes ≡ Some (record_shape fs) → looked_up (name_of f) fs ≡ Some t → placed (name_of f) 0 fs ≡ Some (k, t) →
         CheckedPlace (Field v f) scope t g (noting (at_of f) (means.Field k) h)
     index :
         {v : LValue} {e : Exp} {scope : Scope} {t : Ty} {g k h : Noted} (at : ℕ) → CheckedPlace v scope (array_type at) g k →
-        named at k.shapes ≡ Some (array_shape t) → Checked e scope int_type k h → CheckedPlace (Index v e) scope t g h
+        looked_up at k.shapes ≡ Some (array_shape t) → Checked e scope int_type k h → CheckedPlace (Index v e) scope t g h
 
   pub data CheckedAll : Exps → List Ty → Scope → (before after : Noted) → Type 0 where
     end_args : {scope : Scope} {g : Noted} → CheckedAll no_exps [] scope g g

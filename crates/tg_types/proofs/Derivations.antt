@@ -7,7 +7,7 @@ use Rattle.tg_types.specs.declared.faults.TypeRule.{TypeRule}
 use Rattle.tg_types.specs.declared.notes.Note.{Note}
 use Rattle.tg_types.specs.Types.{Ty}
 use Rattle.tg_types.specs.Checks.{CheckResult, fine, fault, Noted}
-use Rattle.tg_types.specs.Scopes.{outermost}
+use Rattle.tg_types.specs.Scopes.{outermost_scope}
 use Rattle.tg_types.specs.Typing.{typed}
 use Rattle.tg_types.specs.Limits.{limit_fault}
 use Rattle.tg_types.specs.Accepted.{Finding, accepted, at_fault, finding, finding_of, within_limits}
@@ -32,11 +32,11 @@ by_limits : (few notes : List Note) (o : Option (TypeRule × ℕ)) → AcceptsAm
 by_limits few notes None a = (refl, a)
 by_limits few notes (Some f) a = absurd a
 
-by_checks : (names : List (List ℕ)) (body : Exp) (notes : List Note) (c : CheckResult Ty) → typed body (outermost names) begin ≡ c →
+by_checks : (names : List (List ℕ)) (body : Exp) (notes : List Note) (c : CheckResult Ty) → typed body (outermost_scope names) begin ≡ c →
     AcceptsAmong (finding_of body c) notes → BeginsApart body → Derivation names body notes
 by_checks names body notes (fault rule at) is e a = absurd e
 by_checks names body notes (fine t noted) is e a =
-    let c = checked body (outermost names) (standard_values 0 names) t begin noted is in
+    let c = checked body (outermost_scope names) (standard_values 0 names) t begin noted is in
     let apart = apart_by_keys noted.shapes (pairs (λ a b. a ≢ b) (among bytes_of shape_marks c nothing) a) in
     let l = by_limits noted.notes notes (limit_fault body) e in
     let d = derived noted.shapes notes apart c (record { more = []; are = refl; formed = λ v. v; among = l.1 }) in
@@ -45,7 +45,7 @@ by_checks names body notes (fine t noted) is e a =
 -- a tree, and notes in any order
 pub derivation : (names : List (List ℕ)) (body : Exp) (notes : List Note) → AcceptsAmong (finding names body) notes → BeginsApart body →
     Derivation names body notes
-derivation names body notes e a = by_checks names body notes (typed body (outermost names) begin) refl e a
+derivation names body notes e a = by_checks names body notes (typed body (outermost_scope names) begin) refl e a
 
 -- the notes as they were gathered
 pub among_themselves : (f : Finding) (notes : List Note) → f ≡ accepted notes → AcceptsAmong f notes

@@ -7,7 +7,7 @@ use Rattle.std.proofs.lemmas.List.Elements.{Contains-append_left, Contains-appen
 use Rattle.tg_base.specs.declared.ids.Span.{Span}
 use Rattle.tg_syntax.specs.declared.trees.Op.{Op}
 use Rattle.tg_syntax.specs.Tree.{Form, TypeDec, Exp, Binary, LValue, Exps, Inits, Decs, FunDecs}
-use Rattle.tg_symbols.specs.Tables.{named}
+use Rattle.tg_symbols.specs.Tables.{looked_up}
 use Rattle.tg_types.specs.declared.notes.Means.{Means}
 use Rattle.tg_types.specs.declared.notes.Note.{Note}
 use Rattle.tg_types.specs.Types.{Ty, int_type, Shape}
@@ -56,20 +56,20 @@ module _ (shapes : List (ℕ × Shape)) (notes : List Note) (apart : AreApart sh
         among = x.among;
       }
 
-  named_later : (more l : List (ℕ × Shape)) (at : ℕ) (s : Shape) → AreApart (more ++ l) → named at l ≡ Some s → named at (more ++ l) ≡ Some s
+  named_later : (more l : List (ℕ × Shape)) (at : ℕ) (s : Shape) → AreApart (more ++ l) → looked_up at l ≡ Some s → looked_up at (more ++ l) ≡ Some s
   named_later [] l at s a e = e
   named_later (one ∷ more) l at s a e = by (one.0 == at) refl (named_later more l at s a.1 e)
     where
-      by : (c : Bool) → (one.0 == at) ≡ c → named at (more ++ l) ≡ Some s → (if c then Some one.1 else named at (more ++ l)) ≡ Some s
+      by : (c : Bool) → (one.0 == at) ≡ c → looked_up at (more ++ l) ≡ Some s → (if c then Some one.1 else looked_up at (more ++ l)) ≡ Some s
       by true is r =
           let same : one.0 ≡ at = eqb-true one.0 at is in
-          let n : named at (more ++ l) ≡ None = subst (λ y. named y (more ++ l) ≡ None) same a.0 in
+          let n : looked_up at (more ++ l) ≡ None = subst (λ y. looked_up y (more ++ l) ≡ None) same a.0 in
           let no : None ≡ Some s = sym n ∙ r in absurd (cc)
       by false is r = r
 
-  all_named : {g : Noted} (at : ℕ) (s : Shape) → Ends g → named at g.shapes ≡ Some s → named at shapes ≡ Some s
+  all_named : {g : Noted} (at : ℕ) (s : Shape) → Ends g → looked_up at g.shapes ≡ Some s → looked_up at shapes ≡ Some s
   all_named {g = g} at s x e =
-      subst (λ y. named at y ≡ Some s) (sym x.are) (named_later x.more g.shapes at s (subst (λ y. AreApart y) x.are apart) e)
+      subst (λ y. looked_up at y ≡ Some s) (sym x.are) (named_later x.more g.shapes at s (subst (λ y. AreApart y) x.are apart) e)
 
   form_back : {at : ℕ} {form : Form} {g h : Noted} → AddsForm at form g h → Ends h → Ends g
   form_back alias x = x

@@ -17,10 +17,10 @@ use Rattle.tg_types.specs.declared.notes.Note.{Note}
 use Rattle.tg_types.specs.Types.{Ty, int_type, none_type, record_type, array_type, Shape, record_shape, array_shape}
 use Rattle.tg_types.specs.Checks.{Noted, CheckResult, fine, fault, Check, on_fine, ◌>>=◌, give, refuse, keep, present, note, shape_at, add_shape}
 use Rattle.tg_types.specs.Scopes.{Signature, Binding, variable_at, function_at, standard_one, Scope, at_of, bound as bound_in, binding, in_a_loop}
-use Rattle.tg_types.specs.Scopes.{in_no_loop, outermost}
+use Rattle.tg_types.specs.Scopes.{in_no_loop, outermost_scope}
 use Rattle.tg_types.specs.Groups.{no_repeats, names_of, known_fields, known_form, known_forms, chains_end, with_group, add_form, add_forms}
 use Rattle.tg_types.specs.Groups.{declare_types, function_names, param_types, result_type, headers, with_functions, with_params}
-use Rattle.tg_types.specs.Typing.{start_of, place_start, expect, variable_of, function_of, assignable, fields_in, fields_of, element_in, element_of}
+use Rattle.tg_types.specs.Typing.{start_of, place_start, expect, variable_of, function_of, assignable, fields_in, fields_of, element_type_in, element_of}
 use Rattle.tg_types.specs.Typing.{select, ordered, equated, left_side, equal_sides, right_side, own_type, body_fits, typed, typed_place, expect_all}
 use Rattle.tg_types.specs.Typing.{expect_fields, typed_last, declare, bodies}
 use Rattle.tg_syntax.specs.Functions.{Measures, Levels, own, own_params, own_functions, own_decs, declared, declared_place, declared_exps}
@@ -114,7 +114,7 @@ module _ (here : ℕ → Bool) where
   of_fields (record_type byte) at h = bind (shape _) (λ s. of_fields_in s at h)
   of_fields _ at h = refused _ _ h
 
-  of_element_in : (s : Option Shape) (at : ℕ) → IsTrue (here at) → FaultsWithin here (element_in s at)
+  of_element_in : (s : Option Shape) (at : ℕ) → IsTrue (here at) → FaultsWithin here (element_type_in s at)
   of_element_in (Some (array_shape t)) at h = given _
   of_element_in (Some (record_shape fs)) at h = refused _ _ h
   of_element_in None at h = refused _ _ h
@@ -467,4 +467,4 @@ module _ (here : ℕ → Bool) where
 
   pub faults_stand_within : (names : List (List ℕ)) (body : Exp) (rule : TypeRule) (at : ℕ) → BeginsWithin here body → finding names body ≡ at_fault rule at →
       IsTrue (here at)
-  faults_stand_within names body rule at h e = found_within body (record { shapes = []; notes = [] }) _ (outermost names) rule at h refl e
+  faults_stand_within names body rule at h e = found_within body (record { shapes = []; notes = [] }) _ (outermost_scope names) rule at h refl e

@@ -8,10 +8,10 @@ use Rattle.tg_types.proofs.TreeSteps.{from_here, none_left}
 use Rattle.tg_types.specs.declared.faults.TypeRule.{TypeRule}
 use Rattle.tg_types.specs.declared.faults.TypeRule.TheVariants.{T7, T9}
 use Rattle.tg_types.specs.Types.{Ty, record_type, array_type, Shape, record_shape, array_shape}
-use Rattle.tg_symbols.specs.Tables.{named}
+use Rattle.tg_symbols.specs.Tables.{looked_up}
 use Rattle.tg_types.specs.Checks.{Noted, fine, fault, present, give, refuse, shape_at, ◌>>=◌}
-use Rattle.tg_types.specs.Scopes.{name_of}
-use Rattle.tg_types.specs.Typing.{fields_in, fields_of, element_in, element_of, placed, are_fields}
+use Rattle.tg_semantics.specs.Environments.{name_of}
+use Rattle.tg_types.specs.Typing.{fields_in, fields_of, element_type_in, element_of, placed, are_fields}
 use Rattle.tg_types.specs.Kinds.{record_byte, array_byte}
 use Rattle.tg_types.specs.Shapes.{fields_in_shape, element_in_shape}
 use Rattle.tg_types.specs.Selections.{init_count}
@@ -23,12 +23,12 @@ unfolding refuse
 not_record (record_type b) at n e = grind arith
 not_record _ at n e = refl
 
-pub of_shape : (t : Ty) (at byte : ℕ) (o : Option Shape) (n : Noted) → Some byte ≡ record_byte t → o ≡ named byte n.shapes →
+pub of_shape : (t : Ty) (at byte : ℕ) (o : Option Shape) (n : Noted) → Some byte ≡ record_byte t → o ≡ looked_up byte n.shapes →
     fields_of t at n ≡ fields_in o at n
 unfolding ◌>>=◌ shape_at
 of_shape (record_type b) at byte o n e d =
     let i : byte ≡ b = grind arith in
-    ap (λ s. fields_in s at n) (ap (λ x. named x n.shapes) (sym i) ∙ sym d)
+    ap (λ s. fields_in s at n) (ap (λ x. looked_up x n.shapes) (sym i) ∙ sym d)
 of_shape _ at byte o n e d = grind arith
 
 pub no_shape : (at : ℕ) (n : Noted) → fields_in None at n ≡ fault T7 at
@@ -51,24 +51,24 @@ unfolding refuse
 not_array (array_type b) at n e = grind arith
 not_array _ at n e = refl
 
-pub of_array : (t : Ty) (at byte : ℕ) (o : Option Shape) (n : Noted) → Some byte ≡ array_byte t → o ≡ named byte n.shapes →
-    element_of t at n ≡ element_in o at n
+pub of_array : (t : Ty) (at byte : ℕ) (o : Option Shape) (n : Noted) → Some byte ≡ array_byte t → o ≡ looked_up byte n.shapes →
+    element_of t at n ≡ element_type_in o at n
 unfolding ◌>>=◌ shape_at
 of_array (array_type b) at byte o n e d =
     let i : byte ≡ b = grind arith in
-    ap (λ s. element_in s at n) (ap (λ x. named x n.shapes) (sym i) ∙ sym d)
+    ap (λ s. element_type_in s at n) (ap (λ x. looked_up x n.shapes) (sym i) ∙ sym d)
 of_array _ at byte o n e d = grind arith
 
-pub no_array : (at : ℕ) (n : Noted) → element_in None at n ≡ fault T9 at
+pub no_array : (at : ℕ) (n : Noted) → element_type_in None at n ≡ fault T9 at
 unfolding refuse
 no_array at n = refl
 
-pub element_is : (s : Shape) (at : ℕ) (n : Noted) (t : Ty) → Some t ≡ element_in_shape s → element_in (Some s) at n ≡ fine t n
+pub element_is : (s : Shape) (at : ℕ) (n : Noted) (t : Ty) → Some t ≡ element_in_shape s → element_type_in (Some s) at n ≡ fine t n
 unfolding give
 element_is (array_shape u) at n t e = ap (λ o. elim o [ Some v ↦ fine v n | None ↦ fine t n ]) (sym e)
 element_is (record_shape gs) at n t e = grind arith
 
-pub element_not : (s : Shape) (at : ℕ) (n : Noted) → None ≡ element_in_shape s → element_in (Some s) at n ≡ fault T9 at
+pub element_not : (s : Shape) (at : ℕ) (n : Noted) → None ≡ element_in_shape s → element_type_in (Some s) at n ≡ fault T9 at
 unfolding refuse
 element_not (array_shape u) at n e = grind arith
 element_not (record_shape gs) at n e = refl
@@ -82,10 +82,10 @@ apart true from t p k o f j u h i =
     ap (λ z. Some (z, t)) x ∙ ap (λ z. Some (j, z)) y
 apart false from t p k o f j u h i = f j u h i
 
-pub placed_is : (x from : ℕ) (fs : List (ℕ × Ty)) (j : ℕ) (u : Ty) → placed_at x from fs ≡ Some j → named x fs ≡ Some u → placed x from fs ≡ Some (j, u)
+pub placed_is : (x from : ℕ) (fs : List (ℕ × Ty)) (j : ℕ) (u : Ty) → placed_at x from fs ≡ Some j → looked_up x fs ≡ Some u → placed x from fs ≡ Some (j, u)
 placed_is x from [] j u h i = grind arith
 placed_is x from (f ∷ fs) j u h i =
-    apart (f.0 == x) from f.1 (placed x (suc from) fs) (placed_at x (suc from) fs) (named x fs) (placed_is x (suc from) fs) j u h i
+    apart (f.0 == x) from f.1 (placed x (suc from) fs) (placed_at x (suc from) fs) (looked_up x fs) (placed_is x (suc from) fs) j u h i
 
 none_apart : (b : Bool) (from : ℕ) (t : Ty) (p : Option (ℕ × Ty)) (k : Option ℕ) → (k ≡ None → p ≡ None) → (if b then Some from else k) ≡ None →
     (if b then Some (from, t) else p) ≡ None
@@ -101,9 +101,9 @@ both_none : (b : Bool) (from : ℕ) (t : Ty) (k : Option ℕ) (o : Option Ty) �
 both_none true from t k o f h = grind arith
 both_none false from t k o f h = f h
 
-pub named_not : (x from : ℕ) (fs : List (ℕ × Ty)) → named x fs ≡ None → placed_at x from fs ≡ None
+pub named_not : (x from : ℕ) (fs : List (ℕ × Ty)) → looked_up x fs ≡ None → placed_at x from fs ≡ None
 named_not x from [] h = refl
-named_not x from (f ∷ fs) h = both_none (f.0 == x) from f.1 (placed_at x (suc from) fs) (named x fs) (named_not x (suc from) fs) h
+named_not x from (f ∷ fs) h = both_none (f.0 == x) from f.1 (placed_at x (suc from) fs) (looked_up x fs) (named_not x (suc from) fs) h
 
 pub present_is : {A : Type 0} (rule : TypeRule) (at : ℕ) (n : Noted) {o : Option A} {a : A} → o ≡ Some a → present rule at o n ≡ fine a n
 unfolding give

@@ -9,7 +9,8 @@ use Rattle.tg_semantics.specs.Environments.{function_named}
 use Rattle.tg_types.specs.declared.faults.TypeRule.{TypeRule}
 use Rattle.tg_types.specs.Types.{Ty, none_type, same}
 use Rattle.tg_types.specs.Checks.{Noted, fine}
-use Rattle.tg_types.specs.Scopes.{Signature, Scope, name_of, at_of}
+use Rattle.tg_semantics.specs.Environments.{name_of}
+use Rattle.tg_types.specs.Scopes.{Signature, Scope, at_of}
 use Rattle.tg_types.specs.Groups.{stands_in, no_repeats, declare_types, known_fields, known_form, known_forms, names_of, chains_end, with_group}
 use Rattle.tg_types.specs.Groups.{type_at_end, chain_of, add_form, add_forms, function_names, param_types, result_type, headers}
 use Rattle.tg_types.specs.Typing.{body_fits, own_type, assignable}

@@ -23,10 +23,11 @@ use Rattle.tg_syntax.specs.NamesWithin.{TypesWithin, FormWithin, ParamsWithin, N
 use Rattle.tg_types.specs.declared.faults.TypeRule.{TypeRule}
 use Rattle.tg_types.specs.declared.faults.TypeRule.TheVariants.{T16, T18, T19}
 use Rattle.tg_types.specs.Checks.{Check, Noted, fine, keep, give, refuse, add_shape, ◌>>=◌}
-use Rattle.tg_types.specs.Scopes.{Scope, name_of, at_of, standard_bindings, standard_types}
+use Rattle.tg_semantics.specs.Environments.{name_of}
+use Rattle.tg_types.specs.Scopes.{Scope, at_of, standard_bindings, standard_types}
 use Rattle.tg_types.specs.Types.{Ty, Shape}
 use Rattle.tg_types.specs.Groups as groups
-use Rattle.tg_types.specs.Groups.{stands_in, no_repeats, names_of, known, known_form, known_forms, known_fields, endless, ends_at, chain_of, has_end}
+use Rattle.tg_types.specs.Groups.{stands_in, no_repeats, names_of, known_name, known_form, known_forms, known_fields, endless, ends_at, chain_of, has_end}
 use Rattle.tg_types.specs.Groups.{chains_end, type_at_end, with_group, add_form, add_forms}
 use Rattle.tg_types.specs.Declaring.{HasPlaces, HasNames, place_in, AreDifferent, chain_from, ChainWithin, named_types}
 use Rattle.tg_types.specs.declared.states.CheckingState.{CheckingState}
@@ -268,7 +269,7 @@ pub fields_one : {S : Type 0} {T : Type 0} {names : List (List ℕ)} {s : Checki
     {ps : List Param} {k : ℕ} (a : FieldsOn names s places seen ps k) → k < length ps →
     ((n : Noted) → keep T18 (field_at ps k).name.span.from (not (stands_in (field_at ps k).name.name.0 a.earlier)) n ≡ fine tt n) →
     ((whole : List TypeDec) (scope : Scope) (in_loop : Bool) → HasPlaces places whole → scope ≡ scope_of names s in_loop → (n : Noted) →
-    known whole scope (field_at ps k).kind n ≡ fine tt n) → HasNames next ((field_at ps k).name ∷ a.earlier) → FieldsOn names s places next ps (k + 1)
+    known_name whole scope (field_at ps k).kind n ≡ fine tt n) → HasNames next ((field_at ps k).name ∷ a.earlier) → FieldsOn names s places next ps (k + 1)
 fields_one {ps = ps} {k = k} a l g f h = record {
   earlier = (field_at ps k).name ∷ a.earlier;
   has = h;
@@ -291,7 +292,7 @@ pub fields_unknown : {S : Type 0} {T : Type 0} {names : List (List ℕ)} {s : Ch
     {e : Faulty TypeRule ℕ} (a : FieldsOn names s places seen ps k) → k < length ps →
     ((n : Noted) → keep T18 (field_at ps k).name.span.from (not (stands_in (field_at ps k).name.name.0 a.earlier)) n ≡ fine tt n) →
     ((whole : List TypeDec) (scope : Scope) (in_loop : Bool) → HasPlaces places whole → scope ≡ scope_of names s in_loop → (n : Noted) →
-    Fails e (known whole scope (field_at ps k).kind n)) → (whole : List TypeDec) (scope : Scope) (in_loop : Bool) → HasPlaces places whole →
+    Fails e (known_name whole scope (field_at ps k).kind n)) → (whole : List TypeDec) (scope : Scope) (in_loop : Bool) → HasPlaces places whole →
     scope ≡ scope_of names s in_loop → (n : Noted) → Fails e (known_fields whole scope [] ps n)
 fields_unknown {ps = ps} {k = k} a l g f whole scope in_loop p e n =
     last_fails (a.onward whole scope in_loop p e n ∙ fields_here whole scope a.earlier ps k n l)

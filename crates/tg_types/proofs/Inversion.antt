@@ -9,11 +9,12 @@ use Rattle.tg_types.specs.declared.notes.Means.{Means}
 use Rattle.tg_types.specs.declared.notes.Means.TheVariants as means
 use Rattle.tg_types.specs.declared.notes.Note.{Note}
 use Rattle.tg_types.specs.Types.{Ty, int_type, string_type, nil_type, none_type, record_type, array_type, Shape, record_shape, array_shape, are_nil}
-use Rattle.tg_types.specs.Types.{has_order, same, is_nil_for, fits, alike, joined}
-use Rattle.tg_symbols.specs.Tables.{named}
+use Rattle.tg_types.specs.Types.{has_order, same, is_nil_for, fits, alike, joined_type}
+use Rattle.tg_symbols.specs.Tables.{looked_up}
 use Rattle.tg_types.specs.Checks.{Noted, CheckResult, fine, fault, Check, on_fine, ◌>>=◌, give, refuse, keep, present, note, shape_at, add_shape}
-use Rattle.tg_types.specs.Scopes.{Signature, Binding, variable_at, function_at, standard_one, name_of, at_of}
-use Rattle.tg_types.specs.Typing.{expect, expect_none, variable_of, function_of, fields_in, fields_of, element_in, element_of, placed, select}
+use Rattle.tg_semantics.specs.Environments.{name_of}
+use Rattle.tg_types.specs.Scopes.{Signature, Binding, variable_at, function_at, standard_one, at_of}
+use Rattle.tg_types.specs.Typing.{expect, expect_none, variable_of, function_of, fields_in, fields_of, element_type_in, element_of, placed, select}
 use Rattle.tg_types.specs.Typing.{ordered, equated, left_side, equal_sides, right_side}
 use Rattle.std.proofs.lemmas.Bool.{eqb-true}
 use Rattle.tg_types.specs.Has.{Fits, the_same, nil_for, Alike, records, arrays, nil_and, and_nil, Compares, Identifies, Callee, declared, standard}
@@ -68,7 +69,7 @@ pub shape_added : (at : ℕ) (s : Shape) (x : Unit {0}) (g h : Noted) → add_sh
 unfolding add_shape
 shape_added at s x g h e = cc
 
-pub shape_found : (at : ℕ) (o : Option Shape) (g h : Noted) → shape_at at g ≡ fine o h → (named at g.shapes ≡ o) × (g ≡ h)
+pub shape_found : (at : ℕ) (o : Option Shape) (g h : Noted) → shape_at at g ≡ fine o h → (looked_up at g.shapes ≡ o) × (g ≡ h)
 unfolding shape_at
 shape_found at o g h e = (cc, cc)
 
@@ -118,7 +119,7 @@ or_false true e = refl
 or_false false e = cc
 
 -- both arms fit what the whole is
-pub arms_fit : (t u : Ty) → alike t u ≡ true → Fits t (joined t u) × Fits u (joined t u)
+pub arms_fit : (t u : Ty) → alike t u ≡ true → Fits t (joined_type t u) × Fits u (joined_type t u)
 arms_fit int_type int_type e = (the_same, the_same)
 arms_fit string_type string_type e = (the_same, the_same)
 arms_fit nil_type nil_type e = (the_same, the_same)
@@ -267,39 +268,39 @@ fields_in_got (Some (array_shape t)) at fs g h e = absurd (refused _ _ _ _ _ e)
 fields_in_got (Some (record_shape gs)) at fs g h e = let p = given _ _ _ _ e in (ap (λ y. Some (record_shape y)) p.0, p.1)
 
 pub fields_got : (t : Ty) (at : ℕ) (fs : List (ℕ × Ty)) (g h : Noted) → fields_of t at g ≡ fine fs h →
-    (byte : ℕ) × (t ≡ record_type byte) × (named byte h.shapes ≡ Some (record_shape fs)) × (g ≡ h)
+    (byte : ℕ) × (t ≡ record_type byte) × (looked_up byte h.shapes ≡ Some (record_shape fs)) × (g ≡ h)
 fields_got (record_type byte) at fs g h e =
     let p = steps e in
     let q = shape_found _ _ _ _ p.first in
     let r = fields_in_got _ _ _ _ _ p.onward in
-    (byte, refl, ap (λ y. named byte y.shapes) (sym (q.1 ∙ r.1)) ∙ q.0 ∙ r.0, q.1 ∙ r.1)
+    (byte, refl, ap (λ y. looked_up byte y.shapes) (sym (q.1 ∙ r.1)) ∙ q.0 ∙ r.0, q.1 ∙ r.1)
 fields_got _ at fs g h e = absurd (refused _ _ _ _ _ e)
 
-element_in_got : (o : Option Shape) (at : ℕ) (t : Ty) (g h : Noted) → element_in o at g ≡ fine t h → (o ≡ Some (array_shape t)) × (g ≡ h)
+element_in_got : (o : Option Shape) (at : ℕ) (t : Ty) (g h : Noted) → element_type_in o at g ≡ fine t h → (o ≡ Some (array_shape t)) × (g ≡ h)
 element_in_got None at t g h e = absurd (refused _ _ _ _ _ e)
 element_in_got (Some (record_shape fs)) at t g h e = absurd (refused _ _ _ _ _ e)
 element_in_got (Some (array_shape u)) at t g h e = let p = given _ _ _ _ e in (ap (λ y. Some (array_shape y)) p.0, p.1)
 
 pub element_got : (t : Ty) (at : ℕ) (u : Ty) (g h : Noted) → element_of t at g ≡ fine u h →
-    (byte : ℕ) × (t ≡ array_type byte) × (named byte h.shapes ≡ Some (array_shape u)) × (g ≡ h)
+    (byte : ℕ) × (t ≡ array_type byte) × (looked_up byte h.shapes ≡ Some (array_shape u)) × (g ≡ h)
 element_got (array_type byte) at u g h e =
     let p = steps e in
     let q = shape_found _ _ _ _ p.first in
     let r = element_in_got _ _ _ _ _ p.onward in
-    (byte, refl, ap (λ y. named byte y.shapes) (sym (q.1 ∙ r.1)) ∙ q.0 ∙ r.0, q.1 ∙ r.1)
+    (byte, refl, ap (λ y. looked_up byte y.shapes) (sym (q.1 ∙ r.1)) ∙ q.0 ∙ r.0, q.1 ∙ r.1)
 element_got _ at u g h e = absurd (refused _ _ _ _ _ e)
 
-placed_named : (f from : ℕ) (fs : List (ℕ × Ty)) (found : ℕ × Ty) → placed f from fs ≡ Some found → named f fs ≡ Some found.1
+placed_named : (f from : ℕ) (fs : List (ℕ × Ty)) (found : ℕ × Ty) → placed f from fs ≡ Some found → looked_up f fs ≡ Some found.1
 placed_named f from [] found e = cc
 placed_named f from (field ∷ rest) found e = by (field.0 == f) (placed_named f (suc from) rest found) e
   where
-    by : (c : Bool) → (placed f (suc from) rest ≡ Some found → named f rest ≡ Some found.1) →
-        (if c then Some (from, field.1) else placed f (suc from) rest) ≡ Some found → (if c then Some field.1 else named f rest) ≡ Some found.1
+    by : (c : Bool) → (placed f (suc from) rest ≡ Some found → looked_up f rest ≡ Some found.1) →
+        (if c then Some (from, field.1) else placed f (suc from) rest) ≡ Some found → (if c then Some field.1 else looked_up f rest) ≡ Some found.1
     by true r e = let k : (from, field.1) ≡ found = cc in ap (λ y. Some y.1) k
     by false r e = r e
 
 pub selected : (fs : List (ℕ × Ty)) (f : Ident) (t : Ty) (g h : Noted) → select fs f g ≡ fine t h →
-    (k : ℕ) × (named (name_of f) fs ≡ Some t) × (placed (name_of f) 0 fs ≡ Some (k, t)) × (noting (at_of f) (means.Field k) g ≡ h)
+    (k : ℕ) × (looked_up (name_of f) fs ≡ Some t) × (placed (name_of f) 0 fs ≡ Some (k, t)) × (noting (at_of f) (means.Field k) g ≡ h)
 selected fs f t g h e =
     let p = steps e in
     let q = steps p.onward in

@@ -6,7 +6,7 @@ use Rattle.tg_syntax.specs.declared.trees.Exp.{Exp as CodeExp}
 use Rattle.tg_syntax.specs.declared.trees.Kind.{Kind, Nil, If', None'}
 use Rattle.tg_syntax.specs.Plain.{plain, plain_kind}
 use Rattle.tg_syntax.specs.Spans.{span_of}
-use Rattle.tg_syntax.specs.Measures.{size, capped}
+use Rattle.tg_syntax.specs.Measures.{size, saturated}
 use Rattle.tg_types.specs.declared.faults.TypeRule.{TypeRule}
 use Rattle.tg_types.specs.declared.faults.TypeRule.TheVariants.{T21, T22}
 use Rattle.tg_syntax.specs.Functions.{declared, program_size}
@@ -28,10 +28,10 @@ pub within : (rule : TypeRule) (at n limit : ℕ) (o : Option (TypeRule × ℕ))
 within rule at n limit o h = grind arith
 
 -- a number that is capped above a limit
-pub capped_over : (n limit k : ℕ) → k ≡ capped n → limit < k → limit < n
+pub capped_over : (n limit k : ℕ) → k ≡ saturated n → limit < k → limit < n
 capped_over n limit k e h = omega arith
 
-pub capped_within : (n limit k : ℕ) → k ≡ capped n → k ≤ limit → limit < 4294967295 → n ≤ limit
+pub capped_within : (n limit k : ℕ) → k ≡ saturated n → k ≤ limit → limit < 4294967295 → n ≤ limit
 capped_within n limit k e h l = omega arith
 
 pub fault_parts : (e : CodeExp) → above T22 e.span.from (program_size (plain e)) 32768

@@ -7,10 +7,11 @@ use Rattle.std.specs.Prelude.{codes}
 use Rattle.tg_syntax.specs.declared.tokens.Ident.{Ident}
 use Rattle.tg_syntax.specs.declared.trees.Param.{Param}
 use Rattle.tg_syntax.specs.Tree.{Form, Alias, Fields, Array, TypeDec}
-use Rattle.tg_symbols.specs.Tables.{named}
+use Rattle.tg_symbols.specs.Tables.{looked_up}
 use Rattle.tg_types.specs.Types.{Ty, int_type, string_type, record_type, array_type}
 use Rattle.tg_types.specs.Checks.{Noted, fine}
-use Rattle.tg_types.specs.Scopes.{Scope, name_of, at_of, entry, standard_of, type_of_text, standard_types}
+use Rattle.tg_semantics.specs.Environments.{name_of}
+use Rattle.tg_types.specs.Scopes.{Scope, at_of, entry, standard_of, type_of_text, standard_types}
 use Rattle.tg_types.specs.Groups.{stands_in, is_some, known_fields, known_form, known_forms, names_of, declared_as, Chain, outside, ends_at}
 use Rattle.tg_types.specs.Groups.{endless, link, chain, chain_of, has_end, chains_end, or_none, type_declared, type_at_end, with_group, known_type}
 use Rattle.tg_types.specs.Has.{HasValues, HaveValues, FieldsHaveValues}
@@ -18,12 +19,12 @@ use Rattle.tg_types.proofs.Inversion.{steps, kept, given}
 
 -- of each type that is named here there are values
 abbrev pub NameValues : List (ℕ × Ty) → Type 0
-NameValues types = (x : ℕ) (t : Ty) → named x types ≡ Some t → HasValues t
+NameValues types = (x : ℕ) (t : Ty) → looked_up x types ≡ Some t → HasValues t
 
 one_more : (y : ℕ) (u : Ty) (types : List (ℕ × Ty)) → HasValues u → NameValues types → NameValues ((y, u) ∷ types)
 one_more y u types v vs x t e = by (y == x) e
   where
-    by : (c : Bool) → (if c then Some u else named x types) ≡ Some t → HasValues t
+    by : (c : Bool) → (if c then Some u else looked_up x types) ≡ Some t → HasValues t
     by true e = let same : u ≡ t = cc in subst (λ w. HasValues w) same v
     by false e = vs x t e
 
@@ -45,7 +46,7 @@ standard_values n (text ∷ names) =
 
 -- a group's names are known in it, or outside
 abbrev IsKnown : List TypeDec → Scope → Ident → Type 0
-IsKnown group scope y = (stands_in (name_of y) (names_of group) || is_some (named (name_of y) scope.types)) ≡ true
+IsKnown group scope y = (stands_in (name_of y) (names_of group) || is_some (looked_up (name_of y) scope.types)) ≡ true
 
 abbrev AreFieldsKnown : List TypeDec → Scope → List Param → Type 0
 AreFieldsKnown group scope [] = Unit {0}
@@ -113,10 +114,10 @@ declared_known group scope x (one ∷ ds) d k e = by (name_of one.name == x) (de
     by false r e = r e
 
 -- what is known by name outside has values
-outside_values : (scope : Scope) (x : ℕ) → NameValues scope.types → is_some (named x scope.types) ≡ true → HasValues (or_none (named x scope.types))
-outside_values scope x vs k = by (named x scope.types) refl k
+outside_values : (scope : Scope) (x : ℕ) → NameValues scope.types → is_some (looked_up x scope.types) ≡ true → HasValues (or_none (looked_up x scope.types))
+outside_values scope x vs k = by (looked_up x scope.types) refl k
   where
-    by : (o : Option Ty) → named x scope.types ≡ o → is_some o ≡ true → HasValues (or_none o)
+    by : (o : Option Ty) → looked_up x scope.types ≡ o → is_some o ≡ true → HasValues (or_none o)
     by None e k = cc
     by (Some t) e k = vs x t e
 
@@ -181,13 +182,13 @@ module _ (group : List TypeDec) (scope : Scope) (vs : NameValues scope.types) (k
   names_of_group ends = group_values group scope (λ x e. e) ends vs
 
   -- a name of the group, or of what was known before it, is known behind it
-  known_inside : (ds : List TypeDec) (inner : Scope) (y : ℕ) → (stands_in y (names_of ds) || is_some (named y inner.types)) ≡ true →
-      is_some (named y (with_group group ds scope inner).types) ≡ true
+  known_inside : (ds : List TypeDec) (inner : Scope) (y : ℕ) → (stands_in y (names_of ds) || is_some (looked_up y inner.types)) ≡ true →
+      is_some (looked_up y (with_group group ds scope inner).types) ≡ true
   known_inside [] inner y e = e
   known_inside (d ∷ ds) inner y e =
       let t = type_at_end (chain_of group d.name) scope in
       known_inside ds (record inner { types = (name_of d.name, t) ∷ inner.types }) y
-      (by t (name_of d.name == y) (stands_in y (names_of ds)) (named y inner.types) e)
+      (by t (name_of d.name == y) (stands_in y (names_of ds)) (looked_up y inner.types) e)
     where
       by : (t : Ty) (c b : Bool) (o : Option Ty) → ((c || b) || is_some o) ≡ true → (b || is_some (if c then Some t else o)) ≡ true
       by t true true o e = refl

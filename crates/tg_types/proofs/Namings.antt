@@ -11,9 +11,10 @@ use Rattle.tg_types.specs.declared.faults.TypeRule.{TypeRule}
 use Rattle.tg_types.specs.declared.faults.TypeRule.TheVariants.{T1, T2, T3, T4, T5}
 use Rattle.tg_types.specs.declared.notes.Means.TheVariants as means
 use Rattle.tg_types.specs.Types.{Ty}
-use Rattle.tg_symbols.specs.Tables.{named}
+use Rattle.tg_symbols.specs.Tables.{looked_up}
 use Rattle.tg_types.specs.Checks.{Noted, CheckResult, fine, fault, present, note, give, refuse}
-use Rattle.tg_types.specs.Scopes.{Scope, Binding, Signature, variable_at, function_at, standard_one, signature, bound, name_of, at_of, entry}
+use Rattle.tg_semantics.specs.Environments.{name_of}
+use Rattle.tg_types.specs.Scopes.{Scope, Binding, Signature, variable_at, function_at, standard_one, signature, bound, at_of, entry}
 use Rattle.tg_types.specs.Scopes.{standard_of, type_of_text, standard_bindings, standard_types}
 use Rattle.tg_types.specs.Groups.{type_named}
 use Rattle.tg_types.specs.Typing.{variable_of, function_of, is_loop_variable}
@@ -26,17 +27,17 @@ front : {A : Type 0} (b : Bool) (v w : A) (o p : Option A) → (o ≡ Some w →
 front true v w o p f h = h
 front false v w o p f h = f h
 
-pub named_front : {A : Type 0} (x : ℕ) (a b : List (ℕ × A)) (w : A) → named x a ≡ Some w → named x (a ++ b) ≡ Some w
+pub named_front : {A : Type 0} (x : ℕ) (a b : List (ℕ × A)) (w : A) → looked_up x a ≡ Some w → looked_up x (a ++ b) ≡ Some w
 named_front x [] b w h = grind arith
-named_front x (e ∷ a) b w h = front (e.0 == x) e.1 w (named x a) (named x (a ++ b)) (named_front x a b w) h
+named_front x (e ∷ a) b w h = front (e.0 == x) e.1 w (looked_up x a) (looked_up x (a ++ b)) (named_front x a b w) h
 
 behind : {A : Type 0} (b : Bool) (v : A) (o p q : Option A) → (o ≡ None → p ≡ q) → (if b then Some v else o) ≡ None → (if b then Some v else p) ≡ q
 behind true v o p q f h = grind arith
 behind false v o p q f h = f h
 
-pub named_behind : {A : Type 0} (x : ℕ) (a b : List (ℕ × A)) → named x a ≡ None → named x (a ++ b) ≡ named x b
+pub named_behind : {A : Type 0} (x : ℕ) (a b : List (ℕ × A)) → looked_up x a ≡ None → looked_up x (a ++ b) ≡ looked_up x b
 named_behind x [] b h = refl
-named_behind x (e ∷ a) b h = behind (e.0 == x) e.1 (named x a) (named x (a ++ b)) (named x b) (named_behind x a b) h
+named_behind x (e ∷ a) b h = behind (e.0 == x) e.1 (looked_up x a) (looked_up x (a ++ b)) (looked_up x b) (named_behind x a b) h
 
 -- names outside
 apart : (n x : ℕ) → x < n → (n == x) ≡ false
@@ -45,27 +46,28 @@ apart n x h = grind arith
 later : (n x : ℕ) → n < x → (n == x) ≡ false
 later n x h = grind arith
 
-entry_there : {A B : Type 0} (f : A → B) (n x : ℕ) (o : Option A) (rest : List (ℕ × B)) → (n == x) ≡ false → named x (entry f n o ++ rest) ≡ named x rest
+entry_there : {A B : Type 0} (f : A → B) (n x : ℕ) (o : Option A) (rest : List (ℕ × B)) → (n == x) ≡ false →
+    looked_up x (entry f n o ++ rest) ≡ looked_up x rest
 entry_there f n x None rest h = refl
-entry_there f n x (Some a) rest h = ap (λ b. if b then Some (f a) else named x rest) h
+entry_there f n x (Some a) rest h = ap (λ b. if b then Some (f a) else looked_up x rest) h
 
-entry_here : {A B : Type 0} (f : A → B) (n x : ℕ) (o : Option A) (rest : List (ℕ × B)) → (n == x) ≡ true → named x rest ≡ None →
-    named x (entry f n o ++ rest) ≡ option_map f o
+entry_here : {A B : Type 0} (f : A → B) (n x : ℕ) (o : Option A) (rest : List (ℕ × B)) → (n == x) ≡ true → looked_up x rest ≡ None →
+    looked_up x (entry f n o ++ rest) ≡ option_map f o
 entry_here f n x None rest h d = d
-entry_here f n x (Some a) rest h d = ap (λ b. if b then Some (f a) else named x rest) h
+entry_here f n x (Some a) rest h d = ap (λ b. if b then Some (f a) else looked_up x rest) h
 
-no_binding : (n x : ℕ) (names : List (List ℕ)) → x < n → named x (standard_bindings n names) ≡ None
+no_binding : (n x : ℕ) (names : List (List ℕ)) → x < n → looked_up x (standard_bindings n names) ≡ None
 no_binding n x [] h = refl
 no_binding n x (t ∷ names) h =
     entry_there standard_one n x (standard_of t standards) (standard_bindings (suc n) names) (apart n x h) ∙ no_binding (suc n) x names (omega (arith, h))
 
-no_type : (n x : ℕ) (names : List (List ℕ)) → x < n → named x (standard_types n names) ≡ None
+no_type : (n x : ℕ) (names : List (List ℕ)) → x < n → looked_up x (standard_types n names) ≡ None
 no_type n x [] h = refl
 no_type n x (t ∷ names) h =
     entry_there (λ t. t) n x (type_of_text t) (standard_types (suc n) names) (apart n x h) ∙ no_type (suc n) x names (omega (arith, h))
 
 binding_from : (n k x : ℕ) (names : List (List ℕ)) (text : List ℕ) → x ≡ n + k → slice_get names k ≡ Some text →
-    named x (standard_bindings n names) ≡ option_map standard_one (standard_of text standards)
+    looked_up x (standard_bindings n names) ≡ option_map standard_one (standard_of text standards)
 binding_from n k x [] text e h = grind arith
 binding_from n zero x (t ∷ names) text e h =
     entry_here standard_one n x (standard_of t standards) (standard_bindings (suc n) names) (eq-eqb n x (omega (arith, e)))
@@ -75,7 +77,7 @@ binding_from n (suc k) x (t ∷ names) text e h =
     (suc n) k x names text (omega (arith, e)) h
 
 type_from : (n k x : ℕ) (names : List (List ℕ)) (text : List ℕ) → x ≡ n + k → slice_get names k ≡ Some text →
-    named x (standard_types n names) ≡ option_map (λ t. t) (type_of_text text)
+    looked_up x (standard_types n names) ≡ option_map (λ t. t) (type_of_text text)
 type_from n k x [] text e h = grind arith
 type_from n zero x (t ∷ names) text e h =
     entry_here (λ t. t) n x (type_of_text t) (standard_types (suc n) names) (eq-eqb n x (omega (arith, e))) (no_type (suc n) x names (omega (arith, e))) ∙ ap
@@ -89,36 +91,36 @@ same_option None = refl
 same_option (Some a) = refl
 
 pub binding_outside : (x : ℕ) (names : List (List ℕ)) (text : List ℕ) → slice_get names x ≡ Some text →
-    named x (standard_bindings 0 names) ≡ option_map standard_one (standard_of text standards)
+    looked_up x (standard_bindings 0 names) ≡ option_map standard_one (standard_of text standards)
 binding_outside x names text h = binding_from 0 x x names text (omega arith) h
 
-pub type_outside : (x : ℕ) (names : List (List ℕ)) (text : List ℕ) → slice_get names x ≡ Some text → named x (standard_types 0 names) ≡ type_of_text text
+pub type_outside : (x : ℕ) (names : List (List ℕ)) (text : List ℕ) → slice_get names x ≡ Some text → looked_up x (standard_types 0 names) ≡ type_of_text text
 type_outside x names text h = type_from 0 x x names text (omega arith) h ∙ same_option (type_of_text text)
 
 -- types by their names
-pub type_is : (x : Ident) (scope : Scope) {types : List (ℕ × Ty)} {t : Ty} {n : Noted} → scope.types ≡ types → Some t ≡ named (name_of x) types →
+pub type_is : (x : Ident) (scope : Scope) {types : List (ℕ × Ty)} {t : Ty} {n : Noted} → scope.types ≡ types → Some t ≡ looked_up (name_of x) types →
     type_named x scope n ≡ fine t n
 unfolding give
-type_is x _ {n = n} h e = ap (λ ts. present T3 (at_of x) (named (name_of x) ts) n) h ∙ ap (λ o. present T3 (at_of x) o n) (sym e)
+type_is x _ {n = n} h e = ap (λ ts. present T3 (at_of x) (looked_up (name_of x) ts) n) h ∙ ap (λ o. present T3 (at_of x) o n) (sym e)
 
-pub type_unknown : (x : Ident) (scope : Scope) {types : List (ℕ × Ty)} (n : Noted) → scope.types ≡ types → None ≡ named (name_of x) types →
+pub type_unknown : (x : Ident) (scope : Scope) {types : List (ℕ × Ty)} (n : Noted) → scope.types ≡ types → None ≡ looked_up (name_of x) types →
     type_named x scope n ≡ fault T3 (at_of x)
 unfolding refuse
-type_unknown x _ n h e = ap (λ ts. present T3 (at_of x) (named (name_of x) ts) n) h ∙ ap (λ o. present T3 (at_of x) o n) (sym e)
+type_unknown x _ n h e = ap (λ ts. present T3 (at_of x) (looked_up (name_of x) ts) n) h ∙ ap (λ o. present T3 (at_of x) o n) (sym e)
 
 pub bad_is : {A : Type 0} {rule : TypeRule} {at : ℕ} {e : Faulty TypeRule ℕ} {c : CheckResult A} → e ≡ Bad rule at → c ≡ fault rule at → Fails e c
 bad_is {c = c} h d = subst (λ e. Fails e c) (sym h) (bad d)
 
 -- bindings by their names
 pub bound_open : (x : Ident) (scope : Scope) (bindings : List (ℕ × Binding)) (outer : List (ℕ × Binding)) {b : Binding} → scope.bindings ≡ bindings ++ outer →
-    Some b ≡ named (name_of x) bindings → bound x scope ≡ Some b
-bound_open x _ _ _ h e = ap (λ bs. named (name_of x) bs) h ∙ named_front (name_of x) _ _ _ (sym e)
+    Some b ≡ looked_up (name_of x) bindings → bound x scope ≡ Some b
+bound_open x _ _ _ h e = ap (λ bs. looked_up (name_of x) bs) h ∙ named_front (name_of x) _ _ _ (sym e)
 
 pub bound_outside : (x : Ident) (scope : Scope) (bindings : List (ℕ × Binding)) (names : List (List ℕ)) {text : List ℕ} {o : Option Standard} →
-    scope.bindings ≡ bindings ++ standard_bindings 0 names → None ≡ named (name_of x) bindings → slice_get names (name_of x) ≡ Some text →
+    scope.bindings ≡ bindings ++ standard_bindings 0 names → None ≡ looked_up (name_of x) bindings → slice_get names (name_of x) ≡ Some text →
     o ≡ standard_of text standards → bound x scope ≡ option_map standard_one o
 bound_outside x _ _ names {text = text} h e g d =
-    ap (λ bs. named (name_of x) bs) h ∙ (named_behind (name_of x) _ _ (sym e)
+    ap (λ bs. looked_up (name_of x) bs) h ∙ (named_behind (name_of x) _ _ (sym e)
     ∙ (binding_outside (name_of x) names text g ∙ ap (λ o. option_map standard_one o) (sym d)))
 
 inside : {A : Type 0} → A → Option A → A

@@ -4,9 +4,9 @@ use Rattle.tg_syntax.specs.Tree.{Exp}
 use Rattle.tg_syntax.specs.Beginnings.{BeginsApart}
 use Rattle.tg_simulation.specs.Outcomes.{stuck}
 use Rattle.tg_semantics.specs.Direct.{evaluate}
-use Rattle.tg_semantics.specs.Environments.{outermost as entries_of}
+use Rattle.tg_semantics.specs.Environments.{outermost_entries as entries_of}
 use Rattle.tg_types.specs.declared.notes.Note.{Note}
-use Rattle.tg_types.specs.Scopes.{outermost}
+use Rattle.tg_types.specs.Scopes.{outermost_scope}
 use Rattle.tg_types.specs.Accepted.{finding, accepted}
 use Rattle.tg_types.specs.Derivations.{Derivation}
 use Rattle.tg_types.specs.Laws.{IsNeverStuck}
@@ -16,7 +16,7 @@ use Rattle.tg_types.proofs.SoundDirect.{typed_not_stuck, sees_outermost}
 typed_never_stuck : (names : List (List ℕ)) (body : Exp) (notes : List Note) → Derivation names body notes → (input : List ℕ) (heap stack fuel : ℕ) →
     (evaluate names body input heap stack fuel).end ≢ stuck
 typed_never_stuck names body notes d input heap stack fuel =
-    typed_not_stuck d.shapes notes heap stack body (entries_of names) (outermost names) d.type input fuel refl d.has (sees_outermost d.shapes notes 0 names)
+    typed_not_stuck d.shapes notes heap stack body (entries_of names) (outermost_scope names) d.type input fuel refl d.has (sees_outermost d.shapes notes 0 names)
 
 -- a tree whose notes are as they were gathered
 pub accepted_never_stuck : (names : List (List ℕ)) (body : Exp) (notes : List Note) → finding names body ≡ accepted notes → BeginsApart body →

@@ -17,11 +17,13 @@ use Rattle.tg_semantics.specs.Actions.{Actions}
 use Rattle.tg_semantics.specs.Environments.{SourceFunction, Bound, find}
 use Rattle.tg_semantics.specs.Operators.{exact_quotient, is_below, string_less, comparison, identity, field_in, element_in, with_field, with_element}
 use Rattle.tg_semantics.specs.Evaluation as E
-use Rattle.tg_semantics.specs.Evaluation.{Location, in_variable, in_field, in_element, Job, run_function, repeat_while, repeat_for, with_variable, count}
+use Rattle.tg_semantics.specs.Evaluation.{Location, in_variable, in_field, in_element, Job, run_function, repeat_while, repeat_for, with_variable}
+use Rattle.tg_semantics.specs.Evaluation.{function_count}
 use Rattle.std.proofs.lemmas.Bool.{ltb-true}
 use Rattle.tg_types.specs.Types.{Ty, int_type, string_type, none_type, record_type, array_type, Shape, record_shape, array_shape}
-use Rattle.tg_symbols.specs.Tables.{named}
-use Rattle.tg_types.specs.Scopes.{Signature, Binding, variable_at, function_at, Scope, name_of, at_of, binding, in_a_loop, in_no_loop, signature}
+use Rattle.tg_symbols.specs.Tables.{looked_up}
+use Rattle.tg_semantics.specs.Environments.{name_of}
+use Rattle.tg_types.specs.Scopes.{Signature, Binding, variable_at, function_at, Scope, at_of, binding, in_a_loop, in_no_loop, signature}
 use Rattle.tg_types.specs.Groups.{with_functions, with_params}
 use Rattle.tg_types.specs.declared.notes.Note.{Note}
 use Rattle.tg_types.specs.Has as Has
@@ -58,9 +60,10 @@ module _ (shapes : List (ℕ × Shape)) (notes : List Note) where
   -- a location with its type; an element stands within its array
   pub data IsLocation (s : Worlds.Stores) : Location → Ty → Type 0 where
     at_variable : {place : ℕ} {t : Ty} → slice_get s.vars place ≡ Some t → IsLocation s (in_variable place) t
-    at_field : {r f : ℕ} {t : Ty} (at : ℕ) (fs : List (ℕ × Ty)) → slice_get s.objs r ≡ Some (Worlds.record_of at) → named at shapes ≡ Some (record_shape fs) →
-        named f fs ≡ Some t → IsLocation s (in_field r f) t
-    at_element : {r i : ℕ} {t : Ty} (at n : ℕ) → slice_get s.objs r ≡ Some (Worlds.array_of at n) → named at shapes ≡ Some (array_shape t) → i < n →
+    at_field : {r f : ℕ} {t : Ty} (at : ℕ) (fs : List (ℕ × Ty)) → slice_get s.objs r ≡ Some (Worlds.record_of at) →
+        looked_up at shapes ≡ Some (record_shape fs) →
+        looked_up f fs ≡ Some t → IsLocation s (in_field r f) t
+    at_element : {r i : ℕ} {t : Ty} (at n : ℕ) → slice_get s.objs r ≡ Some (Worlds.array_of at n) → looked_up at shapes ≡ Some (array_shape t) → i < n →
         IsLocation s (in_element r i) t
 
   pub location_on : (v w : Worlds.Stores) (l : Location) (t : Ty) → Worlds.GrowsTo v w → IsLocation v l t → IsLocation w l t
@@ -193,7 +196,7 @@ module _ (shapes : List (ℕ × Shape)) (notes : List Note) where
       variable_kept s b _ at t loop (Worlds.means_variable {level} {place} e) = L.gives s b Location (λ w l. IsLocation w l t) _ (at_variable e)
 
       field_kept : (s : Worlds.Stores) (b : Bool) (v : Value) (f at : ℕ) (fs : List (ℕ × Ty)) (t : Ty) → Worlds.IsValue s.objs v (record_type at) →
-          named at shapes ≡ Some (record_shape fs) → named f fs ≡ Some t → S s b Location (λ w l. IsLocation w l t) (E.locate_field Action M v f)
+          looked_up at shapes ≡ Some (record_shape fs) → looked_up f fs ≡ Some t → S s b Location (λ w l. IsLocation w l t) (E.locate_field Action M v f)
       field_kept s b _ f at fs t Worlds.is_nil_record n p = ends
       field_kept s b _ f at fs t (Worlds.is_record e) n p = give (at_field at fs e n p)
 
@@ -206,7 +209,7 @@ module _ (shapes : List (ℕ × Shape)) (notes : List Note) where
           by false false is e = absurd (cc)
 
       within_kept : (s : Worlds.Stores) (b : Bool) (r i at n : ℕ) (t : Ty) (o : Object) → Worlds.IsObject shapes s.objs o (Worlds.array_of at n) →
-          slice_get s.objs r ≡ Some (Worlds.array_of at n) → named at shapes ≡ Some (array_shape t) →
+          slice_get s.objs r ≡ Some (Worlds.array_of at n) → looked_up at shapes ≡ Some (array_shape t) →
           S s b Location (λ w l. IsLocation w l t) (E.locate_within Action M r i o)
       within_kept s b r i at n t _ (Worlds.as_array {at = _} {count = _} {values} u e len vs) p q =
           by (is_below i (length values)) refl
@@ -217,7 +220,8 @@ module _ (shapes : List (ℕ × Shape)) (notes : List Note) where
           by false is = ends
 
       element_kept : (s : Worlds.Stores) (b : Bool) (v i : Value) (at : ℕ) (t : Ty) → Worlds.IsValue s.objs v (array_type at) →
-          Worlds.IsValue s.objs i int_type → named at shapes ≡ Some (array_shape t) → S s b Location (λ w l. IsLocation w l t) (E.locate_element Action M v i)
+          Worlds.IsValue s.objs i int_type → looked_up at shapes ≡ Some (array_shape t) →
+          S s b Location (λ w l. IsLocation w l t) (E.locate_element Action M v i)
       element_kept s b _ _ at t (Worlds.is_array {r} n e) (Worlds.is_int {n = i}) q =
           onward (L.objects s b r (Worlds.array_of at n) e) λ w g o h. within_kept w b r i at n t o h (g.objs r _ e) q
 
@@ -290,7 +294,7 @@ module _ (shapes : List (ℕ × Shape)) (notes : List Note) where
       left_same op h s b x m t u l p g = onward g λ w k y q. identity_kept op h w b x y t u l (Worlds.value_on s w k x t p) q
 
       -- creation
-      record_kept : (s : Worlds.Stores) (b : Bool) (at : ℕ) (parts : List (ℕ × Value)) (fs : List (ℕ × Ty)) → named at shapes ≡ Some (record_shape fs) →
+      record_kept : (s : Worlds.Stores) (b : Bool) (at : ℕ) (parts : List (ℕ × Value)) (fs : List (ℕ × Ty)) → looked_up at shapes ≡ Some (record_shape fs) →
           Worlds.Each (Worlds.IsPart s.objs) parts fs → S s b Value (a_value (record_type at)) (E.make_record Action M parts)
       record_kept s b at parts fs e ps =
           runtime_kept s b (record_type at) _ λ w g. onward (L.takes w b _) λ v k _ _.
@@ -298,7 +302,7 @@ module _ (shapes : List (ℕ × Shape)) (notes : List Note) where
           (Worlds.object_on shapes s v (Worlds.grows_on s w v g k) (fields parts) (Worlds.record_of at) (Worlds.as_record fs e ps)))
           λ u j r p. give (Worlds.is_record p)
 
-      array_kept : (s : Worlds.Stores) (b : Bool) (at n : ℕ) (v : Value) (t : Ty) → named at shapes ≡ Some (array_shape t) → Worlds.IsValue s.objs v t →
+      array_kept : (s : Worlds.Stores) (b : Bool) (at n : ℕ) (v : Value) (t : Ty) → looked_up at shapes ≡ Some (array_shape t) → Worlds.IsValue s.objs v t →
           S s b Value (a_value (array_type at)) (E.make_array Action M n v)
       array_kept s b at n a t e p =
           runtime_kept s b (array_type at) _ λ w g. chosen w b Value (a_value (array_type at)) (is_negative n) _ _ ends

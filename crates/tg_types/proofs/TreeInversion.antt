@@ -8,9 +8,10 @@ use Rattle.tg_syntax.specs.Tree.{no_functions, function}
 use Rattle.tg_syntax.specs.declared.trees.Param.{Param}
 use Rattle.tg_types.specs.Types.{Ty, int_type, none_type}
 use Rattle.tg_types.specs.Checks.{Noted, Check, fine, ◌>>=◌}
-use Rattle.tg_types.specs.Scopes.{Signature, variable_at, function_at, Scope, name_of, at_of, binding, in_a_loop, in_no_loop}
+use Rattle.tg_semantics.specs.Environments.{name_of}
+use Rattle.tg_types.specs.Scopes.{Signature, variable_at, function_at, Scope, at_of, binding, in_a_loop, in_no_loop}
 use Rattle.tg_types.specs.Groups.{function_names, with_functions, with_params}
-use Rattle.tg_types.specs.Typing.{expect, expect_none, typed, typed_place, typed_last, expect_all, expect_fields, declare, bodies, are_fields, count}
+use Rattle.tg_types.specs.Typing.{expect, expect_none, typed, typed_place, typed_last, expect_all, expect_fields, declare, bodies, are_fields, expression_count}
 use Rattle.tg_types.specs.Has.{Fits, the_same}
 use Rattle.tg_types.proofs.Inversion.{steps, kept, given, presented, fits_int, expected, expected_none, arms_fit, sides, variable_got, callee_got}
 use Rattle.tg_types.proofs.Inversion.{fields_got, element_got, selected}
@@ -184,14 +185,14 @@ mutual
       let k = element_got p.value _ q.value p.between q.between q.first in
       to_place d.0 d.1 (index k.0 (to_place k.1 k.3 (checked_place v scope vs p.value g p.between p.first)) k.2 j.1)
 
-  checked_all : (es : Exps) (ts : List Ty) (scope : Scope) → NameValues scope.types → (y : Unit {0}) (g h : Noted) → count es ≡ length ts →
+  checked_all : (es : Exps) (ts : List Ty) (scope : Scope) → NameValues scope.types → (y : Unit {0}) (g h : Noted) → expression_count es ≡ length ts →
       expect_all es ts scope g ≡ fine y h → CheckedAll es ts scope g h
   checked_all no_exps [] scope vs y g h c e = subst (λ k. CheckedAll no_exps [] scope g k) (given _ _ _ _ e).1 end_args
   checked_all no_exps (t ∷ ts) scope vs y g h c e = cc
   checked_all (exp a rest) [] scope vs y g h c e = cc
   checked_all (exp a rest) (t ∷ ts) scope vs y g h c e =
       let f = fitting _ (checked a scope vs) e in
-      an_arg f.0 f.2 f.3 (checked_all rest ts scope vs y f.1 h (let j : count rest ≡ length ts = cc in j) f.4)
+      an_arg f.0 f.2 f.3 (checked_all rest ts scope vs y f.1 h (let j : expression_count rest ≡ length ts = cc in j) f.4)
 
   checked_inits : (es : Inits) (fs : List (ℕ × Ty)) (scope : Scope) → NameValues scope.types → (y : Unit {0}) (g h : Noted) → are_fields es fs ≡ true →
       expect_fields es fs scope g ≡ fine y h → CheckedInits es fs scope g h

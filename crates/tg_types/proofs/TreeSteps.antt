@@ -28,7 +28,7 @@ use Rattle.tg_types.specs.Types.{Ty, int_type, none_type}
 use Rattle.tg_types.specs.Checks.{Check, Noted, CheckResult, fine, give, on_fine, ◌>>=◌}
 use Rattle.tg_types.specs.Scopes.{Scope, Signature}
 use Rattle.tg_types.specs.Groups.{with_params}
-use Rattle.tg_types.specs.Typing.{start_of, count, expect_all, expect_fields, body_fits, typed, typed_last, declare, bodies}
+use Rattle.tg_types.specs.Typing.{start_of, expression_count, expect_all, expect_fields, body_fits, typed, typed_last, declare, bodies}
 use Rattle.tg_types.specs.Selections.{init_count, function_count}
 use Rattle.tg_types.specs.Trees.{fitting, choice, second_way, idle, one_body, IsAmong}
 use Rattle.tg_syntax.specs.NamesWithin.{NamesWithin, ExpsWithin, InitsWithin, DecsWithin, FunctionsWithin}
@@ -59,12 +59,12 @@ pub index_at : {A : Type 0} (xs : List A) {x : A} {j k : ℕ} → x ≡ get_or x
 index_at xs {x = x} i e = i ∙ ap (λ k. get_or xs k x) e
 
 -- how many there are
-count_of : (es : List CodeExp) → count (exps_of es) ≡ length es
+count_of : (es : List CodeExp) → expression_count (exps_of es) ≡ length es
 count_of [] = refl
 count_of (e ∷ es) = ap suc (count_of es)
 
-pub count_is : (es : CodeExps) → count (plain_exps es) ≡ length (out-Exps es).items.items
-count_is es = ap count (plain_exps-items es) ∙ count_of (out-Exps es).items.items
+pub count_is : (es : CodeExps) → expression_count (plain_exps es) ≡ length (out-Exps es).items.items
+count_is es = ap expression_count (plain_exps-items es) ∙ count_of (out-Exps es).items.items
 
 init_count_of : (is : List CodeInit) → init_count (inits_of is) ≡ length is
 init_count_of [] = refl

@@ -5,12 +5,13 @@ use Rattle.std.specs.Prelude.{slice_get, slice_set, ◌==◌, if◌then◌else�
 use Rattle.std.proofs.lemmas.Bool.{eqb-true}
 use Rattle.tg_syntax.specs.Tree.{FunDecs, function}
 use Rattle.tg_semantics.specs.Values.{Value, int, string, nil, reference, nothing, Object, fields, elements, Entry, variable, group, standard}
-use Rattle.tg_semantics.specs.Values.{SourceWorld, start, add_variable, put_variable, add_object, put_object}
+use Rattle.tg_semantics.specs.Values.{SourceWorld, initial_world, add_variable, put_variable, add_object, put_object}
 use Rattle.tg_semantics.specs.Operators.{get_field, set_field, field_in, element_in, with_field, with_element}
 use Rattle.tg_semantics.specs.Environments.{SourceFunction, Bound, to_variable, to_function, to_standard, function_named, or_beyond, find}
 use Rattle.tg_types.specs.Types.{Ty, int_type, string_type, nil_type, none_type, record_type, array_type, Shape, record_shape, array_shape}
-use Rattle.tg_symbols.specs.Tables.{named}
-use Rattle.tg_types.specs.Scopes.{Signature, Binding, variable_at, function_at, standard_one, Scope, name_of, at_of, binding, in_no_loop}
+use Rattle.tg_symbols.specs.Tables.{looked_up}
+use Rattle.tg_semantics.specs.Environments.{name_of}
+use Rattle.tg_types.specs.Scopes.{Signature, Binding, variable_at, function_at, standard_one, Scope, at_of, binding, in_no_loop}
 use Rattle.tg_types.specs.Groups.{with_functions, with_params}
 use Rattle.tg_types.specs.declared.notes.Note.{Note}
 use Rattle.tg_types.specs.Has.{Fits, the_same, nil_for, Apart, Has, HasBodies, end_bodies, a_body}
@@ -150,13 +151,13 @@ replicate_length zero v = refl
 replicate_length (suc n) v = ap suc (replicate_length n v)
 
 -- the parts of a record
-parts_get : (objs : List Made) (f : ℕ) (t : Ty) (parts : List (ℕ × Value)) (fs : List (ℕ × Ty)) → Each (IsPart objs) parts fs → named f fs ≡ Some t →
+parts_get : (objs : List Made) (f : ℕ) (t : Ty) (parts : List (ℕ × Value)) (fs : List (ℕ × Ty)) → Each (IsPart objs) parts fs → looked_up f fs ≡ Some t →
     (v : Value) × (get_field f parts ≡ Some v) × IsValue objs v t
 parts_get objs f t _ _ no_items e = cc
 parts_get objs f t _ _ (item {a = part} {b = field} {xs = parts} {bs = fs} p ps) e =
-    let h : (b : Bool) → (if b then Some field.1 else named f fs) ≡ Some t →
+    let h : (b : Bool) → (if b then Some field.1 else looked_up f fs) ≡ Some t →
     (v : Value) × ((if b then Some part.1 else get_field f parts) ≡ Some v) × IsValue objs v t =
-    λ b. elim b as (λ b. (if b then Some field.1 else named f fs) ≡ Some t →
+    λ b. elim b as (λ b. (if b then Some field.1 else looked_up f fs) ≡ Some t →
     (v : Value) × ((if b then Some part.1 else get_field f parts) ≡ Some v) × IsValue objs v t) [
       | true ↦ λ e. let same : field.1 ≡ t = cc in (part.1, refl, subst (λ x. IsValue objs part.1 x) same p.1)
       | false ↦ λ e. parts_get objs f t parts fs ps e
@@ -165,12 +166,12 @@ parts_get objs f t _ _ (item {a = part} {b = field} {xs = parts} {bs = fs} p ps)
     subst (λ x. (v : Value) × ((if x == f then Some part.1 else get_field f parts) ≡ Some v) × IsValue objs v t) (sym p.0) at_field
 
 parts_set : (objs : List Made) (f : ℕ) (t : Ty) (v : Value) (parts : List (ℕ × Value)) (fs : List (ℕ × Ty)) → Each (IsPart objs) parts fs →
-    named f fs ≡ Some t → IsValue objs v t → Each (IsPart objs) (set_field f v parts) fs
+    looked_up f fs ≡ Some t → IsValue objs v t → Each (IsPart objs) (set_field f v parts) fs
 parts_set objs f t v _ _ no_items e q = no_items
 parts_set objs f t v _ _ (item {a = part} {b = field} {xs = parts} {bs = fs} p ps) e q =
-    let h : (b : Bool) → (field.0 == f) ≡ b → (if b then Some field.1 else named f fs) ≡ Some t →
+    let h : (b : Bool) → (field.0 == f) ≡ b → (if b then Some field.1 else looked_up f fs) ≡ Some t →
     Each (IsPart objs) (if b then (f, v) ∷ parts else part ∷ set_field f v parts) (field ∷ fs) =
-    λ b. elim b as (λ b. (field.0 == f) ≡ b → (if b then Some field.1 else named f fs) ≡ Some t →
+    λ b. elim b as (λ b. (field.0 == f) ≡ b → (if b then Some field.1 else looked_up f fs) ≡ Some t →
     Each (IsPart objs) (if b then (f, v) ∷ parts else part ∷ set_field f v parts) (field ∷ fs)) [
       | true ↦ λ is e. let same : t ≡ field.1 = cc in item (sym (eqb-true field.0 f is), subst (λ x. IsValue objs v x) same q) ps
       | false ↦ λ is e. item p (parts_set objs f t v parts fs ps e q)
@@ -180,9 +181,9 @@ parts_set objs f t v _ _ (item {a = part} {b = field} {xs = parts} {bs = fs} p p
 module _ (shapes : List (ℕ × Shape)) where
   -- what an object holds, by what it was made as
   pub data IsObject (objs : List Made) : Object → Made → Type 0 where
-    as_record : {at : ℕ} {parts : List (ℕ × Value)} (fs : List (ℕ × Ty)) → named at shapes ≡ Some (record_shape fs) → Each (IsPart objs) parts fs →
+    as_record : {at : ℕ} {parts : List (ℕ × Value)} (fs : List (ℕ × Ty)) → looked_up at shapes ≡ Some (record_shape fs) → Each (IsPart objs) parts fs →
         IsObject objs (fields parts) (record_of at)
-    as_array : {at count : ℕ} {values : List Value} (t : Ty) → named at shapes ≡ Some (array_shape t) → length values ≡ count → All_of objs t values →
+    as_array : {at count : ℕ} {values : List Value} (t : Ty) → looked_up at shapes ≡ Some (array_shape t) → length values ≡ count → All_of objs t values →
         IsObject objs (elements values) (array_of at count)
 
   pub object_on : (w v : Stores) → GrowsTo w v → (o : Object) (k : Made) → IsObject w.objs o k → IsObject v.objs o k
@@ -191,30 +192,30 @@ module _ (shapes : List (ℕ × Shape)) where
   object_on w v g _ _ (as_array {at} {count} {values} t e l vs) = as_array t e l (all_on w v t values g vs)
 
   pub field_there : (objs : List Made) (o : Object) (at f : ℕ) (fs : List (ℕ × Ty)) (t : Ty) → IsObject objs o (record_of at) →
-      named at shapes ≡ Some (record_shape fs) → named f fs ≡ Some t → (v : Value) × (field_in f o ≡ Some v) × IsValue objs v t
+      looked_up at shapes ≡ Some (record_shape fs) → looked_up f fs ≡ Some t → (v : Value) × (field_in f o ≡ Some v) × IsValue objs v t
   field_there objs _ at f fs t (as_record {at = _} {parts} gs e ps) is n =
       let same : fs ≡ gs = cc in
-      parts_get objs f t parts gs ps (subst (λ x. named f x ≡ Some t) same n)
+      parts_get objs f t parts gs ps (subst (λ x. looked_up f x ≡ Some t) same n)
 
   pub field_put : (objs : List Made) (o : Object) (at f : ℕ) (fs : List (ℕ × Ty)) (t : Ty) (v : Value) → IsObject objs o (record_of at) →
-      named at shapes ≡ Some (record_shape fs) → named f fs ≡ Some t → IsValue objs v t → IsObject objs (with_field f v o) (record_of at)
+      looked_up at shapes ≡ Some (record_shape fs) → looked_up f fs ≡ Some t → IsValue objs v t → IsObject objs (with_field f v o) (record_of at)
   field_put objs _ at f fs t v (as_record {at = _} {parts} gs e ps) is n p =
       let same : fs ≡ gs = cc in
-      as_record gs e (parts_set objs f t v parts gs ps (subst (λ x. named f x ≡ Some t) same n) p)
+      as_record gs e (parts_set objs f t v parts gs ps (subst (λ x. looked_up f x ≡ Some t) same n) p)
 
   pub element_there : (objs : List Made) (o : Object) (at count i : ℕ) (t : Ty) → IsObject objs o (array_of at count) →
-      named at shapes ≡ Some (array_shape t) → i < count → (v : Value) × (element_in i o ≡ Some v) × IsValue objs v t
+      looked_up at shapes ≡ Some (array_shape t) → i < count → (v : Value) × (element_in i o ≡ Some v) × IsValue objs v t
   element_there objs _ at count i t (as_array {at = _} {count = _} {values} u e l vs) is lt =
       let same : u ≡ t = cc in
       all_get objs t values i (subst (λ x. All_of objs x values) same vs) (omega (arith, l, lt))
 
   pub element_put : (objs : List Made) (o : Object) (at count i : ℕ) (t : Ty) (v : Value) → IsObject objs o (array_of at count) →
-      named at shapes ≡ Some (array_shape t) → IsValue objs v t → IsObject objs (with_element i v o) (array_of at count)
+      looked_up at shapes ≡ Some (array_shape t) → IsValue objs v t → IsObject objs (with_element i v o) (array_of at count)
   element_put objs _ at count i t v (as_array {at = _} {count = _} {values} u e l vs) is p =
       let same : t ≡ u = cc in
       as_array u e (set_length values i v ∙ l) (all_set objs u values i v vs (subst (λ x. IsValue objs v x) same p))
 
-  pub array_made : (objs : List Made) (at n : ℕ) (t : Ty) (v : Value) → named at shapes ≡ Some (array_shape t) → IsValue objs v t →
+  pub array_made : (objs : List Made) (at n : ℕ) (t : Ty) (v : Value) → looked_up at shapes ≡ Some (array_shape t) → IsValue objs v t →
       IsObject objs (elements (replicate n v)) (array_of at n)
   array_made objs at n t v e p = as_array t e (replicate_length n v) (all_replicate objs t n v p)
 
@@ -224,7 +225,7 @@ module _ (shapes : List (ℕ × Shape)) where
     pub objs : Each (IsObject s.objs) w.objects s.objs
 
   -- nothing is stored yet
-  pub nothing_stored : (input : List ℕ) → IsWorld (record { vars = []; objs = [] }) (start input)
+  pub nothing_stored : (input : List ℕ) → IsWorld (record { vars = []; objs = [] }) (initial_world input)
   nothing_stored input = record { vars = no_items; objs = no_items }
 
   -- nothing is known of input, heap, weight and depth
@@ -315,16 +316,16 @@ module _ (shapes : List (ℕ × Shape)) (notes : List Note) where
   -- a name is one of a group's functions, or stands for the same beyond it
   pub data InGroup (x : ℕ) (fs : FunDecs) (beyond : List (ℕ × Binding)) (inner : Scope) (b : Binding) : Type 0 where
     there : (f : SourceFunction) (s : Signature) (at : ℕ) → function_named x fs ≡ Some f → b ≡ function_at at s → IsTyped f s inner → InGroup x fs beyond inner b
-    not_there : function_named x fs ≡ None → named x beyond ≡ Some b → InGroup x fs beyond inner b
+    not_there : function_named x fs ≡ None → looked_up x beyond ≡ Some b → InGroup x fs beyond inner b
 
   in_group : (x : ℕ) (fs : FunDecs) (ss : List Signature) (scope inner : Scope) (b : Binding) → Apart fs → HasBodies shapes notes fs ss inner →
-      named x (with_functions fs ss scope).bindings ≡ Some b → InGroup x fs scope.bindings inner b
+      looked_up x (with_functions fs ss scope).bindings ≡ Some b → InGroup x fs scope.bindings inner b
   in_group x _ _ scope inner b a end_bodies e = not_there refl e
   in_group x (function f ps r body rest) _ scope inner b a (a_body {s = s} {ss = ss} u l v back h fit hs) e =
       later (in_group x rest ss (binding f (function_at (at_of f) s) scope) inner b a.1 hs e)
     where
       here : (c : Bool) → (name_of f == x) ≡ c → function_named x rest ≡ None →
-          (if c then Some (function_at (at_of f) s) else named x scope.bindings) ≡ Some b → (o : Option SourceFunction) →
+          (if c then Some (function_at (at_of f) s) else looked_up x scope.bindings) ≡ Some b → (o : Option SourceFunction) →
           o ≡ (if c then Some (record { params = ps; body = body }) else function_named x rest) → function_named x (function f ps r body rest) ≡ o →
           InGroup x (function f ps r body rest) scope.bindings inner b
       here true is n e o eo fo =
@@ -350,21 +351,21 @@ module _ (shapes : List (ℕ × Shape)) (notes : List Note) where
   Stands vars x es b = (d : Bound) × (find x es ≡ Some d) × Means vars d b
 
   variable_first : (vars : List Ty) (x level place at : ℕ) (t : Ty) (loop : Bool) (es : List Entry) (bs : List (ℕ × Binding)) (b : Binding) (c : Bool) →
-      slice_get vars place ≡ Some t → (named x bs ≡ Some b → Stands vars x es b) → (if c then Some (variable_at at t loop) else named x bs) ≡ Some b →
+      slice_get vars place ≡ Some t → (looked_up x bs ≡ Some b → Stands vars x es b) → (if c then Some (variable_at at t loop) else looked_up x bs) ≡ Some b →
       (d : Bound) × ((if c then Some (to_variable level place) else find x es) ≡ Some d) × Means vars d b
   variable_first vars x level place at t loop es bs b true p rest e =
       (to_variable level place, refl, let k : variable_at at t loop ≡ b = cc in subst (λ z. Means vars (to_variable level place) z) k (means_variable p))
   variable_first vars x level place at t loop es bs b false p rest e = rest e
 
   standard_first : (vars : List Ty) (x : ℕ) (f : _) (es : List Entry) (bs : List (ℕ × Binding)) (b : Binding) (c : Bool) →
-      (named x bs ≡ Some b → Stands vars x es b) → (if c then Some (standard_one f) else named x bs) ≡ Some b →
+      (looked_up x bs ≡ Some b → Stands vars x es b) → (if c then Some (standard_one f) else looked_up x bs) ≡ Some b →
       (d : Bound) × ((if c then Some (to_standard f) else find x es) ≡ Some d) × Means vars d b
   standard_first vars x f es bs b true rest e =
       (to_standard f, refl, let k : standard_one f ≡ b = cc in subst (λ z. Means vars (to_standard f) z) k means_standard)
   standard_first vars x f es bs b false rest e = rest e
 
   group_first : (vars : List Ty) (x level : ℕ) (fs : FunDecs) (es : List Entry) (ss : List Signature) (scope : Scope) (b : Binding) →
-      Sees vars (group level fs ∷ es) (with_functions fs ss scope).bindings → (named x scope.bindings ≡ Some b → Stands vars x es b) →
+      Sees vars (group level fs ∷ es) (with_functions fs ss scope).bindings → (looked_up x scope.bindings ≡ Some b → Stands vars x es b) →
       InGroup x fs scope.bindings (in_no_loop (with_functions fs ss scope)) b → Stands vars x (group level fs ∷ es) b
   group_first vars x level fs es ss scope b s rest (there f sig at e' k t) = (
     to_function level f (group level fs ∷ es),
@@ -376,7 +377,8 @@ module _ (shapes : List (ℕ × Shape)) (notes : List Note) where
       let p = rest e' in
       (p.0, ap (λ o. or_beyond o level (group level fs ∷ es) (find x es)) n ∙ p.1, p.2)
 
-  pub found : (vars : List Ty) (x : ℕ) (es : List Entry) (bs : List (ℕ × Binding)) (b : Binding) → Sees vars es bs → named x bs ≡ Some b → Stands vars x es b
+  pub found : (vars : List Ty) (x : ℕ) (es : List Entry) (bs : List (ℕ × Binding)) (b : Binding) → Sees vars es bs → looked_up x bs ≡ Some b →
+      Stands vars x es b
   found vars x _ _ b sees_nothing e = cc
   found vars x _ _ b (sees_variable {x = y} {level = level} {place = place} {at = at} {t = t} {loop = loop} {es = es} {bs = bs} p s) e =
       variable_first vars x level place at t loop es bs b (y == x) p (λ e'. found vars x es bs b s e') e

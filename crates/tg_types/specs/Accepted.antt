@@ -5,7 +5,7 @@ use Rattle.tg_types.specs.declared.faults.TypeRule.{TypeRule}
 use Rattle.tg_types.specs.declared.notes.Note.{Note}
 use Rattle.tg_types.specs.Types.{Ty}
 use Rattle.tg_types.specs.Checks.{CheckResult, fine, fault}
-use Rattle.tg_types.specs.Scopes.{outermost}
+use Rattle.tg_types.specs.Scopes.{outermost_scope}
 use Rattle.tg_types.specs.Typing.{typed}
 use Rattle.tg_types.specs.Limits.{limit_fault}
 
@@ -24,4 +24,4 @@ finding_of body (fault rule at) = at_fault rule at
 -- a program's finding, where its identifiers are numbered by this list of names
 abbrev pub finding : (names : List (List ℕ)) → Exp → Finding
 finding names body =
-    finding_of body (typed body (outermost names) (record { shapes = []; notes = [] }))
+    finding_of body (typed body (outermost_scope names) (record { shapes = []; notes = [] }))

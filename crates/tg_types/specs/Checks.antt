@@ -5,7 +5,7 @@ use Rattle.tg_types.specs.declared.faults.TypeRule.{TypeRule}
 use Rattle.tg_types.specs.declared.notes.Note.{Note}
 use Rattle.tg_types.specs.declared.notes.Means.{Means}
 use Rattle.tg_types.specs.Types.{Shape}
-use Rattle.tg_symbols.specs.Tables.{named}
+use Rattle.tg_symbols.specs.Tables.{looked_up}
 
 pub record Noted : Type 0 where
   pub shapes : List (ℕ × Shape)
@@ -50,7 +50,7 @@ note at means =
     λ n. fine tt (record n { notes = n.notes ++ record { at = at; means = means } ∷ [] })
 
 unfoldable pub shape_at : (at : ℕ) → Check (Option Shape)
-shape_at at = λ noted. fine (named at noted.shapes) noted
+shape_at at = λ noted. fine (looked_up at noted.shapes) noted
 
 unfoldable pub add_shape : (at : ℕ) → Shape → Check (Unit {0})
 add_shape at shape = λ noted. fine tt (record noted { shapes = (at, shape) ∷ noted.shapes })

@@ -10,7 +10,7 @@ use Rattle.tg_syntax.specs.declared.tokens.Ident.{Ident}
 use Rattle.tg_syntax.specs.Tree.{Form, TypeDec, Alias, Fields, Array}
 use Rattle.tg_syntax.specs.declared.trees.TypeDec.{TypeDec as CodeTypeDec}
 use Rattle.tg_types.specs.Types.{Ty}
-use Rattle.tg_types.specs.Scopes.{name_of}
+use Rattle.tg_semantics.specs.Environments.{name_of}
 use Rattle.tg_types.specs.Groups.{Chain, outside, ends_at, endless, stands_in}
 use Rattle.tg_types.specs.declared.chains.Chain.{Chain as CodeChain}
 use Rattle.tg_types.specs.declared.chains.Chain.TheVariants.{Outside, EndsAt, Onward}

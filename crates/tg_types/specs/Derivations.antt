@@ -3,7 +3,7 @@ use Rattle.std.specs.Prelude.{◌≡◌, ℕ, List, None}
 use Rattle.tg_syntax.specs.Tree.{Exp}
 use Rattle.tg_types.specs.declared.notes.Note.{Note}
 use Rattle.tg_types.specs.Types.{Ty, Shape}
-use Rattle.tg_types.specs.Scopes.{outermost}
+use Rattle.tg_types.specs.Scopes.{outermost_scope}
 use Rattle.tg_types.specs.Limits.{limit_fault}
 use Rattle.tg_types.specs.Has.{AreApart, ShapesHaveValues, Has}
 
@@ -14,5 +14,5 @@ pub record Derivation (names : List (List ℕ)) (body : Exp) (notes : List Note)
   pub apart : AreApart shapes
   pub formed : ShapesHaveValues shapes
   pub type : Ty
-  pub has : Has shapes notes body (outermost names) type
+  pub has : Has shapes notes body (outermost_scope names) type
   pub limits : limit_fault body ≡ None

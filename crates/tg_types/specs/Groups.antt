@@ -8,9 +8,10 @@ use Rattle.tg_syntax.specs.Tree.{function}
 use Rattle.tg_types.specs.declared.faults.TypeRule.{TypeRule}
 use Rattle.tg_types.specs.declared.faults.TypeRule.TheVariants.{T3, T16, T18, T19}
 use Rattle.tg_types.specs.Types.{Ty, none_type, record_type, array_type, record_shape, array_shape}
-use Rattle.tg_symbols.specs.Tables.{named}
+use Rattle.tg_symbols.specs.Tables.{looked_up}
 use Rattle.tg_types.specs.Checks.{Check, give, keep, present, add_shape, ◌>>=◌, ◌>>◌}
-use Rattle.tg_types.specs.Scopes.{Signature, variable_at, function_at, Scope, name_of, at_of}
+use Rattle.tg_semantics.specs.Environments.{name_of}
+use Rattle.tg_types.specs.Scopes.{Signature, variable_at, function_at, Scope, at_of}
 use Rattle.tg_types.specs.Scopes.{binding}
 
 abbrev pub stands_in : ℕ → List Ident → Bool
@@ -24,7 +25,7 @@ no_repeats rule earlier (x ∷ xs) =
     keep rule (at_of x) (not (stands_in (name_of x) earlier)) >> no_repeats rule (x ∷ earlier) xs
 
 abbrev pub type_named : Ident → Scope → Check Ty
-type_named x scope = present T3 (at_of x) (named (name_of x) scope.types)
+type_named x scope = present T3 (at_of x) (looked_up (name_of x) scope.types)
 
 -- ---- type declarations
 
@@ -41,23 +42,23 @@ is_some (Some a) = true
 is_some None = false
 
 -- a name of the group, or one that is known outside
-abbrev pub known : List TypeDec → Scope → Ident → Check (Unit {0})
-known ds scope x =
+abbrev pub known_name : List TypeDec → Scope → Ident → Check (Unit {0})
+known_name ds scope x =
     keep T3 (at_of x)
-    (stands_in (name_of x) (names_of ds) || is_some (named (name_of x) scope.types))
+    (stands_in (name_of x) (names_of ds) || is_some (looked_up (name_of x) scope.types))
 
 abbrev pub known_fields : List TypeDec → Scope → (earlier : List Ident) → List Param →
     Check (Unit {0})
 known_fields ds scope earlier [] = give tt
 known_fields ds scope earlier (p ∷ ps) = do
   keep T18 (at_of p.name) (not (stands_in (name_of p.name) earlier))
-  known ds scope p.kind
+  known_name ds scope p.kind
   known_fields ds scope (p.name ∷ earlier) ps
 
 abbrev pub known_form : List TypeDec → Scope → Form → Check (Unit {0})
-known_form ds scope (Alias x) = known ds scope x
+known_form ds scope (Alias x) = known_name ds scope x
 known_form ds scope (Fields ps) = known_fields ds scope [] ps
-known_form ds scope (Array x) = known ds scope x
+known_form ds scope (Array x) = known_name ds scope x
 
 abbrev pub known_forms : (group ds : List TypeDec) → Scope → Check (Unit {0})
 known_forms group [] scope = give tt
@@ -105,7 +106,7 @@ type_declared d =
     ]
 
 abbrev pub type_at_end : Chain → Scope → Ty
-type_at_end (outside x) scope = or_none (named x scope.types)
+type_at_end (outside x) scope = or_none (looked_up x scope.types)
 type_at_end (ends_at d) scope = type_declared d
 type_at_end endless scope = none_type
 
@@ -116,7 +117,7 @@ with_group group (d ∷ ds) outer s =
     (record s { types = (name_of d.name, type_at_end (chain_of group d.name) outer) ∷ s.types })
 
 abbrev pub known_type : Scope → Ident → Ty
-known_type scope x = or_none (named (name_of x) scope.types)
+known_type scope x = or_none (looked_up (name_of x) scope.types)
 
 abbrev pub add_form : Scope → (at : ℕ) → Form → Check (Unit {0})
 add_form scope at (Alias x) = give tt

@@ -21,9 +21,10 @@ use Rattle.tg_types.specs.declared.notes.Means.{Means}
 use Rattle.tg_types.specs.declared.notes.Means.TheVariants as means
 use Rattle.tg_types.specs.Types.{Ty, int_type, string_type, nil_type, none_type, record_type}
 use Rattle.tg_types.specs.Types.{array_type, Shape, record_shape, array_shape}
-use Rattle.tg_symbols.specs.Tables.{named}
+use Rattle.tg_symbols.specs.Tables.{looked_up}
 use Rattle.tg_types.specs.Scopes.{Signature, Binding, variable_at, function_at, standard_one, Scope}
-use Rattle.tg_types.specs.Scopes.{name_of, at_of, bound, binding, in_a_loop, in_no_loop, signature}
+use Rattle.tg_semantics.specs.Environments.{name_of}
+use Rattle.tg_types.specs.Scopes.{at_of, bound, binding, in_a_loop, in_no_loop, signature}
 use Rattle.tg_types.specs.Groups.{with_functions, with_params}
 use Rattle.tg_types.specs.Typing.{placed}
 
@@ -80,7 +81,7 @@ Apart (function f _ _ _ rest) = (function_named (name_of f) rest ≡ None) × Ap
 -- no two shapes stand at one byte
 abbrev pub AreApart : List (ℕ × Shape) → Type 0
 AreApart [] = Unit {0}
-AreApart (one ∷ rest) = (named one.0 rest ≡ None) × AreApart rest
+AreApart (one ∷ rest) = (looked_up one.0 rest ≡ None) × AreApart rest
 
 -- there are values of the type: so it is of each variable, parameter, field and element
 abbrev pub HasValues : Ty → Type 0
@@ -152,12 +153,12 @@ module _ (shapes : List (ℕ × Shape)) (notes : List Note) where
           Has (Binary s op at a b) scope int_type
       make :
           {s : Span} {x : Ident} {inits : Inits} {scope : Scope} {at : ℕ} (fs : List (ℕ × Ty)) →
-          named at shapes ≡ Some (record_shape fs) →
+          looked_up at shapes ≡ Some (record_shape fs) →
           HasInits inits fs scope →
           Has (Make s x inits) scope (record_type at)
       fill :
           {s : Span} {x : Ident} {size value : Exp} {scope : Scope} {at : ℕ} (t u : Ty) →
-          named at shapes ≡ Some (array_shape t) →
+          looked_up at shapes ≡ Some (array_shape t) →
           Has size scope int_type →
           Has value scope u →
           Fits u t →
@@ -211,15 +212,15 @@ module _ (shapes : List (ℕ × Shape)) (notes : List Note) where
       field :
           {v : LValue} {f : Ident} {scope : Scope} {t : Ty} (at : ℕ) (fs : List (ℕ × Ty)) (k : ℕ) →
           HasPlace v scope (record_type at) →
-          named at shapes ≡ Some (record_shape fs) →
-          named (name_of f) fs ≡ Some t →
+          looked_up at shapes ≡ Some (record_shape fs) →
+          looked_up (name_of f) fs ≡ Some t →
           placed (name_of f) 0 fs ≡ Some (k, t) →
           Says notes (at_of f) (means.Field k) →
           HasPlace (Field v f) scope t
       index :
           {v : LValue} {e : Exp} {scope : Scope} {t : Ty} (at : ℕ) →
           HasPlace v scope (array_type at) →
-          named at shapes ≡ Some (array_shape t) →
+          looked_up at shapes ≡ Some (array_shape t) →
           Has e scope int_type →
           HasPlace (Index v e) scope t
 

@@ -8,9 +8,9 @@ use Rattle.tg_semantics.specs.declared.standards.Standard.{Standard}
 use Rattle.tg_semantics.specs.declared.standards.Standard.TheVariants.{Print, Flush, Getchar, Ord}
 use Rattle.tg_semantics.specs.declared.standards.Standard.TheVariants.{Chr, Size, Substring, Concat}
 use Rattle.tg_semantics.specs.declared.standards.Standard.TheVariants.{Not, Exit}
-use Rattle.tg_semantics.specs.Environments.{standard_text, standards}
+use Rattle.tg_semantics.specs.Environments.{name_of, standard_text, standards}
 use Rattle.tg_types.specs.Types.{Ty, int_type, string_type, none_type}
-use Rattle.tg_symbols.specs.Tables.{named}
+use Rattle.tg_symbols.specs.Tables.{looked_up}
 
 pub record Signature : Type 0 where
   pub params : List Ty
@@ -30,14 +30,11 @@ pub record Scope : Type 0 where
   pub types : List (ℕ × Ty)
   pub in_loop : Bool
 
-abbrev pub name_of : Ident → ℕ
-name_of x = x.name.0
-
 abbrev pub at_of : Ident → ℕ
 at_of x = x.span.from
 
 abbrev pub bound : Ident → Scope → Option Binding
-bound x scope = named (name_of x) scope.bindings
+bound x scope = looked_up (name_of x) scope.bindings
 
 abbrev pub binding : Ident → Binding → Scope → Scope
 binding x b scope = record scope { bindings = (name_of x, b) ∷ scope.bindings }
@@ -88,6 +85,6 @@ standard_types n [] = []
 standard_types n (text ∷ names) =
     entry (λ t. t) n (type_of_text text) ++ standard_types (suc n) names
 
-abbrev pub outermost : List (List ℕ) → Scope
-outermost names =
+abbrev pub outermost_scope : List (List ℕ) → Scope
+outermost_scope names =
     record { bindings = standard_bindings 0 names; types = standard_types 0 names; in_loop = false }

@@ -6,7 +6,8 @@ use Rattle.tg_syntax.specs.Tree.{Inits, no_inits, init, FunDecs, no_functions, f
 use Rattle.tg_types.specs.declared.faults.TypeRule.TheVariants.{T8, T11}
 use Rattle.tg_types.specs.Types.{Ty}
 use Rattle.tg_types.specs.Checks.{Check, give, keep, present, ◌>>=◌, ◌>>◌}
-use Rattle.tg_types.specs.Scopes.{Scope, Signature, name_of, at_of}
+use Rattle.tg_semantics.specs.Environments.{name_of}
+use Rattle.tg_types.specs.Scopes.{Scope, Signature, at_of}
 use Rattle.tg_types.specs.Groups.{param_types, result_type}
 use Rattle.tg_types.specs.Typing.{fields_of, select, placed, are_fields}
 

@@ -6,7 +6,7 @@ use Rattle.tg_syntax.specs.declared.trees.Op.{Op}
 use Rattle.tg_syntax.specs.declared.trees.Param.{Param}
 use Rattle.tg_types.specs.declared.faults.TypeRule.TheVariants.{T6}
 use Rattle.tg_syntax.specs.Tree.{Exp, If, When}
-use Rattle.tg_types.specs.Types.{Ty, int_type, none_type, alike, joined}
+use Rattle.tg_types.specs.Types.{Ty, int_type, none_type, alike, joined_type}
 use Rattle.tg_types.specs.Checks.{Check, give, keep, ◌>>=◌, ◌>>◌}
 use Rattle.tg_types.specs.Scopes.{Scope, Signature, variable_at, at_of, binding, in_a_loop}
 use Rattle.tg_types.specs.Groups.{with_params}
@@ -41,7 +41,7 @@ filled whole wanted value scope =
 -- the second way of a choice, whose first has a type
 abbrev pub second_way : Ty → Exp → Scope → Check Ty
 second_way t other scope =
-    typed other scope >>= λ u. keep T6 (start_of other) (alike t u) >> give (joined t u)
+    typed other scope >>= λ u. keep T6 (start_of other) (alike t u) >> give (joined_type t u)
 
 -- a choice, with or without its second way
 abbrev pub choice : Span → (test this : Exp) → Option Exp → Exp

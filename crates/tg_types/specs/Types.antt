@@ -34,9 +34,9 @@ abbrev pub alike : Ty → Ty → Bool
 alike a b = same a b || (is_nil_for a b || is_nil_for b a)
 
 -- of two that are alike: the record where one is nil
-abbrev pub joined : Ty → Ty → Ty
-joined nil_type (record_type at) = record_type at
-joined a b = a
+abbrev pub joined_type : Ty → Ty → Ty
+joined_type nil_type (record_type at) = record_type at
+joined_type a b = a
 
 abbrev pub are_nil : Ty → Ty → Bool
 are_nil nil_type nil_type = true

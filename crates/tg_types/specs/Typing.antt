@@ -15,10 +15,11 @@ use Rattle.tg_types.specs.declared.faults.TypeRule.TheVariants.{T11, T12, T13, T
 use Rattle.tg_types.specs.declared.notes.Means.TheVariants as means
 use Rattle.tg_types.specs.Types.{Ty, int_type, string_type, nil_type, none_type, record_type}
 use Rattle.tg_types.specs.Types.{array_type, Shape, record_shape, array_shape, same, fits, alike}
-use Rattle.tg_types.specs.Types.{joined, are_nil, has_order}
+use Rattle.tg_types.specs.Types.{joined_type, are_nil, has_order}
 use Rattle.tg_types.specs.Checks.{Check, give, refuse, keep, present, note, shape_at, ◌>>=◌, ◌>>◌}
 use Rattle.tg_types.specs.Scopes.{Signature, Binding, variable_at, function_at, standard_one, Scope}
-use Rattle.tg_types.specs.Scopes.{name_of, at_of, bound, binding, in_a_loop, in_no_loop, signature}
+use Rattle.tg_semantics.specs.Environments.{name_of}
+use Rattle.tg_types.specs.Scopes.{at_of, bound, binding, in_a_loop, in_no_loop, signature}
 use Rattle.tg_types.specs.Groups.{no_repeats, type_named, declare_types, function_names, headers}
 use Rattle.tg_types.specs.Groups.{with_functions, with_params}
 
@@ -77,14 +78,14 @@ fields_of (record_type byte) at = do
   fields_in shape at
 fields_of _ at = refuse T7 at
 
-abbrev pub element_in : Option Shape → (at : ℕ) → Check Ty
-element_in (Some (array_shape t)) at = give t
-element_in _ at = refuse T9 at
+abbrev pub element_type_in : Option Shape → (at : ℕ) → Check Ty
+element_type_in (Some (array_shape t)) at = give t
+element_type_in _ at = refuse T9 at
 
 abbrev pub element_of : Ty → (at : ℕ) → Check Ty
 element_of (array_type byte) at = do
   shape ← shape_at byte
-  element_in shape at
+  element_type_in shape at
 element_of _ at = refuse T9 at
 
 -- a field's place and type
@@ -104,9 +105,9 @@ are_fields no_inits [] = true
 are_fields (init f _ rest) (field ∷ fs) = (name_of f == field.0) && are_fields rest fs
 are_fields _ _ = false
 
-abbrev pub count : Exps → ℕ
-count no_exps = 0
-count (exp _ rest) = suc (count rest)
+abbrev pub expression_count : Exps → ℕ
+expression_count no_exps = 0
+expression_count (exp _ rest) = suc (expression_count rest)
 
 -- Operators.
 
@@ -175,7 +176,7 @@ abbrev mutual
   typed (Read _ v) scope = typed_place v scope
   typed (Call _ f args) scope = do
     s ← function_of f (bound f scope)
-    keep T10 (at_of f) (count args == length s.params)
+    keep T10 (at_of f) (expression_count args == length s.params)
     expect_all args s.params scope
     give s.result
   typed (Neg _ a) scope = do
@@ -214,7 +215,7 @@ abbrev mutual
     a ← typed this scope
     b ← typed other scope
     keep T6 (start_of other) (alike a b)
-    give (joined a b)
+    give (joined_type a b)
   typed (When _ test this) scope = do
     c ← typed test scope
     expect int_type c (start_of test)

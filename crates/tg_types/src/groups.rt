@@ -77,7 +77,7 @@ fn known(
     ensures { (group : List PlainTypeDec) (scope : Scope) (in_loop : Bool) →
         HasPlaces places.now group →
         scope ≡ scope_of names.now state.now in_loop → (n : Noted) →
-        AnswersCheck result (λ _. tt) n (groups.known group scope x n) }
+        AnswersCheck result (λ _. tt) n (groups.known_name group scope x n) }
 {
     let is_known = places.contains_key(&x.name.0) || type_of(names, state, x).is_some();
     kept(TypeRule::T3, x.span.from, is_known)

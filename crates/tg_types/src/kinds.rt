@@ -137,7 +137,7 @@ impl Ty {
 
     /// Of two that are alike, the record where one is nil.
     pub(crate) fn joined(self, other: Ty) -> Ty
-        ensures { result ≡ types.joined self other }
+        ensures { result ≡ types.joined_type self other }
     {
         if self.is_nil_for(other) { other } else { self }
     }

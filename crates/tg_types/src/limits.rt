@@ -1,5 +1,5 @@
 ghost use Rattle.std.specs.Prelude.{◌≡◌, ◌≤◌, [], ◌++◌, List};
-ghost use Rattle.tg_syntax.specs.Plain.{plain, plain_place, plain_exps, plain_inits, plain_dec};
+ghost use Rattle.tg_syntax.specs.Plain.{plain, plain_lvalue, plain_exps, plain_inits, plain_dec};
 ghost use Rattle.tg_syntax.specs.Plain.{plain_functions};
 ghost use Rattle.tg_syntax.specs.Tree.{no_decs};
 ghost use Rattle.tg_syntax.specs.Lists.{decs_of};
@@ -90,7 +90,7 @@ fn first_above(e: &Exp, level: u32) -> Option<Limit>
 fn place_above(place: &Var, level: u32) -> Option<Limit>
     requires { level ≤ 32 }
     ensures { rule_and_byte result
-        ≡ limits.first_above (functions.declared_place level [] (plain_place place.now)) }
+        ≡ limits.first_above (functions.declared_place level [] (plain_lvalue place.now)) }
 {
     match place {
         Var::Simple(_) => None,

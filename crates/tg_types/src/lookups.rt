@@ -1,6 +1,6 @@
 ghost use Rattle.std.specs.Prelude.{◌≡◌, ◌<◌, ◌++◌, length, Bool};
 ghost use Rattle.tg_base.specs.declared.faulty.Faulty.TheVariants.{Bad};
-ghost use Rattle.tg_symbols.specs.Tables.{named};
+ghost use Rattle.tg_symbols.specs.Tables.{looked_up};
 ghost use Rattle.tg_types.specs.Scopes.{Scope, bound, standard_types};
 ghost use Rattle.tg_types.specs.Groups as groups;
 ghost use Rattle.tg_types.specs.Typing as typing;
@@ -18,7 +18,7 @@ use tg_syntax::Ident;
 /// The type that a name has at a place of the text.
 pub(crate) fn type_of(names: &Names, state: &CheckingState, x: Ident) -> Option<Ty>
     requires { x.name.0 < length names.now }
-    ensures { result ≡ named x.name.0 (state.now.types ++ standard_types 0 names.now) }
+    ensures { result ≡ looked_up x.name.0 (state.now.types ++ standard_types 0 names.now) }
 {
     match state.types.get(x.name.0) {
         Some(ty) => Some(*ty),

@@ -1,7 +1,7 @@
 ghost use Rattle.std.specs.Prelude.{◌≡◌, ◌==◌, ◌∷◌, length, Bool, true, false, Some, None};
 ghost use Rattle.std.specs.Prelude.{OnOk, IfSome, box_value};
 ghost use Rattle.std.specs.Option.{option_map};
-ghost use Rattle.tg_syntax.specs.Plain.{plain, plain_place, plain_exps, plain_inits, plain_dec};
+ghost use Rattle.tg_syntax.specs.Plain.{plain, plain_lvalue, plain_exps, plain_inits, plain_dec};
 ghost use Rattle.tg_syntax.specs.Plain.{plain_functions};
 ghost use Rattle.tg_syntax.specs.Lists.{decs_of};
 ghost use Rattle.tg_syntax.specs.Tree as tree;
@@ -173,9 +173,9 @@ fn typed_place(
     place: &Var,
     in_loop: bool,
 ) -> Result<Ty, TypeFault>
-    requires { PlaceWithin (length names.now) (plain_place place.now) }
+    requires { PlaceWithin (length names.now) (plain_lvalue place.now) }
     ensures given { MovesOn names.now state.old state.new in_loop result (λ t. t)
-        (typing.typed_place (plain_place place.now)) }
+        (typing.typed_place (plain_lvalue place.now)) }
     ensures kept { OnOk result (Keeps state.old state.new) }
 {
     match place {
@@ -195,7 +195,7 @@ fn typed_place(
 
 // The first byte of an l-value.
 fn start_of(place: &Var) -> u32
-    ensures { result ≡ typing.place_start (plain_place place.now) }
+    ensures { result ≡ typing.place_start (plain_lvalue place.now) }
 {
     match place {
         Var::Simple(x) => x.span.from,
@@ -225,7 +225,7 @@ fn called(
 }
 
 fn are_as_many(arguments: &Exps, params: &[Ty]) -> bool
-    ensures { result ≡ (typing.count (plain_exps arguments.now) == length params.now) }
+    ensures { result ≡ (typing.expression_count (plain_exps arguments.now) == length params.now) }
 {
     arguments.items.len() == params.len()
 }
@@ -240,7 +240,7 @@ fn typed_all(
     in_loop: bool,
 ) -> Result<(), TypeFault>
     requires names { ExpsWithin (length names.now) (plain_exps arguments.now) }
-    requires as_many { typing.count (plain_exps arguments.now) ≡ length params.now }
+    requires as_many { typing.expression_count (plain_exps arguments.now) ≡ length params.now }
     ensures given { MovesOn names.now state.old state.new in_loop result (λ _. tt)
         (typing.expect_all (plain_exps arguments.now) params.now) }
     ensures kept { OnOk result (Keeps state.old state.new) }
@@ -428,9 +428,9 @@ fn typed_fields(
 
 // A loop's variable isn't assigned.
 fn assignable(names: &Names, state: &CheckingState, place: &Var) -> Result<(), TypeFault>
-    requires { PlaceWithin (length names.now) (plain_place place.now) }
+    requires { PlaceWithin (length names.now) (plain_lvalue place.now) }
     ensures { Judges names.now state.now result (λ _. tt)
-        (typing.assignable (plain_place place.now)) }
+        (typing.assignable (plain_lvalue place.now)) }
 {
     match place {
         Var::Simple(x) => kept(

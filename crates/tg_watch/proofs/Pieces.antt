@@ -3,15 +3,15 @@ use Rattle.std.specs.Prelude.{IsTrue, Result, Ok, Err, IsErr}
 use Rattle.std.proofs.Common.{ℕ, ◌≤◌, List, ◌++◌, Option, false, append_assoc, sym, ap, ◌∙◌, arith}
 use Rattle.std.specs.Io.KnownBytes.{Appends}
 use Rattle.tg_base.specs.Causes.{Rose, HasCause}
-use Rattle.tg_base.specs.Writes.{TakesFront, TakesAll}
+use Rattle.tg_base.specs.Writes.{TakesPrefix, TakesAll}
 use Rattle.tg_base.proofs.KnownLemmas.{appends_then}
 
 -- a front of a piece is one of a longer piece
-pub front_longer : (x y : Option (List ℕ)) (a b : List ℕ) → TakesFront x y a → TakesFront x y (a ++ b)
+pub front_longer : (x y : Option (List ℕ)) (a b : List ℕ) → TakesPrefix x y a → TakesPrefix x y (a ++ b)
 front_longer x y a b (front, rest, is, kept) = (front, rest ++ b, ap (λ z. z ++ b) is ∙ append_assoc front rest b, kept)
 
 -- a whole piece, and a front of the next
-pub front_later : (x y z : Option (List ℕ)) (a b : List ℕ) → Appends x y a → TakesFront y z b → TakesFront x z (a ++ b)
+pub front_later : (x y z : Option (List ℕ)) (a b : List ℕ) → Appends x y a → TakesPrefix y z b → TakesPrefix x z (a ++ b)
 front_later x y z a b whole (front, rest, is, kept) = (
   a ++ front,
   rest,
@@ -29,7 +29,7 @@ no_truth : IsTrue false → ⊥
 no_truth h = cc
 
 -- where a piece fails
-pub all_failed : {T E : Type 0} (x y : Option (List ℕ)) (a : List ℕ) (r : Result T E) → IsErr r → TakesFront x y a → TakesAll x y r a
+pub all_failed : {T E : Type 0} (x y : Option (List ℕ)) (a : List ℕ) (r : Result T E) → IsErr r → TakesPrefix x y a → TakesAll x y r a
 all_failed x y a (Ok t) h f = absurd (no_truth h)
 all_failed x y a (Err e) h f = f
 

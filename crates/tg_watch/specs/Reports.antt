@@ -14,12 +14,12 @@ use Rattle.tg_asm_text.specs.declared.keywords.Keyword.TheVariants.{Jal, Beq, Bn
 use Rattle.tg_asm_text.specs.declared.keywords.Keyword.TheVariants.{Bgez, Addi, Addiu, Slti, Sltiu}
 use Rattle.tg_asm_text.specs.declared.keywords.Keyword.TheVariants.{Andi, Ori, Xori, Lui, Lb, Lbu}
 use Rattle.tg_asm_text.specs.declared.keywords.Keyword.TheVariants.{Lw, Sb, Sw}
-use Rattle.tg_asm_text.specs.Items.{spelling}
+use Rattle.tg_asm_text.specs.Items.{keyword_text}
 use Rattle.tg_isa.specs.Table.{decode_of}
 use Rattle.tg_asm_text.specs.Writing.{keyword_of}
 use Rattle.tg_machine.specs.declared.fetches.Seen.{Seen}
 use Rattle.tg_watch.specs.Watching.{Report}
-use Rattle.tg_watch.specs.Words.{word_text}
+use Rattle.tg_watch.specs.Words.{word_in_hex}
 
 -- Profile: how many fetches there were, and how many of each row, in the order of the instruction
 -- table (MIPS I manual, appendix A), then of words outside it; a row that wasn't fetched has no line
@@ -31,11 +31,11 @@ table =
     ∷ Addi ∷ Addiu ∷ Slti ∷ Sltiu ∷ Andi ∷ Ori ∷ Xori ∷ Lui ∷ Lb ∷ Lbu ∷ Lw ∷ Sb ∷ Sw ∷ []
 
 unfoldable pub counted_names : List (List ℕ)
-counted_names = map spelling table ++ codes "bad" ∷ []
+counted_names = map keyword_text table ++ codes "bad" ∷ []
 
 -- the name under which a word is counted
 abbrev pub row_text : Option Mips → List ℕ
-row_text (Some one) = spelling (keyword_of one)
+row_text (Some one) = keyword_text (keyword_of one)
 row_text None = codes "bad"
 
 unfoldable pub is_counted : List ℕ → Seen → Bool
@@ -75,7 +75,7 @@ coverage_report seen code = covered_line (covered seen) code ∷ []
 -- Trace: the last 16 fetches, oldest first, each with its place and its word
 
 abbrev pub seen_line : Seen → List ℕ
-seen_line x = word_text x.place ++ 32 ∷ word_text x.word
+seen_line x = word_in_hex x.place ++ 32 ∷ word_in_hex x.word
 
 abbrev pub trace_report : Report
 trace_report seen code = map seen_line (drop (length seen - 16) seen)

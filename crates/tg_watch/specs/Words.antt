@@ -5,8 +5,8 @@ use Rattle.std.specs.Prelude.{ℕ, ◌+◌, ◌/◌, ◌%◌, List, [], ◌∷�
 abbrev pub hex_digit : ℕ → ℕ
 hex_digit d = if nat_lt d 10 then d + 48 else d + 87
 
-abbrev pub word_text : ℕ → List ℕ
-word_text w =
+abbrev pub word_in_hex : ℕ → List ℕ
+word_in_hex w =
     48 ∷ 120
     ∷ hex_digit (w / 268435456 % 16) ∷ hex_digit (w / 16777216 % 16)
     ∷ hex_digit (w / 1048576 % 16) ∷ hex_digit (w / 65536 % 16)

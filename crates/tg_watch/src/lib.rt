@@ -15,7 +15,7 @@ mod tracing;
 mod watchers;
 
 pub use covering::Coverage;
-pub use lines::word_text;
+pub use lines::word_in_hex;
 pub use profiling::Profile;
 pub use reporting::write_reports;
 pub use running::{begin_all, run_watched};

@@ -1,6 +1,6 @@
 ghost use Rattle.std.specs.Prelude.{◌≡◌, ◌≤◌, ◌<◌, ◌+◌, ◌%◌, ◌++◌, length, take, drop};
 ghost use Rattle.std.specs.Fmt.{decimal};
-ghost use Rattle.tg_watch.specs.Words.{hex_digit, word_text};
+ghost use Rattle.tg_watch.specs.Words.{hex_digit, word_in_hex};
 
 /// A digit of base 16, in lower case.
 fn hex_digit(number: u32) -> u8
@@ -11,8 +11,8 @@ fn hex_digit(number: u32) -> u8
 }
 
 /// A word as `0x` and eight digits of base 16.
-pub fn word_text(word: u32) -> [u8; 10]
-    ensures { result ≡ word_text word }
+pub fn word_in_hex(word: u32) -> [u8; 10]
+    ensures { result ≡ word_in_hex word }
 {
     [
         b'0',

@@ -1,5 +1,5 @@
 ghost use Rattle.std.specs.Prelude.{◌≡◌, ◌<◌, ◌≤◌, [], length, slice_index_or};
-ghost use Rattle.tg_asm_text.specs.Items.{spelling};
+ghost use Rattle.tg_asm_text.specs.Items.{keyword_text};
 ghost use Rattle.tg_asm_text.specs.Writing.{keyword_of};
 ghost use Rattle.tg_isa.specs.Table.{decode_of};
 ghost use Rattle.tg_watch.specs.Reports.{counted_names, row_text};
@@ -25,7 +25,7 @@ pub(crate) fn row_number(word: u32) -> usize
 #[tactic(auto, unfolding(crate::specs::Reports::counted_names))]
 fn number_of(one: Mips) -> usize
     ensures below { result < 43 }
-    ensures name { slice_index_or counted_names result [] ≡ spelling (keyword_of one) }
+    ensures name { slice_index_or counted_names result [] ≡ keyword_text (keyword_of one) }
 {
     match one {
         Mips::Sll(_, _, _) => 0,

@@ -2,7 +2,7 @@ ghost use Rattle.std.specs.Prelude.{◌≡◌, ◌≤◌, take};
 ghost use Rattle.tg_watch.specs.Reports.{seen_line, trace_report};
 ghost use Rattle.tg_watch.specs.Standing.{Holds};
 
-use crate::lines::{put, word_text};
+use crate::lines::{put, word_in_hex};
 use crate::watchers::Watcher;
 use std::alloc::Global;
 use tg_base::Memory;
@@ -56,7 +56,7 @@ fn put_seen(into: &mut [u8; 64], seen: &Seen) -> usize
     ensures size { result ≤ 64 }
     ensures line { take result into.new ≡ seen_line seen.now }
 {
-    let size = put(into, 0, &word_text(seen.place));
+    let size = put(into, 0, &word_in_hex(seen.place));
     let size = put(into, size, b" ");
-    put(into, size, &word_text(seen.word))
+    put(into, size, &word_in_hex(seen.word))
 }

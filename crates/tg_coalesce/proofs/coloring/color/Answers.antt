@@ -15,12 +15,12 @@ use Rattle.tg_coalesce.proofs.coloring.color.Goals as goal
 use Rattle.tg_coalesce.proofs.coloring.color.Goals.{In_ok-work}
 
 -- what the round is given
-is_given : (g : given.Over) (c : In_ok-work g) → IsGiven c.args.graph c.args.moves.now c.args.marks.now
+is_given : (g : given.Over) (c : In_ok-work g) → IsGiven c.args.graph c.args.moves.now c.args.facts.now
 is_given g c = record {
   some = c.in_ok-work.ensures.low;
   few = c.in_ok-work.ensures.few;
   graph = c.in_ok-work.ensures.graph;
-  sized = c.requires.marks;
+  sized = c.requires.facts;
   ends = c.requires.ends;
   few_moves = c.requires.few_moves;
   few_uses = c.requires.few_uses;
@@ -29,7 +29,7 @@ is_given g c = record {
 pub take_steps-requires : goal.take_steps-requires
 take_steps-requires g c =
     subst IsOrderly (sym c.in_ok-work.ensures.value)
-    (start_orderly c.args.graph c.args.moves.now c.args.marks.now (is_given g (goal.at.take_steps-requires g c).In_ok-work))
+    (start_orderly c.args.graph c.args.moves.now c.args.facts.now (is_given g (goal.at.take_steps-requires g c).In_ok-work))
 
 pub answer-requires-clause-below : goal.answer-requires-clause-below
 answer-requires-clause-below g c =
@@ -46,11 +46,11 @@ answer-requires-clause-temporaries g c =
 pub returns-clause-round : goal.returns-clause-round
 returns-clause-round g c =
     let rule = (goal.SpillPolicy-dyn g c.args.policy.now).rule c.args.policy.now.1 in
-    let p = problem (graph_of c.args.graph) c.args.moves.now c.args.marks.now rule in
+    let p = problem (graph_of c.args.graph) c.args.moves.now c.args.facts.now rule in
     let w = c.take_steps.new.self in
     let begins : IsRunOf p c.in_ok-work.work =
     subst (IsRunOf p) (sym c.in_ok-work.ensures.value)
-    (start_run c.args.graph c.args.moves.now c.args.marks.now rule (is_given g (goal.at.returns-clause-round g c).In_ok-work)) in
+    (start_run c.args.graph c.args.moves.now c.args.facts.now rule (is_given g (goal.at.returns-clause-round g c).In_ok-work)) in
     let ends : IsRunOf p w = c.in_ok-take_steps.ensures.run p refl begins in
     IfOk-weaker c.answer.result (λ (round : Round). round ≡ answer_of w) (IsRound p)
     (λ round e. subst (IsRound p) (sym e)

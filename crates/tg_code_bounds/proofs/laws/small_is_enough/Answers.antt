@@ -3,5 +3,5 @@ use Rattle.tg_code_bounds.proofs.laws.small_is_enough.Goals as goal
 
 pub returns : goal.returns
 returns c = record {
-  enough = enough c.sizes_stay.ensures.length c.sizes_stay.ensures.room c.sizes_stay-2.ensures.length c.sizes_stay-2.ensures.room c.code_is_short.ensures.few;
+  enough = enough c.canon_is_bounded.ensures.length c.canon_is_bounded.ensures.needs c.flatten_is_bounded.ensures.length c.flatten_is_bounded.ensures.needs c.munch_is_bounded.ensures.few;
 }

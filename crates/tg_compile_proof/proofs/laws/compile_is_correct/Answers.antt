@@ -8,4 +8,4 @@ returns c =
     c.forms_agree.ensures c.programs_as_sources.ensures.full c.programs_as_sources.ensures.stuck c.never_stuck.ensures
     c.programs_are_translated.ensures
     (λ program accepted. functions_are program accepted c.bodies_are_closed.ensures.checked
-    c.temporaries_are_drawn.ensures.checked c.frames_are_small.ensures.checked c.routines_are_closed.ensures.routines)
+    c.temporaries_are_drawn.ensures.checked c.translate_is_bounded.ensures.checked c.routines_are_closed.ensures.routines)

@@ -1,6 +1,6 @@
 use Rattle.tg_irc.proofs.Invariants.{sound_at_start, sound_after}
 use Rattle.tg_irc.proofs.Classes.{classes_at_start, classes_after}
-use Rattle.tg_irc.proofs.Standing.{stands_at_start, stands_after, stands_by_mark}
+use Rattle.tg_irc.proofs.Standing.{stands_at_start, stands_after, stands_by_facts}
 use Rattle.tg_irc.proofs.laws.states_are_sound.Goals as goal
 
 pub returns-clause-start : goal.returns-clause-start
@@ -21,5 +21,5 @@ returns-clause-start_standing c = stands_at_start
 pub returns-clause-steps_standing : goal.returns-clause-steps_standing
 returns-clause-steps_standing c = stands_after
 
-pub returns-clause-by_mark : goal.returns-clause-by_mark
-returns-clause-by_mark c = stands_by_mark
+pub returns-clause-by_facts : goal.returns-clause-by_facts
+returns-clause-by_facts c = stands_by_facts

@@ -3,7 +3,7 @@ use Rattle.std.proofs.lemmas.List.{take_rest}
 use Rattle.std.proofs.lemmas.Result.{err_from_is_err_and}
 use Rattle.tg_syntax.specs.declared.tokens.Spanned.{Spanned}
 use Rattle.tg_syntax.specs.LexicalFaults.{too_long}
-use Rattle.tg_lexer.specs.Fronts.{IsFront, IsRead}
+use Rattle.tg_lexer.specs.Lexemes.{IsLexeme, IsRead}
 use Rattle.tg_lexer.specs.Numbering.{names_after}
 use Rattle.tg_lexer.proofs.Scans.{scanned_none, scanned_gap, scanned_token, scanned_end, scanned_named, scanned_kept, scanned_after, read_bad}
 use Rattle.tg_lexer.proofs.TokenEnds.{ends_once}
@@ -26,7 +26,7 @@ returns-in_err-front-clause-bad c =
 
 pub loop-at-preserved-in-Gap : goal.loop-at-preserved-in-Gap
 loop-at-preserved-in-Gap c =
-    let r = subst (λ f. IsFront c.read.new.names (drop c.loop-at.at c.args.text.now) f) c.in-Gap.is (rw take_rest at c.in_ok-front.ensures.read) in
+    let r = subst (λ f. IsLexeme c.read.new.names (drop c.loop-at.at c.args.text.now) f) c.in-Gap.is (rw take_rest at c.in_ok-front.ensures.read) in
     let e = subst (λ f. c.read.new.names ≡ names_after c.loop-at.names (drop c.loop-at.at c.args.text.now) (Ok f)) c.in-Gap.is (subst (λ l. c.read.new.names ≡ names_after c.loop-at.names l (Ok c.in_ok-front.front)) (take_rest c.args.text.now c.loop-at.at) c.in_ok-front.ensures.named) in
     scanned_gap _ _ _ _ _ _ _ c.loop-at.invariant r e
 
@@ -37,7 +37,7 @@ returns-in_err-push-in-One-clause-kept c =
 
 pub loop-at-preserved : goal.loop-at-preserved
 loop-at-preserved c =
-    let r = subst (λ f. IsFront c.read.new.names (drop c.loop-at.at c.args.text.now) f) c.in-One.is (rw take_rest at c.in_ok-front.ensures.read) in
+    let r = subst (λ f. IsLexeme c.read.new.names (drop c.loop-at.at c.args.text.now) f) c.in-One.is (rw take_rest at c.in_ok-front.ensures.read) in
     let e = subst (λ f. c.read.new.names ≡ names_after c.loop-at.names (drop c.loop-at.at c.args.text.now) (Ok f)) c.in-One.is (subst (λ l. c.read.new.names ≡ names_after c.loop-at.names l (Ok c.in_ok-front.front)) (take_rest c.args.text.now c.loop-at.at) c.in_ok-front.ensures.named) in
     rw (c.in_ok-push-in-One.ensures.items, c.spanned.ensures) (scanned_token _ _ _ _ _ _ _ _ c.loop-at.invariant r e)
 

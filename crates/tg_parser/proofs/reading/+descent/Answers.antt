@@ -1,7 +1,7 @@
 use Rattle.std.proofs.Common.{arith, refl, sym, ◌∙◌, ap}
 use Rattle.tg_syntax.specs.declared.tokens.Sign.TheVariants.{Comma, Semicolon, RightParen, Equal}
 use Rattle.tg_syntax.specs.declared.tokens.Word.TheVariants.{WEnd}
-use Rattle.tg_syntax.specs.Plain.{plain, plain_place}
+use Rattle.tg_syntax.specs.Plain.{plain, plain_lvalue}
 use Rattle.tg_syntax.specs.Tree.{no_decs, no_exps, exp, init, no_inits}
 use Rattle.tg_syntax.specs.Lists.{exps_of, inits_of, decs_of}
 use Rattle.tg_syntax.specs.Groups.{one_function}
@@ -418,51 +418,51 @@ indexing-returns-in_err-place-clause-given t c = ended _ _ _ _ _ _ c.from_residu
 
 pub suffixes-returns-in_err-name-clause-given : goal.suffixes-returns-in_err-name-clause-given
 suffixes-returns-in_err-name-clause-given t c = ended _ _ _ _ _ _ c.from_residual-in_err-name.ensures
-    (raise (some_leads _ _ c.in_ok-after.ensures.given c.in-Some.is (Suffix c.args.span (plain_place c.args.place)) _ _)
-    (name_stops (Suffix c.args.span (plain_place c.args.place)) c.in_err-name.ensures.given))
+    (raise (some_leads _ _ c.in_ok-after.ensures.given c.in-Some.is (Suffix c.args.span (plain_lvalue c.args.place)) _ _)
+    (name_stops (Suffix c.args.span (plain_lvalue c.args.place)) c.in_err-name.ensures.given))
 
 pub suffixes-returns-in_err-place-clause-given : goal.suffixes-returns-in_err-place-clause-given
 suffixes-returns-in_err-place-clause-given t c = ended _ _ _ _ _ _ c.from_residual-in_err-place.ensures (no_memory (Suffix _ _))
 
 pub suffixes-returns-in-Some-clause-given : goal.suffixes-returns-in-Some-clause-given
 suffixes-returns-in-Some-clause-given t c = carry c.suffixes.result _ _
-    (then (some_leads _ _ c.in_ok-after.ensures.given c.in-Some.is (Suffix c.args.span (plain_place c.args.place)) _ _)
-    (name_leads (Suffix c.args.span (plain_place c.args.place)) c.in_ok-name.ensures.given))
+    (then (some_leads _ _ c.in_ok-after.ensures.given c.in-Some.is (Suffix c.args.span (plain_lvalue c.args.place)) _ _)
+    (name_leads (Suffix c.args.span (plain_lvalue c.args.place)) c.in_ok-name.ensures.given))
     (suffix_same c.suffixes.result _ _ _ _ _ _ _ _ _ c.join.ensures c.in_ok-place.ensures c.suffixes.ensures.given)
 
 pub suffixes-returns-in_err-after-2-clause-given : goal.suffixes-returns-in_err-after-2-clause-given
 suffixes-returns-in_err-after-2-clause-given t c = ended _ _ _ _ _ _ c.from_residual-in_err-after-2.ensures
-    (raise (none_leads _ _ c.in_ok-after.ensures.given c.in_default.is (Suffix c.args.span (plain_place c.args.place)) _ _)
-    (c.in_err-after-2.ensures.given (Suffix c.args.span (plain_place c.args.place)) _ _))
+    (raise (none_leads _ _ c.in_ok-after.ensures.given c.in_default.is (Suffix c.args.span (plain_lvalue c.args.place)) _ _)
+    (c.in_err-after-2.ensures.given (Suffix c.args.span (plain_lvalue c.args.place)) _ _))
 
 pub suffixes-returns-in_err-inside-clause-given : goal.suffixes-returns-in_err-inside-clause-given
 suffixes-returns-in_err-inside-clause-given t c = ended _ _ _ _ _ _ c.from_residual-in_err-inside.ensures
-    (raise (then (none_leads _ _ c.in_ok-after.ensures.given c.in_default.is (Suffix c.args.span (plain_place c.args.place)) _ _)
-    (some_leads _ _ c.in_ok-after-2.ensures.given c.in-Some-2.is (Suffix c.args.span (plain_place c.args.place)) _ _))
-    (call_stops (Suffix c.args.span (plain_place c.args.place)) (At Whole) c.in_err-inside.ensures.given))
+    (raise (then (none_leads _ _ c.in_ok-after.ensures.given c.in_default.is (Suffix c.args.span (plain_lvalue c.args.place)) _ _)
+    (some_leads _ _ c.in_ok-after-2.ensures.given c.in-Some-2.is (Suffix c.args.span (plain_lvalue c.args.place)) _ _))
+    (call_stops (Suffix c.args.span (plain_lvalue c.args.place)) (At Whole) c.in_err-inside.ensures.given))
 
 pub suffixes-returns-in_err-last-clause-given : goal.suffixes-returns-in_err-last-clause-given
 suffixes-returns-in_err-last-clause-given t c = ended _ _ _ _ _ _ c.from_residual-in_err-last.ensures
-    (raise (then (none_leads _ _ c.in_ok-after.ensures.given c.in_default.is (Suffix c.args.span (plain_place c.args.place)) _ _)
-    (then (some_leads _ _ c.in_ok-after-2.ensures.given c.in-Some-2.is (Suffix c.args.span (plain_place c.args.place)) _ _)
-    (call_leads (Suffix c.args.span (plain_place c.args.place)) (At Whole) c.in_ok-inside.ensures.given)))
-    (want_stops (Suffix c.args.span (plain_place c.args.place)) c.in_err-last.ensures.given))
+    (raise (then (none_leads _ _ c.in_ok-after.ensures.given c.in_default.is (Suffix c.args.span (plain_lvalue c.args.place)) _ _)
+    (then (some_leads _ _ c.in_ok-after-2.ensures.given c.in-Some-2.is (Suffix c.args.span (plain_lvalue c.args.place)) _ _)
+    (call_leads (Suffix c.args.span (plain_lvalue c.args.place)) (At Whole) c.in_ok-inside.ensures.given)))
+    (want_stops (Suffix c.args.span (plain_lvalue c.args.place)) c.in_err-last.ensures.given))
 
 pub suffixes-returns-in_err-place-2-clause-given : goal.suffixes-returns-in_err-place-2-clause-given
 suffixes-returns-in_err-place-2-clause-given t c = ended _ _ _ _ _ _ c.from_residual-in_err-place-2.ensures (no_memory (Suffix _ _))
 
 pub suffixes-returns-in-Some-2-clause-given : goal.suffixes-returns-in-Some-2-clause-given
 suffixes-returns-in-Some-2-clause-given t c = carry c.suffixes-in-Some-2.result _ _
-    (then (none_leads _ _ c.in_ok-after.ensures.given c.in_default.is (Suffix c.args.span (plain_place c.args.place)) _ _)
-    (then (some_leads _ _ c.in_ok-after-2.ensures.given c.in-Some-2.is (Suffix c.args.span (plain_place c.args.place)) _ _)
-    (then (call_leads (Suffix c.args.span (plain_place c.args.place)) (At Whole) c.in_ok-inside.ensures.given)
-    (want_leads (Suffix c.args.span (plain_place c.args.place)) c.in_ok-last.ensures.given))))
+    (then (none_leads _ _ c.in_ok-after.ensures.given c.in_default.is (Suffix c.args.span (plain_lvalue c.args.place)) _ _)
+    (then (some_leads _ _ c.in_ok-after-2.ensures.given c.in-Some-2.is (Suffix c.args.span (plain_lvalue c.args.place)) _ _)
+    (then (call_leads (Suffix c.args.span (plain_lvalue c.args.place)) (At Whole) c.in_ok-inside.ensures.given)
+    (want_leads (Suffix c.args.span (plain_lvalue c.args.place)) c.in_ok-last.ensures.given))))
     (suffix_same c.suffixes-in-Some-2.result _ _ _ _ _ _ _ _ _ c.join-in-Some-2.ensures c.in_ok-place-2.ensures c.suffixes-in-Some-2.ensures.given)
 
 pub suffixes-returns-clause-given : goal.suffixes-returns-clause-given
 suffixes-returns-clause-given t c =
-    gives (then (none_leads _ _ c.in_ok-after.ensures.given c.in_default.is (Suffix c.args.span (plain_place c.args.place)) _ _)
-    (none_leads _ _ c.in_ok-after-2.ensures.given c.in_default-2.is (Suffix c.args.span (plain_place c.args.place)) _ _))
+    gives (then (none_leads _ _ c.in_ok-after.ensures.given c.in_default.is (Suffix c.args.span (plain_lvalue c.args.place)) _ _)
+    (none_leads _ _ c.in_ok-after-2.ensures.given c.in_default-2.is (Suffix c.args.span (plain_lvalue c.args.place)) _ _))
 
 pub clause-returns-in_err-span-clause-given : goal.clause-returns-in_err-span-clause-given
 clause-returns-in_err-span-clause-given t c = two_ended _ _ _ c.from_residual.result c.from_residual.ensures (λ j f. want_stops j c.in_err-span.ensures.given)

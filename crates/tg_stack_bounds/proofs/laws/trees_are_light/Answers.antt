@@ -6,4 +6,4 @@ use Rattle.tg_stack_bounds.proofs.laws.trees_are_light.Goals as goal
 pub returns : goal.returns
 returns c =
     λ p links a.
-    functions_are_light c.frames_are_small.ensures.within (levels p a) (findings_in p links) p.body (accepted_leads p a links)
+    functions_are_light c.translate_is_bounded.ensures.within (levels p a) (findings_in p links) p.body (accepted_leads p a links)

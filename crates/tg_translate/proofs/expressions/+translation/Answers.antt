@@ -1,5 +1,5 @@
 use Rattle.std.proofs.Common.{◌≡◌, ◌+◌, [], ◌∷◌, ◌++◌, length, drop, sym, ap, ◌∙◌, arith}
-use Rattle.tg_syntax.specs.Plain.{plain, plain_kind, plain_place, plain_exps}
+use Rattle.tg_syntax.specs.Plain.{plain, plain_kind, plain_lvalue, plain_exps}
 use Rattle.tg_syntax.proofs.ListLaws.{plain_kind-Let}
 use Rattle.tg_tree.specs.Tree.{Const, no_txs, tx, no_stms}
 use Rattle.tg_tree.specs.Lists.{txs_of, stms_of, join_txs}
@@ -7,7 +7,7 @@ use Rattle.tg_tree.specs.Plain.{plain_tx, plain_ts}
 use Rattle.tg_tree.proofs.ListLaws.{txs_of-push}
 use Rattle.tg_translate.specs.States.{drawn, after, give, state_of}
 use Rattle.tg_translate.specs.Wants.{value, plain_made, behind}
-use Rattle.tg_translate.specs.Constructs.{hold_next, plain_place as place_of}
+use Rattle.tg_translate.specs.Constructs.{hold_next, plain_storage as place_of}
 use Rattle.tg_translate.specs.Scopes.{findings_of}
 use Rattle.tg_syntax.specs.Lists.{exps_of}
 use Rattle.tg_translate.specs.Translate.{expression, behind_read, sequence}
@@ -164,19 +164,19 @@ behind_read-returns-in_ok-with_left-in-Binary t c =
 pub expression-returns-in_ok-updated-in-Assign : goal.expression-returns-in_ok-updated-in-Assign
 expression-returns-in_ok-updated-in-Assign t c =
     ap (λ k. expression (findings_of c.args.findings.now) (plain_kind k c.args.e.now.span) c.args.want c.args.within (state_of c.args.state.now)) c.in-Assign.is
-    ∙ step (assigned_by (findings_of c.args.findings.now) (plain_place c.in-Assign.v) (plain c.in-Assign.a.value) c.args.within) c.in_ok-place-in-Assign.ensures
-    (updates (findings_of c.args.findings.now) (plain_place c.in-Assign.v) (plain c.in-Assign.a.value) c.args.within (place_of c.in_ok-place-in-Assign.place)
+    ∙ step (assigned_by (findings_of c.args.findings.now) (plain_lvalue c.in-Assign.v) (plain c.in-Assign.a.value) c.args.within) c.in_ok-place-in-Assign.ensures
+    (updates (findings_of c.args.findings.now) (plain_lvalue c.in-Assign.v) (plain c.in-Assign.a.value) c.args.within (place_of c.in_ok-place-in-Assign.place)
     (state_of c.locate-in-Assign.new.state) (plain_ts c.in_ok-updated-in-Assign.field-0) (state_of c.updated.new.state)
-    (ap (λ e. begins_with (findings_of c.args.findings.now).meaning (plain e) (plain_place c.in-Assign.v)) (sym c.deref-in-Assign.ensures)
+    (ap (λ e. begins_with (findings_of c.args.findings.now).meaning (plain e) (plain_lvalue c.in-Assign.v)) (sym c.deref-in-Assign.ensures)
     ∙ (sym c.begins_with.ensures ∙ c.if-begins_with.true))
     (rw c.deref-then-begins_with.ensures at c.in_ok-updated-in-Assign.ensures))
 
 pub expression-returns-in_ok-assigned-in-Assign : goal.expression-returns-in_ok-assigned-in-Assign
 expression-returns-in_ok-assigned-in-Assign t c =
     ap (λ k. expression (findings_of c.args.findings.now) (plain_kind k c.args.e.now.span) c.args.want c.args.within (state_of c.args.state.now)) c.in-Assign.is
-    ∙ step (assigned_by (findings_of c.args.findings.now) (plain_place c.in-Assign.v) (plain c.in-Assign.a.value) c.args.within) c.in_ok-place-in-Assign.ensures
-    (assigns (findings_of c.args.findings.now) (plain_place c.in-Assign.v) (plain c.in-Assign.a.value) c.args.within (place_of c.in_ok-place-in-Assign.place)
+    ∙ step (assigned_by (findings_of c.args.findings.now) (plain_lvalue c.in-Assign.v) (plain c.in-Assign.a.value) c.args.within) c.in_ok-place-in-Assign.ensures
+    (assigns (findings_of c.args.findings.now) (plain_lvalue c.in-Assign.v) (plain c.in-Assign.a.value) c.args.within (place_of c.in_ok-place-in-Assign.place)
     (state_of c.locate-in-Assign.new.state) (plain_ts c.in_ok-assigned-in-Assign.field-0) (state_of c.assigned.new.state)
-    (ap (λ e. begins_with (findings_of c.args.findings.now).meaning (plain e) (plain_place c.in-Assign.v)) (sym c.deref-in-Assign.ensures)
+    (ap (λ e. begins_with (findings_of c.args.findings.now).meaning (plain e) (plain_lvalue c.in-Assign.v)) (sym c.deref-in-Assign.ensures)
     ∙ (sym c.begins_with.ensures ∙ c.if-begins_with.false))
     (rw c.deref-else-begins_with.ensures at c.in_ok-assigned-in-Assign.ensures))

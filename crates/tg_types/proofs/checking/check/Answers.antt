@@ -3,7 +3,7 @@ use Rattle.std.proofs.lemmas.List.Sorted.{IsNonDecreasingBy-from_sort_by_key}
 use Rattle.tg_syntax.specs.Plain.{plain}
 use Rattle.tg_types.specs.declared.notes.Note.{Note}
 use Rattle.tg_types.specs.Checks.{fine}
-use Rattle.tg_types.specs.Scopes.{outermost}
+use Rattle.tg_types.specs.Scopes.{outermost_scope}
 use Rattle.tg_types.specs.States.{Fails, noted_of}
 use Rattle.tg_types.proofs.Rising.{rises}
 use Rattle.tg_types.proofs.NamedValues.{standard_values}
@@ -25,7 +25,7 @@ from_vec-requires c =
     let n = c.new-state.ensures in
     let noted = noted_of c.typed.new.state in
     let is = at_first names body c.new-state.result (λ x. x ≡ fine c.in_ok-typed.field-0 noted) n.bindings n.types n.noted c.in_ok-typed.ensures.given in
-    rises body (outermost names) (standard_values 0 names) c.in_ok-typed.field-0 noted c.sort_by_key.new.self.items c.requires.apart is
+    rises body (outermost_scope names) (standard_values 0 names) c.in_ok-typed.field-0 noted c.sort_by_key.new.self.items c.requires.apart is
     c.in_ok-sort_by_key.ensures.permutation
     (IsNonDecreasingBy-from_sort_by_key (λ (n : Note). n.at) _ c.in_ok-sort_by_key.ensures.sorted (λ a r q k. search rules))
 

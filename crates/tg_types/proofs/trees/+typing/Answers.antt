@@ -2,7 +2,7 @@ use Rattle.std.proofs.Common.{refl, sym, ap, ◌∙◌, ◌≡◌, arith, rules,
 use Rattle.std.proofs.lemmas.Bool.{eqb-true}
 use Rattle.std.specs.Prelude.{◌==◌, box_value}
 use Rattle.std.specs.Option.{option_map}
-use Rattle.tg_syntax.specs.Plain.{plain, plain_kind, plain_place, plain_exps, plain_inits, plain_functions, plain_dec, plain_type}
+use Rattle.tg_syntax.specs.Plain.{plain, plain_kind, plain_lvalue, plain_exps, plain_inits, plain_functions, plain_dec, plain_type}
 use Rattle.tg_syntax.specs.Tree as tree
 use Rattle.tg_types.specs.Scopes.{in_a_loop, in_no_loop, binding, variable_at}
 use Rattle.tg_types.specs.Types.{int_type, none_type}
@@ -79,14 +79,14 @@ pub called-returns-in_err-kept-clause-given : goal.called-returns-in_err-kept-cl
 called-returns-in_err-kept-clause-given t c =
     λ scope h. ended _ _ _ c.from_residual-in_err-kept.ensures
     (fails_then _ _ (c.in_ok-signature.ensures.given c.args.in_loop scope h)
-    (fails_first _ _ (last_fails (keep_is _ _ refl (ap (λ ps. typing.count (plain_exps c.args.arguments.now) == length ps) (sym c.params-params.ensures)
+    (fails_first _ _ (last_fails (keep_is _ _ refl (ap (λ ps. typing.expression_count (plain_exps c.args.arguments.now) == length ps) (sym c.params-params.ensures)
     ∙ sym c.are_as_many.ensures)) (c.in_err-kept.ensures _))))
 
 pub called-returns-in_err-typed_all-clause-given : goal.called-returns-in_err-typed_all-clause-given
 called-returns-in_err-typed_all-clause-given t c =
     λ scope h. ended _ _ _ c.from_residual-in_err-typed_all.ensures
     (fails_then _ _ (c.in_ok-signature.ensures.given c.args.in_loop scope h)
-    (fails_then _ _ (keep_is _ _ refl (ap (λ ps. typing.count (plain_exps c.args.arguments.now) == length ps) (sym c.params-params.ensures)
+    (fails_then _ _ (keep_is _ _ refl (ap (λ ps. typing.expression_count (plain_exps c.args.arguments.now) == length ps) (sym c.params-params.ensures)
     ∙ sym c.are_as_many.ensures)
     ∙ c.in_ok-kept.ensures _) (fails_first _ _ (last_fails (ap (λ ps. typing.expect_all (plain_exps c.args.arguments.now) ps scope
     (noted_of c.function.new.state)) (sym c.params-params.ensures))
@@ -95,7 +95,7 @@ called-returns-in_err-typed_all-clause-given t c =
 pub called-returns-clause-given : goal.called-returns-clause-given
 called-returns-clause-given t c =
     λ scope h. step _ _ (c.in_ok-signature.ensures.given c.args.in_loop scope h)
-    (step _ _ (keep_is _ _ refl (ap (λ ps. typing.count (plain_exps c.args.arguments.now) == length ps) (sym c.params-params.ensures)
+    (step _ _ (keep_is _ _ refl (ap (λ ps. typing.expression_count (plain_exps c.args.arguments.now) == length ps) (sym c.params-params.ensures)
     ∙ sym c.are_as_many.ensures)
     ∙ c.in_ok-kept.ensures _) (step _ _ (ap (λ ps. typing.expect_all (plain_exps c.args.arguments.now) ps scope (noted_of c.function.new.state))
     (sym c.params-params.ensures)
@@ -291,60 +291,60 @@ counted-returns-clause-kept t c =
 
 pub typed_place-returns-in-Simple-clause-given : goal.typed_place-returns-in-Simple-clause-given
 typed_place-returns-in-Simple-clause-given t c =
-    λ scope h. carry c.variable.result _ _ (ap (λ v. typing.typed_place (plain_place v) scope (noted_of c.args.state.now)) c.in-Simple.is)
+    λ scope h. carry c.variable.result _ _ (ap (λ v. typing.typed_place (plain_lvalue v) scope (noted_of c.args.state.now)) c.in-Simple.is)
     (c.variable.ensures.given c.args.in_loop scope h)
 
 pub typed_place-returns-in_err-ty-in-Field-clause-given : goal.typed_place-returns-in_err-ty-in-Field-clause-given
 typed_place-returns-in_err-ty-in-Field-clause-given t c =
     λ scope h. ended _ _ _ c.from_residual.ensures (last_fails
-    (ap (λ v. typing.typed_place (plain_place v) scope (noted_of c.args.state.now)) c.in-Field.is ∙ ap
-    (λ v. typing.typed_place (tree.Field (plain_place v) c.in-Field.field) scope (noted_of c.args.state.now)) (sym c.deref.ensures))
+    (ap (λ v. typing.typed_place (plain_lvalue v) scope (noted_of c.args.state.now)) c.in-Field.is ∙ ap
+    (λ v. typing.typed_place (tree.Field (plain_lvalue v) c.in-Field.field) scope (noted_of c.args.state.now)) (sym c.deref.ensures))
     (fails_first _ _ (c.in_err-ty-in-Field.ensures.given scope h)))
 
 pub typed_place-returns-in_ok-ty-in-Field-clause-given : goal.typed_place-returns-in_ok-ty-in-Field-clause-given
 typed_place-returns-in_ok-ty-in-Field-clause-given t c =
-    λ scope h. carry c.selected.result _ _ (ap (λ v. typing.typed_place (plain_place v) scope (noted_of c.args.state.now)) c.in-Field.is ∙ ap
-    (λ v. typing.typed_place (tree.Field (plain_place v) c.in-Field.field) scope (noted_of c.args.state.now)) (sym c.deref.ensures) ∙ step _ _
+    λ scope h. carry c.selected.result _ _ (ap (λ v. typing.typed_place (plain_lvalue v) scope (noted_of c.args.state.now)) c.in-Field.is ∙ ap
+    (λ v. typing.typed_place (tree.Field (plain_lvalue v) c.in-Field.field) scope (noted_of c.args.state.now)) (sym c.deref.ensures) ∙ step _ _
     (c.in_ok-ty-in-Field.ensures.given scope h) (ap (λ at. selected_of c.in_ok-ty-in-Field.ty at c.in-Field.field (noted_of c.typed_place.new.state))
-    (ap (λ v. typing.place_start (plain_place v)) (c.deref.ensures ∙ sym c.deref-in-Field.ensures) ∙ sym c.start_of.ensures))) c.selected.ensures.given
+    (ap (λ v. typing.place_start (plain_lvalue v)) (c.deref.ensures ∙ sym c.deref-in-Field.ensures) ∙ sym c.start_of.ensures))) c.selected.ensures.given
 
 pub typed_place-returns-in_err-ty-in-Index-clause-given : goal.typed_place-returns-in_err-ty-in-Index-clause-given
 typed_place-returns-in_err-ty-in-Index-clause-given t c =
     λ scope h. ended _ _ _ c.from_residual-in_err-ty-in-Index.ensures
-    (last_fails (ap (λ v. typing.typed_place (plain_place v) scope (noted_of c.args.state.now)) c.in-Index.is ∙ ap
-    (λ v. typing.typed_place (tree.Index (plain_place v) (plain c.in-Index.index.value)) scope (noted_of c.args.state.now)) (sym c.deref-in-Index.ensures))
+    (last_fails (ap (λ v. typing.typed_place (plain_lvalue v) scope (noted_of c.args.state.now)) c.in-Index.is ∙ ap
+    (λ v. typing.typed_place (tree.Index (plain_lvalue v) (plain c.in-Index.index.value)) scope (noted_of c.args.state.now)) (sym c.deref-in-Index.ensures))
     (fails_first _ _ (c.in_err-ty-in-Index.ensures.given scope h)))
 
 pub typed_place-returns-in_err-element-in-Index-clause-given : goal.typed_place-returns-in_err-element-in-Index-clause-given
 typed_place-returns-in_err-element-in-Index-clause-given t c =
     λ scope h. ended _ _ _ c.from_residual-in_err-element-in-Index.ensures
-    (last_fails (ap (λ v. typing.typed_place (plain_place v) scope (noted_of c.args.state.now)) c.in-Index.is ∙ ap
-    (λ v. typing.typed_place (tree.Index (plain_place v) (plain c.in-Index.index.value)) scope (noted_of c.args.state.now)) (sym c.deref-in-Index.ensures))
+    (last_fails (ap (λ v. typing.typed_place (plain_lvalue v) scope (noted_of c.args.state.now)) c.in-Index.is ∙ ap
+    (λ v. typing.typed_place (tree.Index (plain_lvalue v) (plain c.in-Index.index.value)) scope (noted_of c.args.state.now)) (sym c.deref-in-Index.ensures))
     (fails_then _ _ (c.in_ok-ty-in-Index.ensures.given scope h)
     (fails_first _ _ (last_fails (ap (λ at. typing.element_of c.in_ok-ty-in-Index.ty at (noted_of c.typed_place-in-Index.new.state))
-    (ap (λ v. typing.place_start (plain_place v)) (c.deref-in-Index.ensures ∙ sym c.deref-in-Index-2.ensures)
+    (ap (λ v. typing.place_start (plain_lvalue v)) (c.deref-in-Index.ensures ∙ sym c.deref-in-Index-2.ensures)
     ∙ sym c.start_of-in-Index.ensures)) c.in_err-element-in-Index.ensures))))
 
 pub typed_place-returns-in_err-fitting_int-in-Index-clause-given : goal.typed_place-returns-in_err-fitting_int-in-Index-clause-given
 typed_place-returns-in_err-fitting_int-in-Index-clause-given t c =
     λ scope h. ended _ _ _ c.from_residual-in_err-fitting_int-in-Index.ensures
-    (last_fails (ap (λ v. typing.typed_place (plain_place v) scope (noted_of c.args.state.now)) c.in-Index.is ∙ ap
-    (λ v. typing.typed_place (tree.Index (plain_place v) (plain c.in-Index.index.value)) scope (noted_of c.args.state.now)) (sym c.deref-in-Index.ensures)
-    ∙ ap (λ e. typing.typed_place (tree.Index (plain_place c.deref-in-Index.result.now) (plain e)) scope (noted_of c.args.state.now))
+    (last_fails (ap (λ v. typing.typed_place (plain_lvalue v) scope (noted_of c.args.state.now)) c.in-Index.is ∙ ap
+    (λ v. typing.typed_place (tree.Index (plain_lvalue v) (plain c.in-Index.index.value)) scope (noted_of c.args.state.now)) (sym c.deref-in-Index.ensures)
+    ∙ ap (λ e. typing.typed_place (tree.Index (plain_lvalue c.deref-in-Index.result.now) (plain e)) scope (noted_of c.args.state.now))
     (sym c.deref-in-Index-3.ensures)) (fails_then _ _ (c.in_ok-ty-in-Index.ensures.given scope h)
     (fails_then _ _ (ap (λ at. typing.element_of c.in_ok-ty-in-Index.ty at (noted_of c.typed_place-in-Index.new.state))
-    (ap (λ v. typing.place_start (plain_place v)) (c.deref-in-Index.ensures ∙ sym c.deref-in-Index-2.ensures) ∙ sym c.start_of-in-Index.ensures)
+    (ap (λ v. typing.place_start (plain_lvalue v)) (c.deref-in-Index.ensures ∙ sym c.deref-in-Index-2.ensures) ∙ sym c.start_of-in-Index.ensures)
     ∙ c.in_ok-element-in-Index.ensures) (two_fail_first _ _ _ _
     (c.in_err-fitting_int-in-Index.ensures.given scope (same_scope c.args.names.now c.in_ok-ty-in-Index.ensures.kept h))))))
 
 pub typed_place-returns-in_ok-fitting_int-in-Index-clause-given : goal.typed_place-returns-in_ok-fitting_int-in-Index-clause-given
 typed_place-returns-in_ok-fitting_int-in-Index-clause-given t c =
-    λ scope h. ap (λ v. typing.typed_place (plain_place v) scope (noted_of c.args.state.now)) c.in-Index.is ∙ ap
-    (λ v. typing.typed_place (tree.Index (plain_place v) (plain c.in-Index.index.value)) scope (noted_of c.args.state.now)) (sym c.deref-in-Index.ensures)
-    ∙ ap (λ e. typing.typed_place (tree.Index (plain_place c.deref-in-Index.result.now) (plain e)) scope (noted_of c.args.state.now))
+    λ scope h. ap (λ v. typing.typed_place (plain_lvalue v) scope (noted_of c.args.state.now)) c.in-Index.is ∙ ap
+    (λ v. typing.typed_place (tree.Index (plain_lvalue v) (plain c.in-Index.index.value)) scope (noted_of c.args.state.now)) (sym c.deref-in-Index.ensures)
+    ∙ ap (λ e. typing.typed_place (tree.Index (plain_lvalue c.deref-in-Index.result.now) (plain e)) scope (noted_of c.args.state.now))
     (sym c.deref-in-Index-3.ensures) ∙ step _ _ (c.in_ok-ty-in-Index.ensures.given scope h)
     (step _ _ (ap (λ at. typing.element_of c.in_ok-ty-in-Index.ty at (noted_of c.typed_place-in-Index.new.state))
-    (ap (λ v. typing.place_start (plain_place v)) (c.deref-in-Index.ensures ∙ sym c.deref-in-Index-2.ensures) ∙ sym c.start_of-in-Index.ensures)
+    (ap (λ v. typing.place_start (plain_lvalue v)) (c.deref-in-Index.ensures ∙ sym c.deref-in-Index-2.ensures) ∙ sym c.start_of-in-Index.ensures)
     ∙ c.in_ok-element-in-Index.ensures) (two_steps _ _ _ _
     (c.in_ok-fitting_int-in-Index.ensures.given scope (same_scope c.args.names.now c.in_ok-ty-in-Index.ensures.kept h)) given))
 
@@ -642,7 +642,7 @@ typed-returns-in_err-assignable-in-Assign-clause-given t c =
 pub typed-returns-in_ok-assignable-in-Assign-clause-given : goal.typed-returns-in_ok-assignable-in-Assign-clause-given
 typed-returns-in_ok-assignable-in-Assign-clause-given t c =
     λ scope h. carry c.filled-in-Assign.result _ _ (ap (λ k. typing.typed (plain_kind k c.args.e.now.span) scope (noted_of c.args.state.now)) c.in-Assign.is
-    ∙ ap (λ x. typing.typed (tree.Assign c.args.e.now.span (plain_place c.in-Assign.place) (plain x)) scope (noted_of c.args.state.now))
+    ∙ ap (λ x. typing.typed (tree.Assign c.args.e.now.span (plain_lvalue c.in-Assign.place) (plain x)) scope (noted_of c.args.state.now))
     (sym c.deref-in-Assign.ensures) ∙ (step _ _ (c.in_ok-ty-in-Assign.ensures.given scope h)
     (step _ _ (c.in_ok-assignable-in-Assign.ensures scope c.args.in_loop (same_scope c.args.names.now c.in_ok-ty-in-Assign.ensures.kept h) _) refl) ∙ ap
     (λ w. filled w c.in_ok-ty-in-Assign.ty (plain c.deref-in-Assign.result.now) scope (noted_of c.typed_place-in-Assign.new.state)) (sym c.nothing.ensures)))

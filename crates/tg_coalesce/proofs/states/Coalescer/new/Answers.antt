@@ -22,7 +22,7 @@ invariant_of-work c =
       lists = ap (λ (l : Lists). l.nodes) c.in_ok-new.ensures ∙ nodes;
       degrees = ap length c.in_ok-degrees_of.ensures ∙ length_first c.args.graph some;
       classes = ap (λ (g : Grouping). length g.aliases) c.in_ok-new-2.ensures
-          ∙ (length-range_with_len 0 (length c.args.marks.now) ∙ c.requires.marks);
+          ∙ (length-range_with_len 0 (length c.args.facts.now) ∙ c.requires.facts);
       touching = ap (λ (t : Table). length t.touching) c.in_ok-new-3.ensures
           ∙ (length_listed moves c.nodes-nodes.result (length moves) ∙ nodes);
     }
@@ -31,7 +31,7 @@ pub loop-node-preserved : goal.loop-node-preserved
 loop-node-preserved c =
     let n = c.loop-node.node in
     let w = c.loop-node.work in
-    let first = unlisted c.args.graph c.args.moves.now c.args.marks.now in
+    let first = unlisted c.args.graph c.args.moves.now c.args.facts.now in
     let low : colours ≤ n = omega arith in
     record {
       nodes = ap (λ (v : Work). v.graph.nodes) c.relist.ensures
@@ -44,7 +44,7 @@ loop-node-preserved c =
 pub returns-clause-value : goal.returns-clause-value
 unfolding started
 returns-clause-value c =
-    let first = unlisted c.args.graph c.args.moves.now c.args.marks.now in
+    let first = unlisted c.args.graph c.args.moves.now c.args.facts.now in
     let all : c.loop-node.node ≡ c.args.graph.nodes = omega (arith, c.nodes-nodes.ensures.value, c.nodes-nodes.ensures.low) in
     c.loop-node.invariant.so_far
     ∙ ap (λ (k : ℕ). fold (λ (v : Work) (x : ℕ). relisted x v) first (range_with_len colours (k - colours))) all

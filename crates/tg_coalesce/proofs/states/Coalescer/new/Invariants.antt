@@ -9,5 +9,5 @@ abbrev pub invariant-loop-node : goal.invariant-loop-node
 invariant-loop-node l = record {
   nodes : l.work.graph.nodes ≡ l.nodes;
   so_far : l.work ≡
-      fold (λ w x. relisted x w) (unlisted l.fn.graph l.moves l.marks) (range_with_len colours (l.node - colours));
+      fold (λ w x. relisted x w) (unlisted l.fn.graph l.moves l.facts) (range_with_len colours (l.node - colours));
 }

@@ -6,7 +6,7 @@ use Rattle.tg_instr.specs.Codes.{marks_differ, leads_to_marks, has_temps_below, 
 use Rattle.tg_regalloc.specs.Painting.{code_painted, colour_of}
 use Rattle.tg_regalloc.proofs.Replacing.{same_differing, marks_stand, still_ends}
 use Rattle.tg_regalloc.proofs.Painted.{are_painted}
-use Rattle.tg_regalloc.proofs.PaintedNames.{names_allocated, names_alone, slots_stay, painted_behind, homes_behind}
+use Rattle.tg_regalloc.proofs.PaintedNames.{names_allocated, names_alone, slots_stay, painted_behind, locations_behind}
 use Rattle.tg_regalloc.proofs.Registers.{alone_below}
 use Rattle.tg_regalloc.proofs.progress.Progress.colour.Goals as goal
 
@@ -16,10 +16,10 @@ returns-clause-list c =
     ∙ (c.in_ok-list.ensures ∙ painted_behind c.args.round.now c.as_slice.result.now c.args.self.now.code.list c.as_slice-2.result.now
     c.as_slice.ensures c.as_slice-2.ensures)
 
-pub returns-clause-homes : goal.returns-clause-homes
-returns-clause-homes c =
+pub returns-clause-locations : goal.returns-clause-locations
+returns-clause-locations c =
     c.in_ok-registers.ensures
-    ∙ homes_behind c.args.round.now c.as_slice.result.now c.args.self.now.homes.items c.deref.result.now c.as_slice.ensures c.deref.ensures.value
+    ∙ locations_behind c.args.round.now c.as_slice.result.now c.args.self.now.locations.items c.deref.result.now c.as_slice.ensures c.deref.ensures.value
 
 pub invariant_of-result : goal.invariant_of-result
 invariant_of-result c =

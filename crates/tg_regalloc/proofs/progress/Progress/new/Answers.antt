@@ -12,21 +12,21 @@ use Rattle.tg_regalloc.proofs.progress.Progress.new.Goals as goal
 pub returns-clause-list : goal.returns-clause-list
 returns-clause-list c =
     let code = c.args.code.now in
-    let all : c.in_ok-homes.homes.items ≡ replicate code.temps None = grind (arith, common_steps, c.in_ok-homes.ensures.items_if_clones_equal) in
+    let all : c.in_ok-locations.locations.items ≡ replicate code.temps None = grind (arith, common_steps, c.in_ok-locations.ensures.items_if_clones_equal) in
     let none : slot_in c.deref.result.now ≡ nowhere = ap slot_in (c.deref.ensures.value ∙ all) ∙ has_none code.temps in
     c.in_ok-code.ensures.list ∙ (ap (λ f. code_rewritten f code.list code.temps) none ∙ code_stays code.list code.temps)
 
 pub returns-clause-temps : goal.returns-clause-temps
 returns-clause-temps c =
     let code = c.args.code.now in
-    let all : c.in_ok-homes.homes.items ≡ replicate code.temps None = grind (arith, common_steps, c.in_ok-homes.ensures.items_if_clones_equal) in
+    let all : c.in_ok-locations.locations.items ≡ replicate code.temps None = grind (arith, common_steps, c.in_ok-locations.ensures.items_if_clones_equal) in
     let none : slot_in c.deref.result.now ≡ nowhere = ap slot_in (c.deref.ensures.value ∙ all) ∙ has_none code.temps in
     c.in_ok-code.ensures.temps ∙ (ap (λ f. temps_after f code.list code.temps) none ∙ temps_stay code.list code.temps)
 
 pub invariant_of-result : goal.invariant_of-result
 invariant_of-result c =
     let code = c.args.code.now in
-    let all : c.in_ok-homes.homes.items ≡ replicate code.temps None = grind (arith, common_steps, c.in_ok-homes.ensures.items_if_clones_equal) in
+    let all : c.in_ok-locations.locations.items ≡ replicate code.temps None = grind (arith, common_steps, c.in_ok-locations.ensures.items_if_clones_equal) in
     let none : slot_in c.deref.result.now ≡ nowhere = ap slot_in (c.deref.ensures.value ∙ all) ∙ has_none code.temps in
     let same : c.in_ok-code.code.list ≡ code.list =
     c.in_ok-code.ensures.list ∙ (ap (λ f. code_rewritten f code.list code.temps) none ∙ code_stays code.list code.temps) in

@@ -19,15 +19,15 @@ slots_of-requires-clause-aliases c =
 pub slots_of-requires-clause-classes : goal.slots_of-requires-clause-classes
 slots_of-requires-clause-classes c =
     classes_below c.args.round.now c.args.self.code.temps c.requires.nodes c.as_slice-aliases.result.now c.as_slice-aliases.ensures
-    (length c.args.self.homes.items) c.args.classes.now c.requires.classes
+    (length c.args.self.locations.items) c.args.classes.now c.requires.classes
 
 pub returns-clause-list : goal.returns-clause-list
 returns-clause-list c =
     let code = c.args.self.code in
     c.in_ok-code.ensures.list
-    ∙ code_alike code.temps (slot_in c.deref.result.now) (slot_after (length c.args.self.homes.items) c.args.self.slots c.args.round.now)
+    ∙ code_alike code.temps (slot_in c.deref.result.now) (slot_after (length c.args.self.locations.items) c.args.self.slots c.args.round.now)
     (alike c.args.round.now code.temps c.requires.nodes c.as_slice-aliases.result.now c.as_slice-aliases.ensures
-    (length c.args.self.homes.items) c.args.self.slots c.args.classes.now c.deref.result.now c.requires.classes
+    (length c.args.self.locations.items) c.args.self.slots c.args.classes.now c.deref.result.now c.requires.classes
     (c.deref.ensures.value ∙ c.in_ok-slots.ensures))
     code.list code.temps code.temps_below
 
@@ -35,9 +35,9 @@ pub returns-clause-temps : goal.returns-clause-temps
 returns-clause-temps c =
     let code = c.args.self.code in
     c.in_ok-code.ensures.temps
-    ∙ temps_alike code.temps (slot_in c.deref.result.now) (slot_after (length c.args.self.homes.items) c.args.self.slots c.args.round.now)
+    ∙ temps_alike code.temps (slot_in c.deref.result.now) (slot_after (length c.args.self.locations.items) c.args.self.slots c.args.round.now)
     (alike c.args.round.now code.temps c.requires.nodes c.as_slice-aliases.result.now c.as_slice-aliases.ensures
-    (length c.args.self.homes.items) c.args.self.slots c.args.classes.now c.deref.result.now c.requires.classes
+    (length c.args.self.locations.items) c.args.self.slots c.args.classes.now c.deref.result.now c.requires.classes
     (c.deref.ensures.value ∙ c.in_ok-slots.ensures))
     code.list code.temps code.temps_below
 
@@ -45,7 +45,7 @@ pub invariant_of-result : goal.invariant_of-result
 invariant_of-result c =
     let code = c.args.self.code in
     let base = c.args.self.slots in
-    let originals = length c.args.self.homes.items in
+    let originals = length c.args.self.locations.items in
     let round = c.args.round.now in
     let slot_of = slot_after originals base round in
     let e : c.in_ok-code.code.list ≡ code_rewritten slot_of code.list code.temps =
@@ -67,17 +67,17 @@ invariant_of-result c =
           (slots_weaker base (base + length (slotted originals round)) (omega arith)) code.list c.args.self.slots_below)));
     }
 
-pub returns-clause-homes : goal.returns-clause-homes
-returns-clause-homes c t l =
-    let old = c.args.self.homes.items in
-    let size : length c.fill_homes.new.homes ≡ length old = c.fill_homes.auto.homes ∙ ap length c.deref_mut.ensures.value in
+pub returns-clause-locations : goal.returns-clause-locations
+returns-clause-locations c t l =
+    let old = c.args.self.locations.items in
+    let size : length c.fill_locations.new.locations ≡ length old = c.fill_locations.auto.locations ∙ ap length c.deref_mut.ensures.value in
     let before : length c.deref_mut.result.now ≡ length old = ap length c.deref_mut.ensures.value in
     let alike_here : AreAlike c.args.self.code.temps (slot_in c.deref.result.now) (slot_after (length old) c.args.self.slots c.args.round.now) =
     alike c.args.round.now c.args.self.code.temps c.requires.nodes c.as_slice-aliases.result.now c.as_slice-aliases.ensures
     (length old) c.args.self.slots c.args.classes.now c.deref.result.now c.requires.classes (c.deref.ensures.value ∙ c.in_ok-slots.ensures) in
-    let few = c.requires.homes in
-    filled c.args.self.homes.len c.fill_homes.new.homes old t (let n = c.deref_mut.ensures.len in omega (arith, n, before)) size l
-    ∙ (c.fill_homes.ensures t (omega (arith, before, l))
+    let few = c.requires.locations in
+    filled c.args.self.locations.len c.fill_locations.new.locations old t (let n = c.deref_mut.ensures.len in omega (arith, n, before)) size l
+    ∙ (c.fill_locations.ensures t (omega (arith, before, l))
     ∙ (ap (λ xs. option_or (slot_in xs t) (slot_in c.deref-2.result.now t)) c.deref_mut.ensures.value
     ∙ (ap (λ xs. option_or (slot_in old t) (slot_in xs t)) (c.deref-2.ensures.value ∙ sym c.deref.ensures.value)
     ∙ ap (option_or (slot_in old t)) (alike_here t (omega (arith, few, l))))))

@@ -1,7 +1,0 @@
-use Rattle.tg_canon.specs.Views.{plain_part}
-use Rattle.tg_canon.proofs.Others.{other_gives}
-use Rattle.tg_canon.proofs.lifted.hold_for.Goals as goal
-
-pub returns-in_ok-hold_unless_it_stays-in_default : goal.returns-in_ok-hold_unless_it_stays-in_default
-returns-in_ok-hold_unless_it_stays-in_default c = other_gives (plain_part c.args.part.now) c.args.x c.in_default.not-Binary
-    c.in_ok-hold_unless_it_stays-in_default.ensures

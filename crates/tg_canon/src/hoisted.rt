@@ -1,0 +1,270 @@
+ghost use Rattle.std.specs.Prelude.{◌≡◌, IfOk};
+ghost use Rattle.tg_tree.specs.Plain.{plain_tx};
+ghost use Rattle.tg_tree.specs.Tree as tree;
+ghost use Rattle.tg_canon.specs.Canon as canon;
+ghost use Rattle.tg_canon.specs.Drawing.{DrawsFrom};
+ghost use Rattle.tg_canon.specs.Views.{plain_part, plain_hoisted, plain_two, plain_arguments};
+
+use crate::parts::{Part, is_nothing, nothing};
+use crate::supply::Supply;
+use std::alloc::Global;
+use tg_base::{Label, Memory, keep_with};
+use tg_tree::{Bin, Ts, Tx, Txs, binary, call, load, load_byte, service};
+
+/// What is left of an expression, a flat one or a call or service of flat ones, behind what is
+/// hoisted out of it.
+#[derive(Drop)]
+pub(crate) struct Hoisted {
+    pub(crate) front: Part,
+    pub(crate) rest: Tx,
+}
+
+/// The same of two expressions.
+#[derive(Drop)]
+pub(crate) struct Two {
+    pub(crate) front: Part,
+    pub(crate) left: Tx,
+    pub(crate) right: Tx,
+}
+
+/// The same of a call's arguments, the first one last, as they are found from the right.
+#[derive(Drop)]
+pub(crate) struct Arguments {
+    pub(crate) front: Part,
+    pub(crate) reversed: Vec<Tx>,
+}
+
+/// An expression that nothing is hoisted out of.
+pub(crate) fn whole(alloc: Global, x: Tx) -> Hoisted
+    ensures { plain_hoisted result ≡ canon.whole (plain_tx x) }
+{
+    Hoisted {
+        front: Part::still(nothing(alloc)),
+        rest: x,
+    }
+}
+
+/// No argument.
+pub(crate) fn no_arguments(alloc: Global) -> Arguments
+    ensures { plain_arguments result ≡ canon.no_arguments }
+{
+    Arguments {
+        front: Part::still(nothing(alloc)),
+        reversed: Vec::new(alloc),
+    }
+}
+
+/// An expression behind one more part.
+pub(crate) fn behind(alloc: Global, first: Part, a: Hoisted) -> Result<Hoisted, Memory>
+    ensures { IfOk result (λ b.
+        plain_hoisted b ≡ canon.behind (plain_part first) (plain_hoisted a)) }
+{
+    Ok(Hoisted {
+        front: first.before(alloc, a.front)?,
+        rest: a.rest,
+    })
+}
+
+// An expression is held in a fresh temporary.
+fn hold(supply: &mut Supply, x: Tx) -> Result<Hoisted, Memory>
+    ensures { IfOk result (λ a.
+        DrawsFrom (canon.hold (plain_tx x)) supply.old.next (plain_hoisted a) supply.new.next) }
+{
+    let temp = supply.fresh()?;
+    Ok(Hoisted {
+        front: Part::still(Ts::Move(temp, x)),
+        rest: Tx::Temp(temp),
+    })
+}
+
+fn is_effect(x: &Tx) -> bool
+    ensures { result ≡ canon.is_effect (plain_tx x.now) }
+{
+    matches!(x, Tx::Call(_, _) | Tx::Service(_, _))
+}
+
+/// The word of a call or service is held.
+pub(crate) fn word(supply: &mut Supply, a: Hoisted) -> Result<Hoisted, Memory>
+    ensures { IfOk result (λ b. DrawsFrom
+        (canon.hold_effect (canon.is_effect (plain_tx a.rest)) (plain_hoisted a))
+        supply.old.next (plain_hoisted b) supply.new.next) }
+{
+    if is_effect(&a.rest) {
+        let Hoisted { front, rest } = a;
+        let held = hold(supply, rest)?;
+        Ok(behind(supply.alloc, front, held)?)
+    } else {
+        Ok(a)
+    }
+}
+
+// Whether an expression gives the same word behind a part: it reads no memory, and no temporary
+// that the part assigns.
+fn commutes(part: &Part, x: &Tx) -> bool
+    ensures { result ≡ canon.commutes (plain_part part.now) (plain_tx x.now) }
+{
+    match x {
+        Tx::Const(_) | Tx::Address(_) | Tx::FrameAddress => true,
+        Tx::Temp(temp) => !part.may_assign(*temp),
+        _ => false,
+    }
+}
+
+fn hold_unless_it_commutes(supply: &mut Supply, part: &Part, x: Tx) -> Result<Hoisted, Memory>
+    ensures { IfOk result (λ a. DrawsFrom
+        (canon.hold_unless (canon.commutes (plain_part part.now) (plain_tx x)) (plain_tx x))
+        supply.old.next (plain_hoisted a) supply.new.next) }
+{
+    if commutes(part, &x) {
+        Ok(whole(supply.alloc, x))
+    } else {
+        Ok(hold(supply, x)?)
+    }
+}
+
+fn is_constant(x: &Tx) -> bool
+    ensures { result ≡ canon.is_constant (plain_tx x.now) }
+{
+    matches!(x, Tx::Const(_))
+}
+
+fn is_sum(op: Bin) -> bool
+    ensures { result ≡ canon.is_sum op }
+{
+    matches!(op, Bin::Add | Bin::Sub)
+}
+
+// A constant offset stays where it is, and what it is added to is held.
+fn hold_for_sum(
+    supply: &mut Supply,
+    part: &Part,
+    op: Bin,
+    left: Tx,
+    right: Tx,
+) -> Result<Hoisted, Memory>
+    ensures { IfOk result (λ a. DrawsFrom
+        (canon.hold_for (plain_part part.now) (tree.Binary op (plain_tx left) (plain_tx right)))
+        supply.old.next (plain_hoisted a) supply.new.next) }
+{
+    if is_sum(op) && is_constant(&right) {
+        let (right, held) = keep_with(right, hold_unless_it_commutes(supply, part, left))?;
+        let sum = binary(supply.alloc, op, held.rest, right);
+        let (front, rest) = keep_with(held.front, sum)?;
+        Ok(Hoisted { front, rest })
+    } else {
+        let sum = binary(supply.alloc, op, left, right)?;
+        Ok(hold(supply, sum)?)
+    }
+}
+
+fn hold_for(supply: &mut Supply, part: &Part, x: Tx) -> Result<Hoisted, Memory>
+    ensures { IfOk result (λ a. DrawsFrom (canon.hold_for (plain_part part.now) (plain_tx x))
+        supply.old.next (plain_hoisted a) supply.new.next) }
+{
+    match x {
+        Tx::Binary(op, left, right) => {
+            let left = Box::into_inner(left);
+            let right = Box::into_inner(right);
+            Ok(hold_for_sum(supply, part, op, left, right)?)
+        }
+        other => Ok(hold_unless_it_commutes(supply, part, other)?),
+    }
+}
+
+// An expression in front of a part.
+fn in_front_of(supply: &mut Supply, part: &Part, a: Hoisted) -> Result<Hoisted, Memory>
+    ensures { IfOk result (λ b.
+        DrawsFrom (canon.in_front_of (plain_part part.now) (plain_hoisted a))
+        supply.old.next (plain_hoisted b) supply.new.next) }
+{
+    if is_nothing(&part.statement) {
+        Ok(a)
+    } else {
+        let Hoisted { front, rest } = a;
+        let held = hold_for(supply, part, rest)?;
+        Ok(behind(supply.alloc, front, held)?)
+    }
+}
+
+/// Two expressions, of which the right one is hoisted before the left one.
+pub(crate) fn side_by_side(
+    supply: &mut Supply,
+    left: Hoisted,
+    right: Hoisted,
+) -> Result<Two, Memory>
+    ensures { IfOk result (λ both. DrawsFrom
+        (canon.side_by_side (plain_hoisted left) (plain_hoisted right))
+        supply.old.next (plain_two both) supply.new.next) }
+{
+    let held = in_front_of(supply, &right.front, left)?;
+    Ok(Two {
+        front: held.front.before(supply.alloc, right.front)?,
+        left: held.rest,
+        right: right.rest,
+    })
+}
+
+/// One more argument in front of the others.
+pub(crate) fn argument(
+    supply: &mut Supply,
+    first: Hoisted,
+    others: Arguments,
+) -> Result<Arguments, Memory>
+    ensures { IfOk result (λ all. DrawsFrom
+        (canon.argument (plain_hoisted first) (plain_arguments others))
+        supply.old.next (plain_arguments all) supply.new.next) }
+{
+    let held = in_front_of(supply, &others.front, first)?;
+    let mut reversed = others.reversed;
+    reversed.push(held.rest)?;
+    Ok(Arguments {
+        front: held.front.before(supply.alloc, others.front)?,
+        reversed,
+    })
+}
+
+/// An operator over two hoisted expressions.
+pub(crate) fn operate(alloc: Global, op: Bin, both: Two) -> Result<Hoisted, Memory>
+    ensures { IfOk result (λ a.
+        plain_hoisted a ≡ canon.over_two (tree.Binary op) (plain_two both)) }
+{
+    let (front, rest) = keep_with(both.front, binary(alloc, op, both.left, both.right))?;
+    Ok(Hoisted { front, rest })
+}
+
+/// The word at a hoisted address.
+pub(crate) fn load_from(alloc: Global, a: Hoisted) -> Result<Hoisted, Memory>
+    ensures { IfOk result (λ b. plain_hoisted b ≡ canon.over tree.Load (plain_hoisted a)) }
+{
+    let (front, rest) = keep_with(a.front, load(alloc, a.rest))?;
+    Ok(Hoisted { front, rest })
+}
+
+/// The byte at a hoisted address.
+pub(crate) fn load_byte_from(alloc: Global, a: Hoisted) -> Result<Hoisted, Memory>
+    ensures { IfOk result (λ b. plain_hoisted b ≡ canon.over tree.LoadByte (plain_hoisted a)) }
+{
+    let (front, rest) = keep_with(a.front, load_byte(alloc, a.rest))?;
+    Ok(Hoisted { front, rest })
+}
+
+/// A service with a hoisted argument.
+pub(crate) fn serve(alloc: Global, number: u32, a: Hoisted) -> Result<Hoisted, Memory>
+    ensures { IfOk result (λ b.
+        plain_hoisted b ≡ canon.over (tree.Service number) (plain_hoisted a)) }
+{
+    let (front, rest) = keep_with(a.front, service(alloc, number, a.rest))?;
+    Ok(Hoisted { front, rest })
+}
+
+/// A call with hoisted arguments.
+pub(crate) fn call_of(label: Label, all: Arguments) -> Hoisted
+    ensures { plain_hoisted result ≡ canon.over_all (tree.Call label.0) (plain_arguments all) }
+{
+    let mut arguments = all.reversed;
+    arguments.reverse();
+    Hoisted {
+        front: all.front,
+        rest: call(label, arguments),
+    }
+}
