@@ -30,7 +30,7 @@ static uint64_t eight_bytes(uint64_t state, uint64_t value)
     return folded(state ^ value, multiplier ^ 16);
 }
 
-/* an identifier's bytes are hashed as one number, and a byte 255 behind them */
+/* an identifier's bytes are hashed as one number, and a byte 255 after them */
 static uint64_t hash_of_name(const char *name)
 {
     uint64_t value;

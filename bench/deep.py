@@ -81,7 +81,7 @@ def repeated(piece, first=b"", last=b""):
 
 
 def gathered(pieces):
-    """Pieces one behind another. No list of them is made: a call seems to take what Python had when it began it."""
+    """Pieces one after another. No list of them is made: a call seems to take what Python had when it began it."""
     text = bytearray()
     for piece in pieces:
         text += piece
@@ -94,7 +94,7 @@ def labels(size):
 
 
 def short_labels(behind, before=b""):
-    """Texts of so many bytes at most, of labels of four bytes in their order, each with the same before it and behind it."""
+    """Texts of so many bytes at most, of labels of four bytes in their order, each with the same before it and after it."""
     others = sorted(b"ABCDEFGHIJKLMNOPQRSTUVWXYZ_abcdefghijklmnopqrstuvwxyz0123456789.")
     firsts = [byte for byte in others if bytes([byte]).isalpha() or byte == ord("_")]
 

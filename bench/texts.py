@@ -2,7 +2,7 @@
 
 
 def text(code, statics="", functions=""):
-    """A text whose code begins at main and ends with status 0 behind the last line."""
+    """A text whose code begins at main and ends with status 0 after the last line."""
     data = f"        .data\n{statics}" if statics else ""
     return f"{data}        .text\n        .globl main\n{code}        li $v0, 10\n        syscall\n{functions}"
 

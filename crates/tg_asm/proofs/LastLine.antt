@@ -1,4 +1,4 @@
--- The last line is counted by newlines with a byte behind them.
+-- The last line is counted by newlines with a byte after them.
 use Rattle.std.proofs.Common.{◌≡◌, ◌+◌, ◌==◌, ℕ, Bool, true, false, cond, List, [], ◌∷◌, ◌++◌, count_by, refl, sym, ap, ◌∙◌, arith}
 use Rattle.std.proofs.lemmas.List.Sums.{sum_by-cons}
 use Rattle.tg_asm_text.specs.Assembly.{last_line_number, count_line}

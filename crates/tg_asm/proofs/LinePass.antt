@@ -12,7 +12,7 @@ use Rattle.tg_asm.specs.Entries.{AreFirst, Finds, Lined, Rises, unlined, first_a
 use Rattle.tg_asm.specs.Layouts.{IsLaidOut, IsSmall, TellsAgain, lined_at, lined_of_reading, lined_of_line, put_labels, put_reading, put_line, told}
 use Rattle.tg_asm.proofs.LayoutLoops.{or_later, labels_by, first_again-append, labels_told, again_here}
 
--- what is left to lay out behind a line
+-- what is left to lay out after a line
 abbrev behind : ℕ → Result Layout AsmRule → List (List ℕ) → Result Layout Fault
 behind n (Ok m) more = layout (n + 1) m more
 behind n (Err e) more = Err (record { rule = e; line = n })
@@ -67,7 +67,7 @@ pub laid_first : (text : List ℕ) (es : List Lined) (l : Layout) → l ≡ blan
 laid_first text es l e f =
     rw (e, f) (record { same = refl; labels = refl; rises = λ more r. lower 0 1 more (omega arith) r; small = (omega arith, omega arith); count = omega arith })
 
--- a line's labels come behind those before it
+-- a line's labels come after those before it
 line_rises : (n : ℕ) (l : Layout) (names : List (List ℕ)) (more : List Lined) → Rises (n + 1) more → Rises n (map (lined_at n l) names ++ more)
 line_rises n l [] more r = lower n (n + 1) more (omega arith) r
 line_rises n l (name ∷ names) more r = (omega arith, line_rises n l names more r)

@@ -12,7 +12,7 @@ use Rattle.tg_asm.specs.declared.faults.Refused.{Refused}
 use Rattle.tg_asm.specs.declared.faults.Refused.TheVariants as refused
 use Rattle.tg_asm.specs.declared.cuts.Operand.{Operand}
 
--- words behind one word
+-- words after one word
 pub word_made : (l : Layout) (m k : Made) (c : items.Coded) (cs : List items.Coded) → make_words l m (c ∷ []) ≡ Ok k →
     make_words l m (c ∷ cs) ≡ make_words l k cs
 word_made l m k c cs e = by (word l (length m.code) c) refl
@@ -32,7 +32,7 @@ word_bad l m c cs r e = by (word l (length m.code) c) refl
     by (Ok w) h = let o = rw (h, make_words) at e in cc
     by (Err q) h = let o = rw (h, make_words) at e in rw (h, make_words) o
 
--- data behind one datum
+-- data after one datum
 datum_made : (l : Layout) (m k : Made) (d : items.Datum) (ds : List items.Datum) → make_data l m (d ∷ []) ≡ Ok k → make_data l m (d ∷ ds) ≡ make_data l k ds
 datum_made l m k d ds e = by (datum_bytes l d) refl
   where

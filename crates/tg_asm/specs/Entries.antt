@@ -11,7 +11,7 @@ use Rattle.tg_asm_text.specs.Assembly.{spot_among}
 use Rattle.tg_asm.specs.declared.entries.Entry.{Entry}
 use Rattle.tg_asm.specs.Spots.{spot_of}
 
--- a name behind its front
+-- a name after its front
 abbrev pub Key : Type 0
 Key = ℕ × Bor (List ℕ)
 

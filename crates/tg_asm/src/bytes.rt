@@ -80,7 +80,7 @@ pub(crate) fn skip(text: &[u8]) -> &[u8]
     split(text, Class::Solid).1
 }
 
-/// The first line of a text, and the text behind its newline, if it has one.
+/// The first line of a text, and the text after its newline, if it has one.
 
 pub(crate) fn split_line(text: &[u8]) -> (&[u8], Option<&[u8]>)
     ensures lines { MatchOption result.1 (lines.lines text.now ≡ result.0.now ∷ [])

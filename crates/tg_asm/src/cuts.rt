@@ -48,7 +48,7 @@ pub(crate) fn label_at(text: &[u8]) -> Option<(&[u8], &[u8])>
     }
 }
 
-/// What stands between quotes, from behind the first one, and what follows the second.
+/// What stands between quotes, from after the first one, and what follows the second.
 fn quoted(text: &[u8]) -> Option<(&[u8], &[u8])>
     ensures { pair_of result ≡ lines.quoted false text.now }
 {
@@ -75,7 +75,7 @@ fn first_operand(text: &[u8]) -> Option<(Operand<'_>, &[u8])>
     Some((Operand::Plain(&text[..run.len() + 1]), rest))
 }
 
-/// Behind an item's word.
+/// After an item's word.
 fn first_gap(text: &[u8]) -> Gap<'_>
     ensures { gap_of result ≡ lines.first_gap text.now }
 {
@@ -87,7 +87,7 @@ fn first_gap(text: &[u8]) -> Gap<'_>
     }
 }
 
-/// Behind a comma and its blanks.
+/// After a comma and its blanks.
 fn after_comma(text: &[u8]) -> Gap<'_>
     ensures { gap_of result ≡ lines.after_comma text.now }
 {
@@ -97,7 +97,7 @@ fn after_comma(text: &[u8]) -> Gap<'_>
     }
 }
 
-/// Behind an operand.
+/// After an operand.
 fn next_gap(text: &[u8]) -> Gap<'_>
     ensures { gap_of result ≡ lines.gap text.now }
 {

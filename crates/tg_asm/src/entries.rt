@@ -3,7 +3,7 @@ ghost use Rattle.tg_asm.specs.Fronts.{front_number};
 
 use crate::spots::LabelTarget;
 
-/// A label of a text: its name behind the name's front, its line, and what it stands for. By the
+/// A label of a text: its name after the name's front, its line, and what it stands for. By the
 /// front most comparisons are decided without a look at the text.
 #[derive(Clone, Copy)]
 pub(crate) struct Entry<'a> {
@@ -13,7 +13,7 @@ pub(crate) struct Entry<'a> {
     ghost fronted: { key.0 ≡ front_number key.1.now },
 }
 
-/// A byte of a name, or 0 behind its end.
+/// A byte of a name, or 0 after its end.
 fn byte_at(name: &[u8], at: usize) -> u8
     ensures { result ≡ slice_index_or name.now at 0 }
 {

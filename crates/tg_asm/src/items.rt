@@ -274,7 +274,7 @@ fn values<'a>(
     Ok(Item::Data(align, Contents::Operands(keyword, operands)))
 }
 
-/// The byte of an escape, from behind its `\`.
+/// The byte of an escape, from after its `\`.
 fn escape(byte: u8) -> Option<u8>
     ensures { result ≡ strings.escape byte }
 {
@@ -352,7 +352,7 @@ fn text<'a>(alloc: Global, operands: &[Operand<'a>], ended: bool) -> Result<Item
     }
 }
 
-/// Bytes as an item, with a 0 behind them where they are ended.
+/// Bytes as an item, with a 0 after them where they are ended.
 fn text_item<'a>(bytes: Vec<u8>, ended: bool) -> Result<Item<'a>, Refused>
     ensures { GivesMeant item_of
         (items.text_item (if ended then 0 ∷ [] else []) (Some bytes.items)) result }

@@ -50,7 +50,7 @@ impl<'a> Model for Labels<'a> {
     ghost invariant = { λ l. IsStrictlySortedBy by_key (map key_of l.entries.items) };
 }
 
-/// The order of two names, each behind its front.
+/// The order of two names, each after its front.
 fn compare(one: (u64, &[u8]), other: (u64, &[u8])) -> Ordering
     ensures { result ≡ by_key one.entry other.entry }
 {
@@ -137,14 +137,14 @@ fn signposts_of<'a>(alloc: Global, marks: &[(u64, &'a [u8])]) -> Vec<(u64, &'a [
     signposts
 }
 
-/// Where the marks begin of a signpost, the last that isn't behind a name.
+/// Where the marks begin of a signpost, the last that isn't after a name.
 fn first_mark(signposts: &[(u64, &[u8])], key: (u64, &[u8])) -> usize {
     let passed = signposts.partition_point(|signpost| compare(*signpost, key).is_le());
     passed.saturating_sub(1).saturating_mul(STRETCH)
 }
 
 /// Where the stretch begins in which a name stands if it is a label: that of the last mark from a
-/// place on that isn't behind the name.
+/// place on that isn't after the name.
 fn stretch_of(marks: &[(u64, &[u8])], place: usize, key: (u64, &[u8])) -> usize {
     let from = place.min(marks.len());
     let mut last = from;

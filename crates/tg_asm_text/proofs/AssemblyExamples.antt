@@ -56,7 +56,7 @@ numbers : assembled (codes "main: li $t0, -32768\nli $t0, 65535\nli $t0, 65536\n
     image (0x24088000 ∷ 0x3408FFFF ∷ 0x3C080001 ∷ 0x35080000 ∷ 0x00088021 ∷ []) []
 numbers = refl
 
--- labels of the statics stand behind the padding, and at the end before it
+-- labels of the statics stand after the padding, and at the end before it
 padding : assembled (codes "main: nop\n.data\n.byte 1, -1\nx:\n.word x, y, 0xFFFFFFFF\n.align 3\n.byte 2\ny:") ≡
     image (0 ∷ []) (1 ∷ 255 ∷ 0 ∷ 0 ∷ 4 ∷ 0 ∷ 1 ∷ 16 ∷ 17 ∷ 0 ∷ 1 ∷ 16 ∷ 255 ∷ 255 ∷ 255 ∷ 255 ∷ 2 ∷ [])
 padding = refl

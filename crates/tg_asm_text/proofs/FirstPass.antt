@@ -1,4 +1,4 @@
--- The first pass lays readings out: what it knows of them behind the last line.
+-- The first pass lays readings out: what it knows of them after the last line.
 use Rattle.std.specs.Prelude.{AllPairs, nat_le}
 use Rattle.std.proofs.Common.{◌≡◌, ◌≢◌, ◌≤◌, ◌+◌, ℕ, true, false, Bool, List, [], ◌∷◌, ◌++◌, length, map, None, Result, Ok, Err, get_or, suc, le-leb}
 use Rattle.std.proofs.Common.{refl, sym, ap, subst, ◌∙◌, arith, append_assoc, length-append}
@@ -53,7 +53,7 @@ laid l rs =
     layout_with (segment_end l.segment rs) (l.words + length (code_in rs)) (l.starts ++ starts_from l.size rs) (last_byte l.size rs)
     (l.labels ++ spots_from l.segment l.words (length l.starts) rs)
 
--- a layout behind labels, and behind an item
+-- a layout after labels, and after an item
 abbrev labelled_so : Layout → List (List ℕ) → Layout
 labelled_so l names = record l { labels = l.labels ++ named_so (next_spot l l.segment) names }
 

@@ -8,14 +8,14 @@ use Rattle.tg_asm_text.specs.Placement.{image_of}
 use Rattle.tg_asm_text.specs.Texts.{Line, Enter, Label, One, La, Align, Words, Bytes, Text, text_of, readings_of}
 use Rattle.std.specs.Prelude.{Ok}
 
--- a program with a branch, a call, a literal behind one byte, and words
+-- a program with a branch, a call, a literal after one byte, and words
 program : List Line
 program =
     Label (codes "main") ∷ La 4 (codes "text") ∷ Label (codes "again") ∷ One (row.Jal 0) (codes "f") ∷ One (row.Bne 2 0 0) (codes "again")
     ∷ Label (codes "f") ∷ One (row.Addiu 29 29 65528) [] ∷ One (row.Beq 0 0 0) (codes "f") ∷ Enter Statics ∷ Bytes (7 ∷ 255 ∷ [])
     ∷ Label (codes "text") ∷ Words (2 ∷ 4294967295 ∷ []) ∷ Text (104 ∷ 10 ∷ 34 ∷ 92 ∷ 0 ∷ 9 ∷ 200 ∷ []) ∷ Align 2 ∷ Label (codes "end") ∷ []
 
--- the label of the words is behind their padding
+-- the label of the words is after their padding
 program_image : Assembled
 program_image = record {
   code = 0x3C041001 ∷ 0x34840004 ∷ 0x0C100004 ∷ 0x1440FFFE ∷ 0x27BDFFF8 ∷ 0x1000FFFE ∷ [];

@@ -31,7 +31,7 @@ use Rattle.tg_asm_text.proofs.WordCuts.{AreWords, plains, next_operands, cut_unl
 use Rattle.tg_asm_text.proofs.OperandTexts.{register_named, name_word, decimal_text, label_word, none_past, label_end, letter_in}
 use Rattle.tg_asm_text.proofs.ReadBack.{Ready, ready, words_read, words_line, reads, step, rt_in, label_in, fields}
 
--- a line and the text behind its newline
+-- a line and the text after its newline
 abbrev is_some_line : List (List ℕ) → Bool
 is_some_line [] = false
 is_some_line (l ∷ ls) = true

@@ -280,7 +280,7 @@ pub record Assembled : Type 0 where
   pub statics : List ℕ
   pub entry : ℕ
 
--- the number of the last line: bytes 10 with a byte behind them, and one more
+-- the number of the last line: bytes 10 with a byte after them, and one more
 abbrev pub count_line : ℕ → List ℕ → ℕ → ℕ
 count_line c [] n = n
 count_line c (d ∷ text) n = if c == 10 then n + 1 else n

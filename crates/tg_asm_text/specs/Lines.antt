@@ -91,7 +91,7 @@ pub data Operand : Type 0 where
   Plain : List ℕ → Operand
   Quoted : List ℕ → Operand
 
--- the bytes up to the closing quote, and those behind it; a `\` takes the next byte along
+-- the bytes up to the closing quote, and those after it; a `\` takes the next byte along
 abbrev pub before_quoted : ℕ → Option (List ℕ × List ℕ) → Option (List ℕ × List ℕ)
 before_quoted c (Some q) = Some (c ∷ q.0, q.1)
 before_quoted c None = None
@@ -132,7 +132,7 @@ abbrev pub after_comma : List ℕ → Gap
 after_comma [] = Misshapen
 after_comma (c ∷ text) = if c == 35 || c == 44 then Misshapen else Next (c ∷ text)
 
--- behind an operand and blanks, if any
+-- after an operand and blanks, if any
 abbrev pub after_blanks : (blanks : Bool) → List ℕ → Gap
 after_blanks blanks [] = Over
 after_blanks blanks (c ∷ text) =
@@ -140,7 +140,7 @@ after_blanks blanks (c ∷ text) =
     if c == 44 then after_comma (skip text) else
     if blanks then Next (c ∷ text) else Misshapen
 
--- before the first operand, and behind an operand
+-- before the first operand, and after an operand
 abbrev pub first_gap : List ℕ → Gap
 first_gap text = without_comma (skip text)
 

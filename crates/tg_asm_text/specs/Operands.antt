@@ -32,7 +32,7 @@ digit base c =
     if is_in_range 97 102 c then digit_below base (c - 87) else
     None
 
--- what digits behind others with a value come to
+-- what digits after others with a value come to
 abbrev pub digits : (base value : ℕ) → List ℕ → Option ℕ
 digits base value [] = Some value
 digits base value (c ∷ text) =
@@ -45,7 +45,7 @@ abbrev pub some_digits : ℕ → List ℕ → Option ℕ
 some_digits base [] = None
 some_digits base (c ∷ text) = digits base 0 (c ∷ text)
 
--- decimal, or hexadecimal behind `0x`
+-- decimal, or hexadecimal after `0x`
 abbrev pub hexadecimal : List ℕ → List ℕ → Option ℕ
 hexadecimal whole [] = some_digits 10 whole
 hexadecimal whole (c ∷ text) = if c == 120 then some_digits 16 text else some_digits 10 whole

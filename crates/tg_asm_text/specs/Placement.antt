@@ -16,7 +16,7 @@ use Rattle.tg_asm_text.specs.Items.{widths}
 use Rattle.tg_asm_text.specs.Assembly.{Reading, reading, Assembled, round_up, with_offset}
 use Rattle.tg_asm_text.specs.Assembly.{with_target, word_bytes}
 
--- the segment in force behind an item
+-- the segment in force after an item
 abbrev pub segment_behind : Segment → Item → Segment
 segment_behind segment (Section other) = other
 segment_behind segment i = segment
@@ -38,7 +38,7 @@ abbrev pub code_in : List Reading → List Coded
 code_in [] = []
 code_in (r ∷ rs) = item_words r.item ++ code_in rs
 
--- where the statics end behind an item, and behind all items, from a byte on
+-- where the statics end after an item, and after all items, from a byte on
 abbrev pub byte_behind : ℕ → Item → ℕ
 byte_behind byte (Data' multiple ds) = round_up byte multiple + widths ds
 byte_behind byte i = byte
@@ -47,7 +47,7 @@ abbrev pub last_byte : ℕ → List Reading → ℕ
 last_byte byte [] = byte
 last_byte byte (r ∷ rs) = last_byte (byte_behind byte r.item) rs
 
--- where the next item of the statics begins, behind its padding, or where the statics end
+-- where the next item of the statics begins, after its padding, or where the statics end
 abbrev pub begins_at : ℕ → Item → (later : ℕ) → ℕ
 begins_at byte (Data' multiple ds) later = round_up byte multiple
 begins_at byte i later = later
@@ -65,7 +65,7 @@ abbrev pub address_at : Position → ℕ
 address_at (AtWord n) = code_base + 4 * n
 address_at (AtByte n) = statics_base + n
 
--- where the next item of a segment begins, behind so many words and bytes
+-- where the next item of a segment begins, after so many words and bytes
 abbrev pub next_position : Segment → (word byte : ℕ) → List Reading → Position
 next_position Code word byte rs = AtWord word
 next_position Statics word byte rs = AtByte (next_byte byte rs)
@@ -122,7 +122,7 @@ abbrev pub placed_words : Positions → (at : ℕ) → List Coded → List ℕ
 placed_words ps at [] = []
 placed_words ps at (c ∷ cs) = placed_word ps at c ∷ placed_words ps (at + 1) cs
 
--- the bytes of the statics: those of each item, behind its padding
+-- the bytes of the statics: those of each item, after its padding
 abbrev pub placed_datum : Positions → Datum → List ℕ
 placed_datum ps (Value n) = word_bytes (field 32 n)
 placed_datum ps (AddressOfLabel label) = word_bytes (found_address (position_of ps label))

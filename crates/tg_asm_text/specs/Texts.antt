@@ -49,7 +49,7 @@ escaped_text (c ∷ text) = escaped c ++ escaped_text text
 abbrev pub is_in_string : ℕ → Bool
 is_in_string c = is_in_range 32 126 c || (is_in_range 128 255 c || (c == 10 || (c == 9 || c == 0)))
 
--- a line as it is written, without its newline; items stand behind a tab
+-- a line as it is written, without its newline; items stand after a tab
 abbrev pub written_line : Line → List ℕ
 written_line (Enter Code) = codes "\t.text"
 written_line (Enter Statics) = codes "\t.data"
@@ -87,7 +87,7 @@ reading_of (Words ns) = reads_item (items.Data' 4 (map (λ n. items.Value (unsig
 reading_of (Bytes ns) = reads_item (items.Data' 1 (map (λ n. items.Single (unsigned n)) ns))
 reading_of (Text bytes) = reads_item (items.Data' 1 (items.Bytes bytes ∷ []))
 
--- what a text is read as; behind the last newline an empty line follows
+-- what a text is read as; after the last newline an empty line follows
 abbrev pub readings_of : List Line → List Reading
 readings_of [] = reads_item items.Nothing ∷ []
 readings_of (l ∷ ls) = reading_of l ∷ readings_of ls

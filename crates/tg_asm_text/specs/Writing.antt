@@ -117,7 +117,7 @@ written (row.Lw rt n rs) target = register_name rt ∷ based_text n rs ∷ []
 written (row.Sb rt n rs) target = register_name rt ∷ based_text n rs ∷ []
 written (row.Sw rt n rs) target = register_name rt ∷ based_text n rs ∷ []
 
--- operands behind a word, parted by commas
+-- operands after a word, parted by commas
 abbrev pub further : List (List ℕ) → List ℕ
 further [] = []
 further (o ∷ os) = 44 ∷ 32 ∷ o ++ further os

@@ -95,7 +95,7 @@ fn first(alloc: Global, word: &str, operand: &[u8]) -> Result<Vec<u8>, Memory>
     Ok(line)
 }
 
-/// Puts an operand behind others.
+/// Puts an operand after others.
 fn next(line: &mut Vec<u8>, operand: &[u8]) -> Result<(), Memory>
     ensures { OnOk result (line.new.items ≡ line.old.items ++ further (operand.now ∷ [])) }
 {

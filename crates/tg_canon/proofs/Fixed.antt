@@ -1,4 +1,4 @@
--- What runs of flat parts come to: a value, or how they stop, behind fixed units of work, whatever comes next and whatever functions are
+-- What runs of flat parts come to: a value, or how they stop, after fixed units of work, whatever comes next and whatever functions are
 -- called elsewhere.
 use Rattle.std.proofs.Common.{◌≡◌, ℕ, ◌+◌, List, [], ◌∷◌, Bool, true, false, not, Option, Some, None, refl, sym, ap, ◌∙◌}
 use Rattle.std.specs.Prelude.{if◌then◌else◌}

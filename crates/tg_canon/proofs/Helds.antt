@@ -1,4 +1,4 @@
--- Right sides behind the pass, and words that are held or stay.
+-- Right sides after the pass, and words that are held or stay.
 use Rattle.std.proofs.Common.{◌≡◌, ◌⊎◌, ⊎_elim, inl, inr, ℕ, zero, suc, ◌+◌, ◌-◌, ◌<◌, ◌≤◌, min, max, Bool, true, false, not, ◌&&◌, nat_le, refl, sym}
 use Rattle.std.proofs.Common.{ap, ◌∙◌, subst, arith}
 use Rattle.std.proofs.lemmas.Bool.{le-leb, lt-leb}
@@ -64,7 +64,7 @@ both_true : (a b : Bool) → (a && b) ≡ true → (a ≡ true) × (b ≡ true)
 both_true true b e = (refl, e)
 both_true false b e = cc
 
--- what stays behind a part
+-- what stays after a part
 commutes_steady : (p : Part) (x : Tx) → commutes p x ≡ true → IsSteady x
 commutes_steady p (Const _) e = tt
 commutes_steady p (Address _) e = tt
@@ -208,7 +208,7 @@ module _ (z : Scene) where
       (hyp w1 t (set_temp l v t') (beside_drawn z.own J l v w1 t t' 4294967295 0 l (l + 1) (kept refl) le (omega arith) (omega arith)
       (beside_world z.own J w w1 t t' 4294967295 0 l (l + 1) (kept refl) near)))) x f)
 
-  -- What becomes of a flat expression in front of a part: a front, and an expression that gives the same word behind the part.
+  -- What becomes of a flat expression in front of a part: a front, and an expression that gives the same word after the part.
   pub record IsHeld (p : Part) (x : Tx) (low from : ℕ) (h : Hoisted) (to : ℕ) : Type 1 where
     pub runs :
         (J : Known) (r : ℕ) (a : Activation) (o o' : Out) (b b' : Back) (go : Go ℕ) (next : Next) →

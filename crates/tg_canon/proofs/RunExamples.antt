@@ -1,4 +1,4 @@
--- Programs run before and behind the pass, computed.
+-- Programs run before and after the pass, computed.
 use Rattle.std.proofs.Common.{◌≡◌, ℕ, ◌-◌, List, [], ◌∷◌, refl}
 use Rattle.std.specs.Prelude.{pos}
 use Rattle.tg_state.specs.declared.ends.RunEnd.TheVariants.{Exit}
@@ -48,7 +48,7 @@ read_and_call = program (Do (Service 11 (Binary Add (Load taken) called)))
 writes_one : before read_and_call 1 ≡ (1 ∷ [], Ended (Exit (pos 0)))
 writes_one = refl
 
--- behind the pass it does the same: what is read is kept before the call
+-- after the pass it does the same: what is read is kept before the call
 kept_before_the_call : behind (canonical_code read_and_call) 1 ≡ before read_and_call 1
 kept_before_the_call = refl
 

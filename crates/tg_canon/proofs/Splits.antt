@@ -32,7 +32,7 @@ pub record Beside (own : ℕ) (J : Known) (w : World) (t t' : Temps) : Type 0 wh
   pub holds : J w t t'
 
 -- It stays so in any world, where one of the body's own temporaries from the least to the greatest is set on both sides, and where one
--- that is drawn is set behind the pass.
+-- that is drawn is set after the pass.
 pub record StaysKnown (J : Known) (least greatest from to : ℕ) : Type 0 where
   pub world : (w x : World) (t t' : Temps) → J w t t' → J x t t'
   pub assigned : (i v : ℕ) (w : World) (t t' : Temps) → least ≤ i → i ≤ greatest → J w t t' → J w (set_temp i v t) (set_temp i v t')
@@ -94,7 +94,7 @@ pub data Only (w : World) (t t' : Temps) : World → Temps → Temps → Type 0 
   only : Only w t t' w t t'
 
 module _ (z : Scene) where
-  -- breaks and returns lead to where they led; a break out of so many loops is one out of others behind the pass
+  -- breaks and returns lead to where they led; a break out of so many loops is one out of others after the pass
   abbrev pub OutsAre : Known → (credit : ℕ) → (out : ℕ → ℕ) → Out → Out → Type 0
   OutsAre J r out o o' = (k : ℕ) (w : World) (t t' : Temps) → Beside z.own J w t t' → Sim r z.fuel (o k w t) (o' (out k) w t')
 
@@ -137,7 +137,7 @@ module _ (z : Scene) where
         (w : World) (t t' : Temps) → Beside z.own J w t t' →
         Sim r z.fuel (entire (around a o b) next w t) (then_does z part.statement (around a o' b') next' w t')
 
-  -- Statements behind the pass, put together.
+  -- Statements after the pass, put together.
   pub does_nothing : (s : Ts) (e : Around) (next : Next) (w : World) (t : Temps) → is_nothing s ≡ true → then_does z s e next w t ≡ next w t
   does_nothing (Seq no_stms) e next w t p = free (next w t)
   does_nothing (Seq (stm s ss)) e next w t p = cc

@@ -400,7 +400,7 @@ module _ (z : Scene) where
     grows = h.grows;
   }
 
-  -- A statement behind a condition that is tested part by part, and the other one.
+  -- A statement after a condition that is tested part by part, and the other one.
   pub wide_done : (out : ℕ → ℕ) (c : Cond) (s t : Ts) (test p q : Part) (first k l to : ℕ) → extra c ≡ 17 → LeftIs (deeper 2 out) false 0 c l test to →
       IsDone z (deeper 2 out) (tree_does z s) p k l → IsDone z (deeper 1 out) (tree_does z t) q first k → first ≤ k → k ≤ l →
       IsDone z out (tree_does z (If c s t)) (wide_choice test p q) first to

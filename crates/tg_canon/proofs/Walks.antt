@@ -1,4 +1,4 @@
--- Lists of trees, walked from the right: what has come of those behind.
+-- Lists of trees, walked from the right: what has come of the later ones.
 use Rattle.std.proofs.Common.{◌≡◌, ℕ, List, [], ◌∷◌, ◌++◌, refl, sym, ap, ◌∙◌, append_assoc, length, subst, arith}
 use Rattle.std.proofs.lemmas.List.{append-nil}
 use Rattle.tg_tree.specs.declared.trees.Tx.{Tx as CodeTx}

@@ -1,6 +1,6 @@
 -- Canonical trees (Appel, chapter 8). What a statement's expressions can't hold in canonical form,
 -- statements, calls and services, is hoisted in front of it. An expression on the left of what is
--- hoisted is held in a fresh temporary, unless it gives the same word behind it. All is looked at
+-- hoisted is held in a fresh temporary, unless it gives the same word after it. All is looked at
 -- from the right, so that what comes between is known when an expression is.
 use Rattle.std.specs.Prelude.{ℕ, zero, suc, ◌+◌, min, max}
 use Rattle.std.specs.Prelude.{Bool, true, false, not, ◌&&◌, ◌||◌, nat_le, if◌then◌else◌}
@@ -59,7 +59,7 @@ p before q = as_part p q (first_then p.statement q.statement)
 abbrev pub loop_of : Part → Part
 loop_of p = record { statement = Loop p.statement; least = p.least; greatest = p.greatest }
 
--- a loop that is left at its end: a break leads behind it
+-- a loop that is left at its end: a break leads to what comes after it
 abbrev pub block : Part → Part
 block p = record {
   statement = Loop (pair p.statement (Break 0));
@@ -88,7 +88,7 @@ in_turn all = record { statement = Seq all.list; least = all.least; greatest = a
 
 -- Expressions.
 
--- what is left of an expression, a flat one or a call or service of flat ones, behind what is
+-- what is left of an expression, a flat one or a call or service of flat ones, after what is
 -- hoisted out of it
 pub record Hoisted : Type 0 where
   pub front : Part
@@ -135,7 +135,7 @@ word m = do
   a ← m
   hold_effect (is_effect a.rest) a
 
--- whether an expression gives the same word behind a part: it reads no memory, and no temporary
+-- whether an expression gives the same word after a part: it reads no memory, and no temporary
 -- that the part assigns
 abbrev pub commutes : Part → Tx → Bool
 commutes p (Const _) = true
@@ -238,7 +238,7 @@ is_whole (Not c) = is_whole c
 is_whole (Both c d) = is_whole c && is_flat_condition d
 is_whole (Either c d) = is_whole c && is_flat_condition d
 
--- a flat condition behind what is hoisted out of it
+-- a flat condition after what is hoisted out of it
 pub record Tested : Type 0 where
   pub front : Part
   pub condition : Cond
@@ -261,8 +261,8 @@ abbrev pub exit_where : (when : Bool) → (loops : ℕ) → Tested → Part
 exit_where true k t = choice t (still (Break k)) (still nothing)
 exit_where false k t = choice t (still nothing) (still (Break k))
 
--- Where a condition is tested part by part: the first statement stands in two loops behind the
--- test, which leaves the inner one where it fails, and the second in the outer one behind that.
+-- Where a condition is tested part by part: the first statement stands in two loops after the
+-- test, which leaves the inner one where it fails, and the second in the outer one after that.
 abbrev pub wide_choice : Part → (this other : Part) → Part
 wide_choice test p q = block (loop_of (test before p before still (Break 1)) before q)
 

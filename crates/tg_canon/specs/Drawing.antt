@@ -22,6 +22,6 @@ abbrev pub ◌>>=◌ : {A B : Type 0} → Draws A → (A → Draws B) → Draws 
 abbrev pub fresh : Draws ℕ
 fresh k = record { it = k; next = k + 1 }
 
--- from a number on this is drawn, and that is the next number behind it
+-- from a number on this is drawn, and that is the next number after it
 pub record DrawsFrom {A : Type 0} (m : Draws A) (before : ℕ) (drawn : A) (after : ℕ) : Type 0 where
   pub is : m before ≡ record { it = drawn; next = after }

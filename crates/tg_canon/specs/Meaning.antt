@@ -46,7 +46,7 @@ runner stage functions literals size floor room =
 abbrev pub added_work : ℕ
 added_work = 0
 
--- Each body is carried, whatever the functions are that it calls before the pass and behind it.
+-- Each body is carried, whatever the functions are that it calls before the pass and after it.
 abbrev pub BodiesAreCarried : Type 0
 BodiesAreCarried =
     (functions functions' : List (Function Ts)) (literals : List Literal)

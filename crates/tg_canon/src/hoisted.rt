@@ -11,7 +11,7 @@ use std::alloc::Global;
 use tg_base::{Label, Memory, keep_with};
 use tg_tree::{Bin, Ts, Tx, Txs, binary, call, load, load_byte, service};
 
-/// What is left of an expression, a flat one or a call or service of flat ones, behind what is
+/// What is left of an expression, a flat one or a call or service of flat ones, after what is
 /// hoisted out of it.
 #[derive(Drop)]
 pub(crate) struct Hoisted {
@@ -54,7 +54,7 @@ pub(crate) fn no_arguments(alloc: Global) -> Arguments
     }
 }
 
-/// An expression behind one more part.
+/// An expression after one more part.
 pub(crate) fn behind(alloc: Global, first: Part, a: Hoisted) -> Result<Hoisted, Memory>
     ensures { IfOk result (λ b.
         plain_hoisted b ≡ canon.behind (plain_part first) (plain_hoisted a)) }
@@ -98,7 +98,7 @@ pub(crate) fn word(supply: &mut Supply, a: Hoisted) -> Result<Hoisted, Memory>
     }
 }
 
-// Whether an expression gives the same word behind a part: it reads no memory, and no temporary
+// Whether an expression gives the same word after a part: it reads no memory, and no temporary
 // that the part assigns.
 fn commutes(part: &Part, x: &Tx) -> bool
     ensures { result ≡ canon.commutes (plain_part part.now) (plain_tx x.now) }

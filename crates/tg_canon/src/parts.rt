@@ -108,7 +108,7 @@ impl Part {
         })
     }
 
-    /// This one in a loop that is left at its end: a break leads behind it.
+    /// This one in a loop that is left at its end: a break leads to what comes after it.
     pub(crate) fn block(self, alloc: Global) -> Result<Part, Memory>
         ensures { IfOk result (λ p. plain_part p ≡ canon.block (plain_part self)) }
     {

@@ -11,7 +11,7 @@ use std::alloc::Global;
 use tg_base::{Memory, keep_with};
 use tg_tree::{Cond, Rel, Ts, Tx, both, compare, either, if_else, negate};
 
-/// A flat condition behind what is hoisted out of it.
+/// A flat condition after what is hoisted out of it.
 #[derive(Drop)]
 pub(crate) struct Tested {
     pub(crate) front: Part,
@@ -128,8 +128,8 @@ impl Tested {
 }
 
 /// One of two statements, where a condition is tested part by part: the first one stands in two
-/// loops behind the test, which leaves the inner one where it fails, and the second one in the
-/// outer one behind that.
+/// loops after the test, which leaves the inner one where it fails, and the second one in the
+/// outer one after that.
 pub(crate) fn choose_by_parts(
     alloc: Global,
     test: Part,

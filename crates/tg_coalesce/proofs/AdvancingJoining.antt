@@ -49,7 +49,7 @@ by_place kept gone P a b c z =
     ⊎_elim (λ (p : z ≡ gone). subst P (sym p) b) (λ (f : z ≢ gone). c z e f) (cases_eq z gone))
     (cases_eq z kept)
 
--- the list at one place is put behind that at another
+-- the list at one place is put after that at another
 module _ (lists : List (List ℕ)) (kept gone : ℕ) (l : kept < length lists) (m : gone < length lists)
     (d : kept ≢ gone) where
   pub poured_kept : list_at (poured kept gone lists) kept ≡ list_at lists kept ++ list_at lists gone

@@ -20,7 +20,7 @@ singletons_pushed vs v n e f =
     ∙ (ap (λ (ls : List (List ℕ)). ls ++ v.items ∷ []) e
     ∙ (ap (λ (l : List ℕ). singletons n ++ l ∷ []) f ∙ sym (map-range_with_len_more (λ x. x ∷ []) 0 n n (omega arith))))
 
--- what was made of the first elements, and of the one behind them
+-- what was made of the first elements, and of the one after them
 pub map_taken : {A B : Type 0} (f : A → B) (xs : List A) (i : ℕ) (x : A) → i < length xs →
     map f (take i xs) ++ f (get_or xs i x) ∷ [] ≡ map f (take (i + 1) xs)
 map_taken f xs i x l = sym (ap (map f) (take_more xs i x l) ∙ map-append f (take i xs) (get_or xs i x ∷ []))

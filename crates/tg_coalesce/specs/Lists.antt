@@ -15,7 +15,7 @@ list_at lists at = slice_index_or lists at []
 abbrev pub pushed : (at number : ℕ) → List (List ℕ) → List (List ℕ)
 pushed at number lists = slice_set lists at (list_at lists at ++ number ∷ [])
 
--- the list at one place emptied, and its numbers put behind those at another
+-- the list at one place emptied, and its numbers put after those at another
 abbrev pub poured : (to from : ℕ) → List (List ℕ) → List (List ℕ)
 poured to from lists =
     let emptied = slice_set lists from [] in

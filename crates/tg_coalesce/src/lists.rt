@@ -69,7 +69,7 @@ pub(crate) fn push_to(lists: &mut Vec<Numbers>, at: u32, number: u32) -> Result<
     Ok(())
 }
 
-/// Puts all numbers of the list at `from` behind those of the list at `to`, and leaves none there.
+/// Puts all numbers of the list at `from` after those of the list at `to`, and leaves none there.
 pub(crate) fn pour(lists: &mut Vec<Numbers>, to: u32, from: u32) -> Result<(), Memory>
     requires first { to < length lists.old.items }
     requires second { from < length lists.old.items }
@@ -97,7 +97,7 @@ fn take_list(lists: &mut Vec<Numbers>, at: u32) -> Result<Numbers, Memory>
     Ok(mem::try_take(list)?)
 }
 
-/// Puts numbers behind those of one of the lists.
+/// Puts numbers after those of one of the lists.
 fn extend_list(lists: &mut Vec<Numbers>, at: u32, more: &[u32]) -> Result<(), Memory>
     requires { at < length lists.old.items }
     ensures ok { OnOk result

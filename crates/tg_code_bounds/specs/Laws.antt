@@ -119,7 +119,7 @@ FunctionsArePaid =
     MayBeFlattened f → IsAllocationOf rule f a →
     IsPaid m a.done
 
--- Allocations of the functions of a program, and behind them of the runtime's.
+-- Allocations of the functions of a program, and after them of the runtime's.
 abbrev pub AreAllocationsOf : Rule → CheckedProgram → FinSet nat_cmp → List Allocation → Type 0
 AreAllocationsOf rule p links allocations =
     AllZip (IsAllocationOf rule)

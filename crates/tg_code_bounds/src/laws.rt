@@ -46,7 +46,7 @@ pub fn functions_are_bounded()
     regalloc_is_bounded();
 }
 
-/// The laws of a program that the checker accepts, and of the runtime's functions behind it,
+/// The laws of a program that the checker accepts, and of the runtime's functions after it,
 /// whatever is spilled: together they are at most 1,900 words of code for each node, and 1,000,000
 /// more, which its segment holds; and the frame of each is below 2^29 bytes.
 pub fn programs_are_bounded()

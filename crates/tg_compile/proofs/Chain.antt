@@ -1,4 +1,4 @@
--- Functions and literals behind one another, and what each is compiled to.
+-- Functions and literals one after another, and what each is compiled to.
 use Rattle.std.proofs.Common.{◌≡◌, ◌<◌, ℕ, List, [], ◌∷◌, ◌++◌, refl, sym, ap, subst, ◌∙◌}
 use Rattle.std.specs.Prelude.{map}
 use Rattle.std.specs.List.{zip}
@@ -44,7 +44,7 @@ use Rattle.tg_code_bounds.specs.Allocating.{Chooses, IsAllocationOf}
 use Rattle.tg_compile.specs.Compiling.{fragments_of, CompileFunctions, HasImage, Compiles}
 use Rattle.tg_compile.specs.Passes.{allocation_of, CompileApart}
 
--- a program's functions and literals, before the runtime is behind them
+-- a program's functions and literals, before the runtime is after them
 abbrev pub tree_of : List Fragment → List Literal → Code Ts
 tree_of functions literals = record { functions = map plain_fragment functions; literals = map plain_literal literals }
 
@@ -57,7 +57,7 @@ joined fs gs all ls ms every p q r =
     ap (λ x. map plain_literal x) q ∙ map-append plain_literal ls ms ∙ ap (λ (c : Code Ts). map plain_literal ls ++ c.literals) r in
     λ i. record { functions = functions i; literals = literals i }
 
--- a program's functions and literals are what it is translated to, and the runtime's stand behind them
+-- a program's functions and literals are what it is translated to, and the runtime's stand after them
 pub translated_whole : (notes : List Note) (body : Exp) (escaping : FinSet nat_cmp) (fs gs all : List Fragment) (ls ms every : List Literal) →
     escaping ≡ from_list (escapes_of body) →
     tree_of fs ls ≡ translated (found notes escaping (from_list (links_of body))) body → all ≡ fs ++ gs → every ≡ ls ++ ms → tree_of gs ms ≡ runtime →
@@ -80,7 +80,7 @@ compile_more rule (g ∷ fs) [] ps f code p h k = absurd h
 compile_more rule (g ∷ fs) (c ∷ codes) [] f code p h k = absurd h
 compile_more rule (g ∷ fs) (c ∷ codes) (q ∷ ps) f code p h k = (h.0, compile_more rule fs codes ps f code p h.1 k)
 
--- and its code and placement behind the others
+-- and its code and placement after the others
 pub compile_one_more : (rule : Rule) (fs : List Fragment) (one : Fragment) (codes all : List Allocated) (ps every : List Placement) (a : Allocation) →
     CompileApart rule (map plain_fragment fs) codes ps → IsAllocationOf rule (plain_fragment one) a →
     all ≡ codes ++ a.done ∷ [] → every ≡ ps ++ placement_of a ∷ [] → CompileApart rule (map plain_fragment (fs ++ one ∷ [])) all every

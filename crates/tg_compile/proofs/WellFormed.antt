@@ -47,7 +47,7 @@ routine_is (g ∷ gs) h few f (suc n, l, e) =
 each_is : (fs : List (Function Ts)) → ((f : Function Ts) → Contains fs f → IsWellFormed f) → All IsWellFormed fs
 each_is fs h = All-weaker (Contains fs) IsWellFormed h fs (All-contains_itself fs)
 
--- the functions of an accepted program, and behind them the runtime's
+-- the functions of an accepted program, and after them the runtime's
 pub functions_are : (p : CheckedProgram) → IsAccepted p → CheckedBodiesAreClosed → CheckedTemporariesAreDrawn →
     CheckedFramesAreSmall → AllAreRoutines →
     All IsWellFormed (fragments_of p.notes p.body).functions

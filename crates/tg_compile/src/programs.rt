@@ -77,7 +77,7 @@ pub fn compile_checked(
     })
 }
 
-/// The functions and literals of a program, its body first, and behind them the runtime's (Appel,
+/// The functions and literals of a program, its body first, and after them the runtime's (Appel,
 /// chapter 7).
 pub fn fragments(alloc: Global, checked: &Checked) -> Result<Fragments, Memory>
     ensures fragments { IfOk result (λ f. plain_fragments f ≡

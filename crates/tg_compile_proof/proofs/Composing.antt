@@ -1,4 +1,4 @@
--- The passes one behind the other, over a compiled program.
+-- The passes one after the other, over a compiled program.
 use Rattle.std.proofs.Common.{ℕ, ◌-◌, ap, ◌∙◌}
 use Rattle.std.specs.Prelude.{All}
 use Rattle.std.proofs.lemmas.List.Elements.{All-contains}

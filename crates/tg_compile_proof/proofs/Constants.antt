@@ -21,7 +21,7 @@ use Rattle.tg_compile.specs.Compiling.{findings_of}
 use Rattle.tg_compile_proof.specs.Laws.{FragmentsHaveWords}
 use Rattle.tg_compile_proof.proofs.Fields.{fields_are_below}
 
--- what is in two lists, one behind the other, is in one of them
+-- what is in two lists, one after the other, is in one of them
 pub either : {A : Type 0} (xs ys : List A) (x : A) → Contains (xs ++ ys) x → Contains xs x ⊎ Contains ys x
 either [] ys x c = inr c
 either (y ∷ xs) ys x (zero, l, e) = inl (0, omega arith, e)

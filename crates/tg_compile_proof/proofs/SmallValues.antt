@@ -199,7 +199,7 @@ pub outermost_fit : (n : ℕ) (names : List (List ℕ)) → AreFitEntries (outer
 outermost_fit n [] = tt
 outermost_fit n (text ∷ names) = one_standard n text standards (outermost_from (suc n) names) (outermost_fit (suc n) names)
 
--- what stands behind a unit of fuel
+-- what stands after a unit of fuel
 abbrev pub IsFitJob : Job → Type 0
 IsFitJob (run_function level f seen args) = IsFitExp f.body × AreFitEntries seen × Each IsSmallValue args
 IsFitJob (repeat_while test body env) = IsFitExp test × IsFitExp body × IsFitEnv env

@@ -1,5 +1,5 @@
 -- What is compiled of an accepted program whose ints are words does what the program means: the
--- laws of the passes, one behind the other, and the theorem.
+-- laws of the passes, one after the other, and the theorem.
 use Rattle.std.specs.Prelude.{ℕ, ◌≡◌, ◌≤◌, List, [], map, Ok}
 use Rattle.std.specs.List.{Contains, sum}
 use Rattle.tg_syntax.specs.OfWords.{OfWords}

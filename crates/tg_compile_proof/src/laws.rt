@@ -105,7 +105,7 @@ pub fn allocation_is_kept()
     regalloc_is_correct();
 }
 
-/// The law of the passes behind the translation: where the trees follow a source, the machine
+/// The law of the passes after the translation: where the trees follow a source, the machine
 /// agrees with it.
 pub fn compiled_agrees()
     ensures { CompiledAgrees }

@@ -1,4 +1,4 @@
--- The passes one behind the other, behind the translation.
+-- The passes one after the other, after the translation.
 use Rattle.std.proofs.Common.{ℕ, ◌⊎◌, inl, inr, arith}
 use Rattle.tg_simulation.specs.Runs.{Run}
 use Rattle.tg_simulation.specs.Ran.{Ran, Stop, Ended, WantsFuel}
@@ -38,7 +38,7 @@ looser c d h =
       never_wrong = h.never_wrong;
     }
 
--- all passes behind the translation
+-- all passes after the translation
 behind_trees : (stack : ℕ) (source : Run Source) (trees flat instructions registers machine : Run Ran) →
     ArePreserved stack source trees flat instructions registers machine → Preserves 13 135 trees machine
 behind_trees stack source trees flat instructions registers machine h =

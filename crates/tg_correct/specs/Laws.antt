@@ -22,8 +22,8 @@ tree_work = 256
 abbrev pub tree_besides : ℕ
 tree_besides = 64
 
--- units behind chapter 8; words of an allocation for each unit of flat code, and those of the first
--- activation's kept registers; the entry of the first activation, and the fetch behind its return
+-- units after chapter 8; words of an allocation for each unit of flat code, and those of the first
+-- activation's kept registers; the entry of the first activation, and the fetch after its return
 abbrev pub flat_besides : ℕ
 flat_besides = 1
 
@@ -36,7 +36,7 @@ kept_words = 117
 abbrev pub machine_besides : ℕ
 machine_besides = 5
 
--- what each pass promises of one program, in the form that it has before the pass and behind it:
+-- what each pass promises of one program, in the form that it has before the pass and after it:
 -- trees follow the source, and each form does what the one before it does
 pub record ArePreserved (stack : ℕ) (source : Run Source)
     (trees flat instructions registers machine : Run Ran) : Type 0 where

@@ -17,7 +17,7 @@ use Rattle.tg_driver.specs.MeantRuns.{EndsAsMeant}
 use Rattle.tg_driver.specs.Endings.{end_status}
 use Rattle.tg_driver.specs.Runs.{HasRun}
 
--- `functions N source B output O`, and behind it ` status S`
+-- `functions N source B output O`, and after it ` status S`
 abbrev pub counts : (functions source output : ℕ) → List ℕ
 counts functions source output =
     (codes "functions " ++ decimal functions)

@@ -72,7 +72,7 @@ pub record Tell {W : Type 0} (stands : W → List Seen → ℕ → Type 0) (repo
   pub stand : All (λ w. stands w seen code) watchers
   pub reports_are : reports ≡ reports_text (map report watchers) seen code
 
--- what they tell behind an answer
+-- what they tell after an answer
 abbrev pub TellAfter :
     {W : Type 0} (stands : W → List Seen → ℕ → Type 0) (report : W → Report) →
     List W → Answer → (reports : List ℕ) → Type 0

@@ -29,7 +29,7 @@ pub(crate) fn answer_check<H: Shelf>(alloc: Global, command: &Command, shelf: &m
 }
 
 /// The answer of a source that is to be checked. Its tree isn't freed: nothing but the line and the
-/// status comes behind it, and freeing node by node takes a quarter of the time.
+/// status comes after it, and freeing node by node takes a quarter of the time.
 fn check_text(alloc: Global, text: &[u8]) -> Answer
     ensures { OrMemory ⊤ (IsChecked text.now) result }
 {

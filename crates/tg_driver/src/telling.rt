@@ -15,7 +15,7 @@ use tg_base::{Failed, Sink, write_all};
 use tg_state::RunEnd;
 use tg_watch::{Watcher, write_reports};
 
-/// Reports an answer on the error sink, behind a run what its watchers tell first, and answers its
+/// Reports an answer on the error sink, after a run what its watchers tell first, and answers its
 /// status. After a run it takes no memory.
 pub(crate) fn report<E: Sink>(
     alloc: Global,

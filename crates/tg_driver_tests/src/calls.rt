@@ -215,7 +215,7 @@ fn left_in(input: &mut ListSource) -> Result<usize, Fail> {
     }
 }
 
-/// The status that a row begins with, and what stands behind the blank.
+/// The status that a row begins with, and what stands after the blank.
 pub(crate) fn status_of(row: &str) -> Result<(u8, &str), Fail> {
     let Some((status, rest)) = row.split_once(' ') else {
         return Err(Fail::from("no status"));
@@ -223,7 +223,7 @@ pub(crate) fn status_of(row: &str) -> Result<(u8, &str), Fail> {
     Ok((status.parse::<u8>().ok().ok_or("no number")?, rest))
 }
 
-/// The parts of a row before its first `|` and behind it.
+/// The parts of a row before its first `|` and after it.
 pub(crate) fn parts_of(row: &str) -> Result<(&str, &str), Fail> {
     let Some(parts) = row.split_once('|') else {
         return Err(Fail::from("a row"));

@@ -59,7 +59,7 @@ fn place_told(error: &[u8]) -> Result<(u32, u32), Fail> {
     ))
 }
 
-/// `check` finds a fault in a source, whose place is at most one byte behind the source's last.
+/// `check` finds a fault in a source, whose place is at most one byte after the source's last.
 fn is_refused_by_its_end(rt: &impl Abort, alloc: Global, text: &[u8]) -> Result<(), Fail> {
     assert!(rt; text.len() <= 1000);
     let seen = call(alloc, "tiger|check|FILE", Outside::of(text))?;

@@ -297,7 +297,7 @@ fn faults_of_sources(rt: HostRuntime) -> Result<(), Fail> {
     refused(&rt, alloc, b"1/* \xff */2", "1:9: S1 unexpected token")
 }
 
-// A text, another so many times behind it, and a last one, with the line that refuses them.
+// A text, another so many times after it, and a last one, with the line that refuses them.
 static LONG_FAULTS: [(&[u8], &[u8], usize, &[u8], &str); 11] = [
     (b"", b" ", 262145, b"", "1:1: L7 source too long"),
     (b"exit(1)", b" ", 262138, b"", "1:1: L7 source too long"),

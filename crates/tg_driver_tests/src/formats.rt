@@ -34,7 +34,7 @@ fn formatted(alloc: Global, text: &[u8]) -> Result<Seen, Fail> {
     call(alloc, FORMAT, Outside::in_ample_room(text))
 }
 
-// Each row behind its first `|` is a source that `format` writes, and its own output unchanged.
+// Each row after its first `|` is a source that `format` writes, and its own output unchanged.
 fn are_kept(rt: &impl Abort, alloc: Global, rows: &[&str]) -> Result<(), Fail> {
     for row in rows {
         let (_, text) = parts_of(row)?;

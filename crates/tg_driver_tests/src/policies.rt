@@ -130,7 +130,7 @@ fn policies_leave_the_output(rt: HostRuntime) -> Result<(), Fail> {
     Ok(())
 }
 
-// Behind the call the policy is dropped.
+// After the call the policy is dropped.
 #[test]
 fn the_chosen_are_spilled(rt: HostRuntime) -> Result<(), Fail> {
     let alloc = rt.alloc();

@@ -17,7 +17,7 @@ const HI: &str = "main: addiu $v0, $zero, 10\nsyscall";
 const LOOP: &str =
     "main: li $t0, 20\nl: addiu $t0, $t0, -1\nbne $t0, $zero, l\nli $v0, 10\nsyscall";
 
-// The words behind `tiger|exec|--watch|FILE`, the status, the lines on the error sink with `;`
+// The words after `tiger|exec|--watch|FILE`, the status, the lines on the error sink with `;`
 // between them, and the text.
 static REPORTS: [(&str, u8, &str, &str); 6] = [
     (
@@ -152,7 +152,7 @@ impl Watcher for Placing {
     }
 }
 
-/// Puts a number behind those that were told.
+/// Puts a number after those that were told.
 pub(crate) fn tell(told: &RefCell<Vec<u32>>, number: u32) {
     if let Ok(mut told) = told.try_borrow_mut() {
         let _ = told.push(number);
@@ -185,7 +185,7 @@ fn call_watched(
     call_with(alloc, line, Outside::of(text.as_bytes()), tools)
 }
 
-// Behind the call the watcher is dropped.
+// After the call the watcher is dropped.
 #[test]
 fn a_watcher_of_ones_own_is_told_in_its_place(rt: HostRuntime) -> Result<(), Fail> {
     let alloc = rt.alloc();

@@ -35,7 +35,7 @@ literals_more [] x = append-nil (literal_lines x)
 literals_more (y ∷ xs) x =
     ap (λ l. literal_lines y ++ l) (literals_more xs x) ∙ sym (append_assoc (literal_lines y) (literals_lines xs) (literal_lines x))
 
--- the place of an instruction behind others
+-- the place of an instruction after others
 pub code_more : (turned : Bool) (label size place : ℕ) (xs : List Instr) (x : Instr) →
     code_lines turned label size place (xs ++ x ∷ []) ≡ code_lines turned label size place xs ++ instruction_lines turned label size (place + length xs) x
 code_more turned label size place [] x =

@@ -37,7 +37,7 @@ near_text : text false ≡
 unfolding digits
 near_text = refl
 
--- behind the opposite branch, which is at the place 3, a jump
+-- after the opposite branch, which is at the place 3, a jump
 far_text : text true ≡
     codes "\t.text\n\t.globl main\nmain:\n\taddiu $sp, $sp, -8\n\tlw $zero, 0($sp)\n\tlw $t0, 4($sp)\nmain.5:\n\taddiu $t0, $t0, -1\n\tbgtz $t0, main_3\n\tj main.7\nmain_3:\n\tj main.5\nmain.7:\n\taddu $v0, $zero, $t0\n\taddiu $sp, $sp, 8\n\tjr $ra\n\t.data\ns40:\n\t.byte 1, 255\n"
 unfolding digits

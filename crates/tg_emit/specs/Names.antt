@@ -6,7 +6,7 @@ use Rattle.std.specs.Fmt.{decimal}
 abbrev pub function_name : ℕ → List ℕ
 function_name label = if label == 32 then codes "main" else codes "f" ++ decimal label
 
--- a mark of a function, and the place behind a branch that is turned round, by the place of the
+-- a mark of a function, and the place after a branch that is turned round, by the place of the
 -- branch
 abbrev pub mark_name : (label mark : ℕ) → List ℕ
 mark_name label mark = function_name label ++ 46 ∷ decimal mark

@@ -6,7 +6,7 @@ use Rattle.tg_asm_text.specs.Writing.{line_of}
 use Rattle.tg_emit.specs.declared.assembly.Line.{Line}
 use Rattle.tg_emit.specs.declared.assembly.Line.TheVariants.{Label, One, La, Statics}
 
--- numbers behind others
+-- numbers after others
 abbrev pub further_numbers : List ℕ → List ℕ
 further_numbers [] = []
 further_numbers (b ∷ bytes) = 44 ∷ 32 ∷ decimal b ++ further_numbers bytes

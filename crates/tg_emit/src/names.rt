@@ -24,7 +24,7 @@ pub fn mark(alloc: Global, label: Label, mark: u32) -> Result<Bytes, Memory>
     Ok(Bytes::from_vec(name))
 }
 
-/// The name of the place behind a branch that is turned round.
+/// The name of the place after a branch that is turned round.
 pub fn behind(alloc: Global, label: Label, place: usize) -> Result<Bytes, Memory>
     ensures { IfOk result (λ name. name ≡ behind_name label.0 place) }
 {

@@ -138,7 +138,7 @@ fn put_bytes(text: &mut Vec<u8>, bytes: &[u8]) -> Result<(), Memory>
     Ok(())
 }
 
-/// Puts numbers behind others.
+/// Puts numbers after others.
 fn put_further(text: &mut Vec<u8>, bytes: &[u8]) -> Result<(), Memory>
     ensures { OnOk result (text.new.items ≡ text.old.items ++ further_numbers bytes.now) }
 {

@@ -38,7 +38,7 @@ pub each_map : {X Y : Type 0} (f : X → Y) (P : Y → Type 0) (xs : List X) →
 each_map f P [] h = tt
 each_map f P (x ∷ xs) h = (h.0, each_map f P xs h.1)
 
--- texts that differ do so behind a text
+-- texts that differ do so after a text
 pub differ_behind : (front : List ℕ) (ts : List (List ℕ)) → Differ ts → Differ (map (λ t. front ++ t) ts)
 differ_behind front [] h = tt
 differ_behind front (t ∷ ts) h = (

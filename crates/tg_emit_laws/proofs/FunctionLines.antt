@@ -148,7 +148,7 @@ pub finds_right : (ps : Positions) (w : ℕ) (xs ys : List Line) → Finds ps (l
 finds_right ps w xs ys f name p h = f name p (subst (λ q. Stands q name p) (sym (labels_append w xs ys))
     (stands_right (labels_from w xs) (labels_from (w + words xs) ys) name p h))
 
--- lines behind others
+-- lines after others
 pub reach_lines : (ps : Positions) (n w : ℕ) (xs ys : List Line) → WordsReach ps n w (coded_in xs) → WordsReach ps n (w + words xs) (coded_in ys) →
     WordsReach ps n w (coded_in (xs ++ ys))
 reach_lines ps n w xs ys h k =

@@ -84,7 +84,7 @@ abbrev pub first_byte : List ℕ → ℕ
 first_byte [] = 0
 first_byte (c ∷ text) = c
 
--- names that are alike are of one function, and alike behind its name
+-- names that are alike are of one function, and alike after its name
 pub function_differ : (a b : ℕ) → a < 2 ^ 64 → b < 2 ^ 64 → function_name a ≡ function_name b → a ≡ b
 function_differ a b h k e = by (a == 32) (b == 32) refl refl e
   where

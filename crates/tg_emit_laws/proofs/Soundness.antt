@@ -169,7 +169,7 @@ program_has_image fs ls p t =
     let k = known fs ls p t in
     ap assembled (text_same fs ls k.code) ∙ lines_have_image (program_written fs ls) (written_stands fs ls k) (is_sound fs ls k)
 
--- the body stands behind the words of the functions before it
+-- the body stands after the words of the functions before it
 label_stands :
     (turned : Bool) (w label : ℕ) (fs : List Allocated) → IsTrue (is_among (function_labels fs) label) →
     Stands (labels_from w (functions_lines turned fs)) (function_name label) (AtWord (w + words_before turned label fs))

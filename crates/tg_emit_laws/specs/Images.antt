@@ -40,7 +40,7 @@ abbrev pub statics_written : List Literal → List texts.Line
 statics_written [] = []
 statics_written (l ∷ ls) = texts.Enter InStatics ∷ literals_written (l ∷ ls)
 
--- the code, with the name of the program's body for a loader, and the statics behind it
+-- the code, with the name of the program's body for a loader, and the statics after it
 abbrev pub program_written : List Allocated → List Literal → List texts.Line
 program_written fs ls =
     texts.Enter Code ∷ texts.Globl (codes "main")

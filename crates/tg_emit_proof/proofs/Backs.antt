@@ -1,4 +1,4 @@
--- The word that a call puts into $ra leads back behind it.
+-- The word that a call puts into $ra leads back to what comes after it.
 use Rattle.std.proofs.Common.{ℕ, ◌≡◌, ◌≢◌, ◌<◌, ◌≤◌, ◌==◌, List, [], ◌∷◌, ◌++◌, refl, ap, sym, ◌∙◌, arith, eqb-true}
 use Rattle.std.proofs.Common.{Bool, true, false, Some}
 use Rattle.std.specs.Prelude.{if◌then◌else◌}
@@ -12,7 +12,7 @@ use Rattle.tg_emit_proof.specs.Standing.{CallsComeBack}
 use Rattle.tg_emit_proof.proofs.Basics.{same_number}
 
 module _ (n : ℕ) (returns : Returns) (are : AreReturns n returns) where
-  -- a call has more calls behind it than one that stands behind it
+  -- a call has more calls after it than one that stands after it
   calls_front : (front rest : List Line) (target : List ℕ) →
       calls rest < calls (front ++ One (row.Jal 0) target ∷ rest)
   calls_front [] rest target = omega arith

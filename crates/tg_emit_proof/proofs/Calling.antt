@@ -44,7 +44,7 @@ use Rattle.tg_emit_proof.proofs.Entering.{in_stack_there, full_there, lower, ent
 use Rattle.tg_emit_proof.proofs.Frames.{found_in, owns_slots, opened, closed}
 use Rattle.tg_emit_proof.proofs.Onward.{behind, here_is, stands_behind}
 
--- Registers behind the row of a call: $ra has the word behind it.
+-- Registers after the row of a call: $ra has the word after it.
 abbrev pub linked : MachineState → (word : ℕ) → MachineState
 linked s v = set_register s 31 v
 
@@ -53,7 +53,7 @@ linked_count s v c =
     let a : length (slice_set s.registers 31 v) ≡ length s.registers = grind (arith, common_steps) in
     a ∙ c
 
--- and behind the entry: all stays but $at, $sp and $ra
+-- and after the entry: all stays but $at, $sp and $ra
 entered_register : (s : MachineState) (v size r : ℕ) → r ≢ 1 → r ≢ 29 → r ≢ 31 →
     register (lower (linked s v) size) r ≡ register s r
 entered_register s v size r a p l =
@@ -154,7 +154,7 @@ module _ (found : ℕ → ℕ) (a : Activation) (contents : Contents) (s : Machi
       by r n false p false q false x true y = refl
       by r n false p false q false x false y = tt
 
-  -- the registers behind the return, in a state in which all is given back
+  -- the registers after the return, in a state in which all is given back
   pub after_registers : (c : Content) (t : MachineState) → length t.registers ≡ 32 →
       All (λ u. u < 2 ^ 32) t.registers → t.hi < 2 ^ 32 → t.lo < 2 ^ 32 →
       register t 0 ≡ 0 → register t 29 ≡ a.base - a.size → IsHeld found c (register t 2) →
@@ -224,7 +224,7 @@ module _ (g : Setting) (label : _) (k : At g (instr.Call label)) (f : Function (
   abbrev entry_lines : List Line
   entry_lines = lowered bytes ++ alone (row.Lw 0 0 29) ∷ inside_lines
 
-  -- the state behind the call, and behind the entry
+  -- the state after the call, and after the entry
   abbrev here : MachineState
   here = linked k.state word
 
@@ -300,7 +300,7 @@ module _ (g : Setting) (label : _) (k : At g (instr.Call label)) (f : Function (
         input = k.stands.input;
       }
 
-  -- and what comes behind the call behind its return
+  -- and what comes after the call, after its return
   comes_back : (m : ℕ) → m ≤ k.fuel → BackGoesOn g k.credit m finds_there found_there top begun.back
   comes_back m l d w1 t sizes memory back result input =
       let link : found_there 31 ≡ word = linked_there k.state word bytes k.stands.registers.count in

@@ -52,8 +52,8 @@ module _ (code : ProgramIsCode) (sound : ProgramIsSound) (on_machine : LinesRunO
             (q.0, q.1, subst (DoesTheSame 1 (entry_steps + 1) (registers_run fs ls input heap stack n)) (sym e) same);
       }
 
--- An end of the run behind is that of the run before, where none of this goes wrong: with as much
--- fuel, the one behind has come to the same.
+-- An end of the run after the pass is that of the run before it, where none of this goes wrong: with as much
+-- fuel, the one after it has come to the same.
 module _ (a b : ℕ) (c d : Run Ran) (preserved : Preserves a b c d) (over : StaysOver d) (on : OnlyGoesOn d)
     (right : (n : ℕ) → (c n).stop ≢ Wrong) where
   ends_so : (m : ℕ) (e : RunEnd) → (d m).stop ≡ Ended e →

@@ -56,7 +56,7 @@ full_there s a w low high heap statics =
     rw t (ap (λ o. word_there s (in_stack s a o)) none_stack ∙ (ap (λ o. word_there s (in_heap s a o)) none_heap
     ∙ (ap (λ o. word_there s (in_statics s a o)) none_statics ∙ ap (λ e. Err e) nowhere)))
 
--- the state behind an entry
+-- the state after an entry
 abbrev pub lower : MachineState → (size : ℕ) → MachineState
 lower s size = moved (nat_le size 32768) s size (register s 29 - size)
 

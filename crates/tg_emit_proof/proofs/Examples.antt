@@ -11,7 +11,7 @@ use Rattle.tg_emit.specs.declared.assembly.Line.TheVariants.{Label, One, La}
 use Rattle.tg_emit.specs.Lines.{alone}
 use Rattle.tg_emit_proof.specs.LinesRun.{Returns, lines_run}
 
--- whatever the words behind calls are: 12, 16, ..
+-- whatever the words after calls are: 12, 16, ..
 abbrev words_are : Returns
 words_are k = 12 + 4 * k
 

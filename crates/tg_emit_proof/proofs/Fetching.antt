@@ -38,7 +38,7 @@ pub fetch_is : (code : List ℕ) (at : ℕ) (one : Mips) (s : MachineState) → 
 fetch_is code at one s h is fits =
     rw (not_zero at, is_whole at, inside at (length code) h, quarter at, is, decode_of-word_of one fits) refl
 
--- the place behind a word
+-- the place after a word
 pub next_is : (at : ℕ) → at < 66060288 → add (place_at at) 4 ≡ place_at (at + 1)
 next_is at h = omega (arith, h)
 

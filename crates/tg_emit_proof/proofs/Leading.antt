@@ -44,7 +44,7 @@ use Rattle.tg_emit_proof.proofs.Onward.{behind, here_is, comes_behind}
 use Rattle.tg_emit_proof.proofs.Straight.{names, reads_register}
 use Rattle.tg_emit_proof.proofs.Each.{two_named}
 
--- what is behind a mark or a label is a part
+-- what is after a mark or a label is a part
 pub code_part : (m : ℕ) (list rest : List Instr) → code.behind m list ≡ Some rest → (front : List Instr)
     × (list ≡ front ++ rest)
 code_part m [] rest h = cc
@@ -160,7 +160,7 @@ module _ (g : Setting) (one : Instr) (k : At g one) where
       ap (λ l. from g l k.state k.world.input (suc i)) here
       ∙ ap (λ y. works 1 (done g k.world.input i (row_does y first more k.state))) leads
 
-  -- nothing is done and some rows come behind it
+  -- nothing is done and some rows come after it
   pub goes_behind : (units rows : ℕ) → rows ≤ units →
       Comes rows (from g k.here k.state k.world.input) (from g (behind g one k) k.state k.world.input) →
       LinesFollow g one k (charged units (onward g one k k.world k.contents))
@@ -321,7 +321,7 @@ module _ (g : Setting) (test : Test) (m : ℕ) (k : At g (instr.Branch test m)) 
       other_decided g past more k.state none test.left test.right test.rel test.is_one_row
       ∙ ap (λ b. leads_if (not b) (lines_behind past g.lines) k.state) e
 
-  -- the label behind a branch that is turned round
+  -- the label after a branch that is turned round
   around_leads : g.turned ≡ true → lines_behind past g.lines ≡ Some (left rest)
   around_leads e =
       k.known.labels (k.stands.before ++ One (opposite_branch_of test) past ∷ One (row.J 0) there ∷ []) rest past

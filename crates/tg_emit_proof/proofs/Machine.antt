@@ -28,7 +28,7 @@ use Rattle.tg_isa.specs.Anywhere.{on, step_on, IsStraight}
 use Rattle.tg_isa.proofs.Anywhere.{set_on, answered_on, effect_on}
 use Rattle.tg_emit_proof.proofs.Fetching.{place_at, fetch_is, next_is, branch_is, jump_is}
 
--- For an image's code and labels, and the words behind its calls.
+-- For an image's code and labels, and the words after its calls.
 module _ (code : List ℕ) (ps : Positions) (returns : Returns) where
   -- a word of the code is that of a row, and what it leads to is within reach
   pub record IsWord (at : ℕ) (c : Coded) : Type 0 where

@@ -1,4 +1,4 @@
--- From an instruction on to what is behind it.
+-- From an instruction on to what is after it.
 use Rattle.std.proofs.Common.{ℕ, ◌≡◌, ◌<◌, ◌≤◌, ◌+◌, ◌*◌, ◌-◌, ◌^◌, ◌==◌, List, [], ◌∷◌, ◌++◌, length, refl, ap, sym}
 use Rattle.std.proofs.Common.{◌∙◌, subst, arith, append_assoc, Bool, true, false}
 use Rattle.std.specs.Prelude.{IsTrue, if◌then◌else◌, slice_set}
@@ -30,7 +30,7 @@ code_joined : (front rest all : List Instr) (one : Instr) → all ≡ front ++ o
 code_joined front rest all one e = e ∙ sym (append_assoc front (one ∷ []) rest)
 
 module _ (g : Setting) (one : Instr) (k : At g one) where
-  -- its own lines, and those behind it
+  -- its own lines, and those after it
   abbrev pub own : List Line
   own = instruction_lines g.turned k.function.label (g.size k.function.label) k.stands.place one
 
@@ -44,7 +44,7 @@ module _ (g : Setting) (one : Instr) (k : At g one) where
       ∙ append_assoc own (code_lines g.turned k.function.label (g.size k.function.label) (k.stands.place + 1) k.rest)
       k.stands.placed.after
 
-  -- behind it a run stands with what it has done
+  -- after it a run stands with what it has done
   pub stands_behind : (w : World) (contents : Contents) (t : MachineState) →
       HasSizes g t → HasRegisters k.found k.activation contents t → HasMemory k.finds w.memory t →
       AreBytes w.input →
@@ -76,7 +76,7 @@ module _ (g : Setting) (one : Instr) (k : At g one) where
         input = input;
       }
 
-  -- so many rows come behind it, for which it is charged
+  -- so many rows come after it, for which it is charged
   pub comes_behind : (m units : ℕ) (w : World) (contents : Contents) (t : MachineState) → m ≤ units →
       HasSizes g t → HasRegisters k.found k.activation contents t → HasMemory k.finds w.memory t →
       AreBytes w.input →
@@ -107,7 +107,7 @@ module _ (g : Setting) (one : Instr) (k : At g one) where
       by true = m
       by false = memory_stays t (slice_set t.registers r v) t.hi t.lo k.finds w.memory m
 
-  -- It puts a content into a register: behind other rows, that leave what is known as it was.
+  -- It puts a content into a register: after other rows, that leave what is known as it was.
   pub puts : (m units : ℕ) (w : World) (t : MachineState) (r v : ℕ) (c : Content) → m ≤ units →
       IsTrue (is_allocated r) → IsHeld k.found c v → v < 2 ^ 32 →
       HasSizes g t → HasRegisters k.found k.activation k.contents t → HasMemory k.finds w.memory t →

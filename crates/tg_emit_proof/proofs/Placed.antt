@@ -23,7 +23,7 @@ use Rattle.tg_emit_proof.specs.Emission.{function_over}
 use Rattle.tg_emit_proof.specs.Standing.{FunctionStands}
 use Rattle.tg_emit_proof.proofs.Basics.{some_is}
 
--- A label leads behind the first line that gives it.
+-- A label leads to what comes after the first line that gives it.
 pub behind_there : (xs ys : List Line) (name : List ℕ) → AllByRecursion (λ x. name ≢ x) (given_in xs) →
     behind name (xs ++ Label name ∷ ys) ≡ Some (left ys)
 behind_there [] ys name h = let t : bytes_eq name name ≡ true = (bytes_eq-Decides name name).1 refl in rw t refl
@@ -37,7 +37,7 @@ behind_there (One one target ∷ xs) ys name h = behind_there xs ys name h
 behind_there (La r other ∷ xs) ys name h = behind_there xs ys name h
 behind_there (Statics bytes ∷ xs) ys name h = behind_there xs ys name h
 
--- where labels differ, each leads behind itself
+-- where labels differ, each leads to what comes after it
 front_differs : (xs ys : List (List ℕ)) (name : List ℕ) → Differ (xs ++ name ∷ ys) → AllByRecursion (λ x. name ≢ x) xs
 front_differs [] ys name h = tt
 front_differs (x ∷ xs) ys name h = ((λ e. among xs h.0 (sym e)), front_differs xs ys name h.1)

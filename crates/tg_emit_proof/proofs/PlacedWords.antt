@@ -40,7 +40,7 @@ more_calls : (n k : ℕ) → k < n → (n == k) ≡ false
 more_calls n k h = grind (arith, nat_tests, h)
 
 module _ (code : List ℕ) (ps : Positions) (returns : Returns) where
-  -- the words behind calls are those of the lines, from a word on
+  -- the words after calls are those of the lines, from a word on
   abbrev ComeBack : (at : ℕ) → List Line → Type 0
   ComeBack at ls = (k : ℕ) → k < calls ls → returns k ≡ place_at (word_behind at ls k)
 
@@ -58,7 +58,7 @@ module _ (code : List ℕ) (ps : Positions) (returns : Returns) where
       (more_calls (calls rest) k l)
   rest_back at one target rest h k l = h k l
 
-  -- a word behind others
+  -- a word after others
   word_there : (front : List ℕ) (w : ℕ) (more : List ℕ) (at : ℕ) → code ≡ front ++ w ∷ more → length front ≡ at →
       slice_index code at ≡ w
   word_there front w more at e n = rw (e, ← n) (get_or-append_seam front w more 0)
@@ -149,7 +149,7 @@ module _ (code : List ℕ) (ps : Positions) (returns : Returns) where
   labelled at (La r other ∷ ls) more name p s h = labelled (at + 2) ls more name p s.1.1.1 h
   labelled at (Statics bytes ∷ ls) more name p s h = labelled at ls more name p s h
 
-  -- and words behind calls to what is there
+  -- and words after calls to what is there
   pub called : (at : ℕ) (ls : List Line) (v : ℕ) (p : Place) → StandAt code ps returns at ls →
       behind_call returns v ls ≡ Some p →
       IsAt code ps returns p v

@@ -136,7 +136,7 @@ module _ (g : Setting) (finds : Finds) (m : Memory) (s : MachineState) (has : Ha
           )
       at None o None q h = cell (m.stack (a - a % 4)) (has.cells (a - a % 4)) h
 
-  -- The states behind a store.
+  -- The states after a store.
   abbrev pub with_statics : List ℕ → MachineState
   with_statics b = record s { statics = b }
 

@@ -1,4 +1,4 @@
--- The words behind the calls of an image are within the code, and differ.
+-- The words after the calls of an image are within the code, and differ.
 use Rattle.std.proofs.Common.{ℕ, ◌≡◌, ◌<◌, ◌≤◌, ◌+◌, ◌==◌, List, [], ◌∷◌, refl, arith, Bool, true, false}
 use Rattle.std.proofs.Common.{eqb-true}
 use Rattle.std.proofs.lemmas.Bool.Decides.{nat_tests}

@@ -1,4 +1,4 @@
--- Rows of lines: what comes behind one that goes straight on, ends the run, or is a call; and runs
+-- Rows of lines: what comes after one that goes straight on, ends the run, or is a call; and runs
 -- that come to others by rows.
 use Rattle.std.proofs.Common.{ℕ, zero, suc, ◌≡◌, ◌<◌, ◌≤◌, ◌+◌, ◌*◌, List, ◌∷◌, Some, ap, ◌∙◌, arith}
 use Rattle.tg_state.specs.declared.ends.RunEnd.{RunEnd}
@@ -58,7 +58,7 @@ turn_goes_on credit n units w c d e first comes goes (suc i) h right =
       },
     )
 
--- a first row that takes fuel, and rows behind it
+-- a first row that takes fuel, and rows after it
 pub turns_by : (rows : ℕ) (c d e : Run Ran) → ((i : ℕ) → c (suc i) ≡ works 1 (d i)) → Comes rows d e →
     Turns (1 + rows) c e
 turns_by rows c d e first comes i =
@@ -81,7 +81,7 @@ turns_more k l c d le h i = let x = h i in let m = x.3 in (x.0, x.1, x.2, omega 
 pub comes_by : (c d : Run Ran) → ((i : ℕ) → c (suc i) ≡ works 1 (d i)) → Comes 1 c d
 comes_by c d first i = (suc i, omega arith, 1, omega arith, first i)
 
--- A run that ends behind some rows, for which it is charged.
+-- A run that ends after some rows, for which it is charged.
 pub ends_so : (credit n units rows : ℕ) (input : List ℕ) (stop : ran.Stop) (d : Run Ran) → rows ≤ units →
     Comes rows d (λ i. stops input stop) → Simulates 1 credit n (charged units (λ i. stops input stop)) d
 ends_so credit n units rows input stop d le comes =

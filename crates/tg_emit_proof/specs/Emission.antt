@@ -1,5 +1,5 @@
 -- What is emitted does what its functions over registers do: as lines, whatever words stand for
--- the places behind its calls, and as an image on the machine.
+-- the places after its calls, and as an image on the machine.
 use Rattle.std.specs.Prelude.{ℕ, ◌+◌, ◌-◌, ◌%◌, ◌==◌, ◌≡◌, ◌≢◌, ◌≤◌, List, [], ◌∷◌, map, Ok}
 use Rattle.std.specs.Prelude.{IsTrue, if◌then◌else◌}
 use Rattle.std.specs.List.{list_all}
@@ -88,7 +88,7 @@ EmissionKeepsRuns =
     (registers_run fs ls input heap stack)
     (lines_run returns (lines_of fs) ls input heap stack)
 
--- Both halves, for the words behind the calls of the image.
+-- Both halves, for the words after the calls of the image.
 abbrev pub EmitIsCorrect : Type 0
 EmitIsCorrect =
     (fs : List Allocated) (ls : List Literal) (input : List ℕ) (heap stack : ℕ) →

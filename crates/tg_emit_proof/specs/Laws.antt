@@ -1,5 +1,5 @@
 -- The laws of runs of lines: one is the machine's run of the image that the lines make, for the
--- words behind the calls there, and these are such as a run of lines asks for.
+-- words after the calls there, and these are such as a run of lines asks for.
 use Rattle.std.specs.Prelude.{ℕ, ◌+◌, ◌*◌, ◌^◌, ◌==◌, ◌≡◌, ◌≢◌, ◌<◌, List, [], ◌∷◌, ◌++◌, map}
 use Rattle.std.specs.Prelude.{codes, All, if◌then◌else◌}
 use Rattle.tg_state.specs.State.{code_base, most_words, initial_machine}
@@ -18,20 +18,20 @@ use Rattle.tg_emit.specs.Ranges.{LiteralFits}
 use Rattle.tg_emit_laws.specs.Images.{written_line, statics_written, AreCode}
 use Rattle.tg_emit_proof.specs.LinesRun.{Returns, calls, lines_run}
 
--- words that can stand for the places behind so many calls
+-- words that can stand for the places after so many calls
 pub record AreReturns (n : ℕ) (returns : Returns) : Type 0 where
   pub words : (k : ℕ) → k < n → returns k < 2 ^ 32
   pub elsewhere : (k : ℕ) → k < n → returns k ≢ 0
   pub differ : (j k : ℕ) → j < n → k < n → returns j ≡ returns k → j ≡ k
 
--- the word behind the call with so many calls behind it, in lines the first of which is at a word
+-- the word after the call with so many calls after it, in lines the first of which is at a word
 abbrev pub word_behind : (at : ℕ) → List Line → Returns
 word_behind at [] k = at
 word_behind at (One (Jal n) target ∷ rest) k =
     if calls rest == k then at + 1 else word_behind (at + 1) rest k
 word_behind at (line ∷ rest) k = word_behind (at + words_of line) rest k
 
--- the places behind the calls of an image
+-- the places after the calls of an image
 abbrev pub returns_in : List Line → Returns
 returns_in lines k = code_base + 4 * word_behind 0 lines k
 
@@ -47,7 +47,7 @@ pub record HasImage (lines : List Line) (ls : List Literal) : Type 0 where
   pub sound : IsSound (texts.readings_of (written lines ls))
   pub short : words lines < most_words
 
--- The machine's run of the image is the run of the lines, for the words behind its calls.
+-- The machine's run of the image is the run of the lines, for the words after its calls.
 abbrev pub LinesRunOnTheMachine : Type 0
 LinesRunOnTheMachine =
     (lines : List Line) (ls : List Literal) (input : List ℕ) (heap stack n : ℕ) →
@@ -57,7 +57,7 @@ LinesRunOnTheMachine =
     machine_run (initial_machine image.code image.statics image.entry heap stack) input n
     ≡ lines_run (returns_in lines) lines ls input heap stack n
 
--- The places behind calls differ, and none is 0.
+-- The places after calls differ, and none is 0.
 abbrev pub PlacesAreReturns : Type 0
 PlacesAreReturns =
     (lines : List Line) → words lines < most_words →

@@ -1,6 +1,6 @@
 -- Runs of the lines of an assembly, row by row, in which no address of code is known: a place is
 -- what is left of the lines, and the word that a call puts into $ra is told by the number of calls
--- that stand behind it.
+-- that stand after it.
 use Rattle.std.specs.Prelude.{ℕ, zero, suc, ◌+◌, ◌*◌, ◌/◌, ◌%◌, ◌==◌, List, [], ◌∷◌, ◌++◌}
 use Rattle.std.specs.Prelude.{length, Bool, Option, Some, None, if◌then◌else◌, codes, pos}
 use Rattle.std.specs.Str.{bytes_eq}
@@ -29,7 +29,7 @@ pub data Place : Type 0 where
   left : List Line → Place
   at_zero : Place
 
--- the lines behind a label
+-- the lines after a label
 abbrev pub behind : (name : List ℕ) → List Line → Option Place
 behind name [] = None
 behind name (Label other ∷ rest) =
@@ -42,12 +42,12 @@ calls [] = 0
 calls (One (Jal n) target ∷ rest) = 1 + calls rest
 calls (_ ∷ rest) = calls rest
 
--- The words that calls put into $ra, by the number of calls behind each: where a text stands in
+-- The words that calls put into $ra, by the number of calls after each: where a text stands in
 -- memory tells them, and nothing else is known of it here.
 abbrev pub Returns : Type 0
 Returns = (calls_behind : ℕ) → ℕ
 
--- a jump to a word goes back behind the call that has put it there
+-- a jump to a word goes back to what comes after the call that has put it there
 abbrev pub behind_call : Returns → (word : ℕ) → List Line → Option Place
 behind_call returns v [] = None
 behind_call returns v (One (Jal n) target ∷ rest) =
@@ -68,7 +68,7 @@ abbrev pub statics_of : List Literal → List ℕ
 statics_of [] = []
 statics_of (l ∷ ls) = padded l.text ++ statics_of ls
 
--- What a row is for the way of a run: it goes on behind itself, by its effect in the table; or it
+-- What a row is for the way of a run: it goes on after itself, by its effect in the table; or it
 -- controls: it leads to a place, where there is one, or isn't taken.
 pub data Way : Type 0 where
   Straight : Way
@@ -105,7 +105,7 @@ goes_halfway r (Some a) rest s =
     Goes (left (alone (Ori r r (a % 65536)) ∷ rest)) (set_register s r (a / 65536 * 65536))
 goes_halfway r None rest s = Strays
 
--- a row with its label and what stands behind it, in a state whose code and place mean nothing
+-- a row with its label and what stands after it, in a state whose code and place mean nothing
 module _ (returns : Returns) (lines : List Line) where
   abbrev pub way : Mips → (target : List ℕ) → (rest : List Line) → MachineState → Way
   way (J n) target rest s = Leads (behind target lines) s

@@ -51,7 +51,7 @@ module _ (g : Setting) where
   abbrev pub from : List Line → MachineState → (input : List ℕ) → Run Ran
   from here s input = going (left here) s input
 
-  -- what they do behind a jump to a word
+  -- what they do after a jump to a word
   abbrev pub back_to : (word : ℕ) → Option Place
   back_to v = place_of g.returns v g.lines
 

@@ -56,7 +56,7 @@ pub record IsEmitted (g : Setting) : Type 0 where
   pub addresses :
       (label a : ℕ) → label < 2 ^ 32 → literal_address g.program.literals label ≡ Some a →
       (address_from statics_base (literal_name label) g.literals ≡ Some a) × (a < 2 ^ 32)
-  -- each label leads behind itself, calls come back, and the regions are apart
+  -- each label leads to what comes after it, calls come back, and the regions are apart
   pub labels :
       (front rest : List Line) (name : List ℕ) → g.lines ≡ front ++ Label name ∷ rest →
       behind name g.lines ≡ Some (left rest)
@@ -76,7 +76,7 @@ point f rest a back w contents = record {
   contents = contents;
 }
 
--- The run stands at an instruction, less fuel goes on everywhere, and what is behind it goes on.
+-- The run stands at an instruction, less fuel goes on everywhere, and what is after it goes on.
 pub record At (g : Setting) (one : Instr) : Type 0 where
   pub known : IsEmitted g
   pub credit : ℕ
@@ -105,7 +105,7 @@ pub record At (g : Setting) (one : Instr) : Type 0 where
       (code_from g function rest activation back w contents1) (from g here1 t w.input)
 
 module _ (g : Setting) (one : Instr) (k : At g one) where
-  -- what is behind the instruction
+  -- what is after the instruction
   abbrev pub onward : World → Contents → Run Ran
   onward w contents = code_from g k.function k.rest k.activation k.back w contents
 

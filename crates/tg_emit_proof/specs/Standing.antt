@@ -110,7 +110,7 @@ module _ (g : Setting) where
     pub whole : length s.stack ≡ g.stack
     pub statics : length s.statics ≤ most_bytes
 
-  -- A function stands in the lines: its label leads to its entry, and each mark to what is behind
+  -- A function stands in the lines: its label leads to its entry, and each mark to what is after
   -- it.
   pub record FunctionStands (f : Function (List Instr)) : Type 0 where
     pub before : List Line

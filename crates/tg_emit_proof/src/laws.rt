@@ -10,14 +10,14 @@ pub fn lines_run_on_the_machine()
     ensures { LinesRunOnTheMachine }
 {}
 
-/// The law of the places behind the calls of an image: they differ, and none of them is 0, at which
+/// The law of the places after the calls of an image: they differ, and none of them is 0, at which
 /// a run ends.
 pub fn places_are_returns()
     ensures { PlacesAreReturns }
 {}
 
 /// The law of the first half: the lines of functions over registers do what the functions do,
-/// whatever words stand for the places behind their calls, for at most a row a word of the
+/// whatever words stand for the places after their calls, for at most a row a word of the
 /// instructions.
 pub fn emission_keeps_runs()
     ensures { EmissionKeepsRuns }

@@ -29,7 +29,7 @@ nothing = record { table = refl; within = refl; found = λ after. refl }
 pub declares : {a b : Search} {seen : Seen} → b.table ≡ seen → b.within.items ≡ a.within.items → b.found ≡ a.found → Finds a b seen (λ after. after)
 declares t w f = record { table = t; within = w; found = λ after. ap (λ s. with_uses after s) (sym f) }
 
--- one text behind another, which sees what is declared then
+-- one text after another, which sees what is declared then
 pub behind : {a b c : Search} {seen : Seen} {first : List Use → List Use} (later : List ℕ → Seen → Seen) (next : List ℕ → Seen → List Use → List Use) →
     Finds a b seen first → Finds b c (later b.within.items b.table) (next b.within.items b.table) →
     Finds a c (later a.within.items seen) (λ after. first (next a.within.items seen after))
@@ -56,7 +56,7 @@ from_here xs k x l i = drop_more xs k x l ∙ ap (λ y. y ∷ drop (k + 1) xs) (
 none_left : {A : Type 0} (xs : List A) (k : ℕ) → k ≡ length xs → drop k xs ≡ []
 none_left xs k e = ap (λ j. drop j xs) e ∙ drop-length xs
 
--- the uses in a list's parts, one behind another
+-- the uses in a list's parts, one after another
 abbrev pub in_order : {X : Type 0} → (X → List Use → List Use) → List X → List Use → List Use
 in_order f [] after = after
 in_order f (x ∷ xs) after = f x (in_order f xs after)

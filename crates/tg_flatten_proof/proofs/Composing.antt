@@ -1,4 +1,4 @@
--- The passes one behind the other, over whole programs, and their sizes.
+-- The passes one after the other, over whole programs, and their sizes.
 use Rattle.std.proofs.Common.{List, [], ◌∷◌, map, refl, arith}
 use Rattle.std.specs.List.{Contains, AllByRecursion}
 use Rattle.std.proofs.lemmas.List.Elements.{Contains-append_right}

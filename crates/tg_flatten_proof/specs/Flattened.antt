@@ -12,7 +12,7 @@ flattened f = laid (in_blocks (canonical f))
 abbrev pub flattened_code : Code Ts → Code (List Linear)
 flattened_code code = laid_all (code_in_blocks (canonical_code code))
 
--- a function that the three passes take, one behind the other: it is closed, and the temporaries
+-- a function that the three passes take, one after the other: it is closed, and the temporaries
 -- that it names are its own
 pub record MayBeFlattened (f : Function Ts) : Type 0 where
   pub closed : IsClosed f.body

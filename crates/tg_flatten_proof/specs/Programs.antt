@@ -66,7 +66,7 @@ adding = code_of (
     Return (Temp 0) ∷ []) ∷ [])
 
 -- The first word of the heap counts up with each call of a function, which gives what it was; the
--- body reads it before and behind a call in one expression, and leaves two loops from the inner one
+-- body reads it before and after a call in one expression, and leaves two loops from the inner one
 -- where a condition of three parts holds. A third function writes a byte.
 abbrev word : Tx
 word = Const 285212672

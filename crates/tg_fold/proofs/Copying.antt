@@ -151,7 +151,7 @@ module _ (a b : ℕ) where
         (o o' : Out) → SameGo o o' → (go go' : Go A) → SameGo go go' → (w : World) (t : Temps) → Agree t →
         m (around act o back) go w t ≡ m' (around act o' back) go' w t
 
-    -- two words, one behind the other
+    -- two words, one after the other
     same_sides : (m l m' l' : Acts (Go ℕ)) → SameActs m m' → SameActs l l' →
         (o o' : Out) → SameGo o o' → (go go' : ℕ → Go ℕ) → ((u : ℕ) → SameGo (go u) (go' u)) → (w : World) (t : Temps) → Agree t →
         m (around act o back) (λ u w1 t1. l (around act o back) (λ v w2 t2. go u v w2 t2) w1 t1) w t ≡
@@ -336,7 +336,7 @@ module _ (code : Code Ts) (size : ℕ → ℕ) (floor room : ℕ) where
   abbrev pub then_all : Stms → Acts Next
   then_all ss = run_all Trees room code.literals (enter Trees code size floor room goes) later ss
 
-  -- a statement behind one that copies, or doesn't
+  -- a statement after one that copies, or doesn't
   data IsCopy : Ts → Type 0 where
     copies : (a b : ℕ) → IsCopy (Move a (Temp b))
     copies_not : (s : Ts) → copy s ≡ None → IsCopy s

@@ -29,7 +29,7 @@ use Rattle.tg_fold.proofs.Shrinking.{TestShrinks, hoisted_less, joined_less, ope
 use Rattle.tg_fold.proofs.Copying.{around, loop_at}
 
 -- Where both sides run: as far as so much fuel, with a heap's room, literals, what calls do and what comes of going on with loops on each
--- side. Calls do what they did, and behind the pass copies may be passed on.
+-- side. Calls do what they did, and after the pass copies may be passed on.
 pub record Scene : Type 0 where
   pub fuel : ℕ
   pub room : ℕ
@@ -134,7 +134,7 @@ module _ (z : Scene) where
   abbrev does_all' : Stms → Acts Next
   does_all' ss = run_all Trees z.room z.literals z.enter' z.later' ss
 
-  -- a condition that is known is behind the work of a comparison at least
+  -- a condition that is known comes after the work of a comparison at least
   abbrev tested_runs : Tested → Acts (Go Bool)
   tested_runs (Known q) e go w t = charged 8 (go q w t)
   tested_runs (Open c) e go w t = tests' c e go w t
@@ -325,7 +325,7 @@ module _ (z : Scene) where
     less_credit : (c d : Run Ran) → Sim (r + 0) n c d → Sim r n c d
     less_credit c d h = let e : r + 0 ≡ r = omega arith in subst (λ k. Sim k n c d) e h
 
-    -- two words, one behind the other
+    -- two words, one after the other
     sides_sim : (m l m' l' : Acts (Go ℕ)) → ValueSim m m' → ValueSim l l' → (o o' : Out) → GoSim r n o o' → (go go' : ℕ → Go ℕ) →
         ((u : ℕ) → GoSim r n (go u) (go' u)) → (w : World) (t : Temps) →
         Sim r n (m (around a o b) (λ u w1 t1. l (around a o b) (λ v w2 t2. go u v w2 t2) w1 t1) w t)

@@ -207,7 +207,7 @@ left_to_compute h = h.0
 left_to_pass_on : IsFolded (sequence (Move 1 (Temp 0) ∷ print (Temp 1) ∷ [])) → ⊥
 left_to_pass_on h = let e : true ≡ false = h.2.0 in cc
 
--- A program, before and behind the pass: it prints 0, 1 and 2, and b.
+-- A program, before and after the pass: it prints 0, 1 and 2, and b.
 abbrev program : Ts
 program =
     sequence (Move 0 (Binary Sub (Const 4) (Const 4)) ∷

@@ -1,4 +1,4 @@
--- Statements that are handed on from the last of a list, each behind the one before it.
+-- Statements that are handed on from the last of a list, each after the one before it.
 use Rattle.std.proofs.Common.{◌≡◌, ℕ, List, [], ◌∷◌, ◌++◌, sym, ap, ◌∙◌}
 use Rattle.std.specs.Prelude.{Option, reverse}
 use Rattle.std.proofs.lemmas.List.{reverse-append}

@@ -1,4 +1,4 @@
--- Work before the pass pays for work behind it, unit for unit.
+-- Work before the pass pays for work after it, unit for unit.
 use Rattle.std.proofs.Common.{◌≡◌, ℕ, ◌+◌, ◌≤◌, sym, subst, arith}
 use Rattle.tg_simulation.specs.Runs.{Run}
 use Rattle.tg_simulation.specs.Ran.{Ran}

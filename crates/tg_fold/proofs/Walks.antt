@@ -1,4 +1,4 @@
--- Lists of trees, walked from the right: what has come of those behind.
+-- Lists of trees, walked from the right: what has come of the later ones.
 use Rattle.std.proofs.Common.{◌≡◌, List, [], ◌∷◌, ◌++◌, refl, sym, ap, ◌∙◌, append_assoc, length, arith}
 use Rattle.std.specs.Prelude.{reverse}
 use Rattle.std.proofs.lemmas.List.{append-nil, reverse-append}

@@ -50,7 +50,7 @@ abbrev mutual
   IsFolded (Seq ss) = AreFolded None ss
   IsFolded (Return x) = IsFoldedTx x
 
-  -- statements behind one that copies so
+  -- statements after one that copies so
   pub AreFolded : (before : Option (ℕ × ℕ)) → Stms → Type 0
   AreFolded before no_stms = Unit {0}
   AreFolded before (stm s ss) = LeavesCopy before s × IsFolded s × AreFolded (copy s) ss

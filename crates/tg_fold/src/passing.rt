@@ -10,7 +10,7 @@ use std::alloc::Global;
 use tg_base::Memory;
 use tg_tree::Ts;
 
-/// A statement behind one that copies so.
+/// A statement after one that copies so.
 fn passed(alloc: Global, before: Option<CopyOf>, statement: Ts, height: u32) -> Result<Ts, Memory>
     ensures { IfOk result (λ s.
         plain_ts s ≡ folding.passed (plain_copy before) (plain_ts statement)) }

@@ -52,7 +52,7 @@ begins_line (Word WIn) = true
 begins_line (Word WEnd) = true
 begins_line _ = false
 
--- and behind these
+-- and after these
 abbrev pub ends_line : Token → Bool
 ends_line (Word WIn) = true
 ends_line (Sign Semicolon) = true
@@ -69,7 +69,7 @@ is_close_before (Sign Colon) = true
 is_close_before (Sign Dot) = true
 is_close_before _ = false
 
--- or behind these
+-- or after these
 abbrev pub is_close_behind : Token → Bool
 is_close_behind (Sign LeftParen) = true
 is_close_behind (Sign LeftBracket) = true
@@ -87,13 +87,13 @@ abbrev pub is_minus : Token → Bool
 is_minus (Sign Minus) = true
 is_minus _ = false
 
--- what stands in brackets behind these belongs to them
+-- what stands in brackets after these belongs to them
 abbrev pub takes_bracket : Token → Bool
 takes_bracket (Ident n) = true
 takes_bracket (Sign RightBracket) = true
 takes_bracket _ = false
 
--- an operand ends with these, so that a minus behind them has two
+-- an operand ends with these, so that a minus after them has two
 abbrev pub ends_operand : Token → Bool
 ends_operand (Ident n) = true
 ends_operand (Int n) = true
@@ -130,7 +130,7 @@ is_in_or_end _ = false
 
 -- What stands between tokens.
 
--- what a token is written behind: the one before it, whether that is a minus with one operand, and
+-- what a token is written after: the one before it, whether that is a minus with one operand, and
 -- how many of `let`, `(`, `[` and `{` are open
 pub record Behind : Type 0 where
   pub before : Option Token
@@ -148,7 +148,7 @@ abbrev pub depth_after : ℕ → Token → ℕ
 depth_after depth one =
     if opens one then depth + 1 else if closes one then depth - 1 else depth
 
--- what the next token is written behind, after this one
+-- what the next token is written after, once this one is
 abbrev pub behind_one : Behind → Token → Behind
 behind_one b one = record {
   before = Some one;

@@ -5,7 +5,7 @@ use Rattle.tg_syntax.specs.declared.tokens.Token.TheVariants.{Ident}
 use Rattle.tg_format.specs.declared.gaps.Behind.{Behind as Spot}
 use Rattle.tg_format.specs.Canonical.{Behind}
 
--- what the next token is written behind
+-- what the next token is written after
 abbrev pub behind_of : Spot → Behind
 behind_of p = record {
   before = option_map (λ a. a.now) p.before;

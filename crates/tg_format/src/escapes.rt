@@ -7,7 +7,7 @@ pub(crate) const STRETCH: usize = 64;
 /// The room for what they are written as.
 pub(crate) const ROOM: usize = 4 * STRETCH;
 
-/// What each byte of a string is written as, with blanks behind it.
+/// What each byte of a string is written as, with blanks after it.
 #[rattlefmt::skip]
 static ESCAPES: [[u8; 4]; 256] = [
     *b"\\000", *b"\\001", *b"\\002", *b"\\003", *b"\\004", *b"\\005", *b"\\006", *b"\\007",
@@ -71,7 +71,7 @@ pub(crate) fn write_stretch(written: &mut [u8; ROOM], stretch: &[u8]) -> usize
 }
 
 /// Writes a byte of a string at a place, by an escape where it doesn't stand for itself, and
-/// returns the size of that. Up to four bytes behind the place change.
+/// returns the size of that. Up to four bytes after the place change.
 fn write_byte(written: &mut [u8; ROOM], at: usize, byte: u8) -> usize
     requires { at + 4 ≤ 256 }
     ensures text { take (at + result) written.new
@@ -86,7 +86,7 @@ fn write_byte(written: &mut [u8; ROOM], at: usize, byte: u8) -> usize
     escape_size(byte)
 }
 
-/// What a byte of a string is written as, with blanks behind it.
+/// What a byte of a string is written as, with blanks after it.
 fn escape_of(byte: u8) -> [u8; 4]
     ensures { take (length (canonical.quoted_byte byte)) result ≡ canonical.quoted_byte byte }
 {

@@ -6,7 +6,7 @@ use crate::kinds;
 use tg_base::Memory;
 use tg_syntax::Token;
 
-/// What the next token is written behind: the token before it, whether that is a minus with one
+/// What the next token is written after: the token before it, whether that is a minus with one
 /// operand, and how many of `let`, `(`, `[` and `{` are open.
 #[derive(Clone, Copy)]
 pub(crate) struct Behind<'a> {
@@ -27,7 +27,7 @@ impl<'a> Behind<'a> {
         }
     }
 
-    /// What the next token is written behind, after this one.
+    /// What the next token is written after, once this one is.
     pub(crate) fn after(self, one: &'a Token) -> Behind<'a>
         requires { self.depth + 1 < 2 ^ 64 }
         ensures after { behind_of result ≡ canonical.behind_one (behind_of self.entry) one.now }
@@ -50,7 +50,7 @@ impl<'a> Behind<'a> {
     }
 }
 
-/// How many are open behind a token.
+/// How many are open after a token.
 fn depth_after(depth: usize, one: &Token) -> usize
     requires { depth + 1 < 2 ^ 64 }
     ensures depth { result ≡ canonical.depth_after depth one.now }

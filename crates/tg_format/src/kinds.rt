@@ -16,7 +16,7 @@ pub(crate) fn begins_line(one: &Token) -> bool
     }
 }
 
-/// A line begins behind the token.
+/// A line begins after the token.
 pub(crate) fn ends_line(one: &Token) -> bool
     ensures { result ≡ canonical.ends_line one.now }
 {
@@ -46,7 +46,7 @@ pub(crate) fn is_close_before(one: &Token) -> bool
     }
 }
 
-/// Nothing stands behind the token.
+/// Nothing stands after the token.
 pub(crate) fn is_close_behind(one: &Token) -> bool
     ensures { result ≡ canonical.is_close_behind one.now }
 {
@@ -69,7 +69,7 @@ pub(crate) fn is_bracket(one: &Token) -> bool
     }
 }
 
-/// What stands in brackets behind the token belongs to it.
+/// What stands in brackets after the token belongs to it.
 pub(crate) fn takes_bracket(one: &Token) -> bool
     ensures { result ≡ canonical.takes_bracket one.now }
 {

@@ -50,7 +50,7 @@ pub first : (xs : List Spanned) (t : Spanned) (b : List Spanned) → HaveSameTok
 first [] t b h = absurd h
 first (x ∷ xs) t b h = record { one = x; rest = xs; whole = refl; is = h.0; behind = h.1 }
 
--- a list like two, one behind the other
+-- a list like two, one after the other
 pub record Parts (xs a b : List Spanned) : Type 0 where
   pub left : List Spanned
   pub right : List Spanned

@@ -1,4 +1,4 @@
--- What stands directly behind a token of a canonical text doesn't go on with it.
+-- What stands directly after a token of a canonical text doesn't go on with it.
 use Rattle.std.proofs.Common.{ℕ, ◌≡◌, ◌≢◌, ◌⊎◌, inl, inr, List, [], ◌∷◌, ◌++◌, Bool, true, false, refl, sym, ap, subst, ◌∙◌, arith}
 use Rattle.std.specs.Prelude.{codes, ◌==◌, ◌&&◌, ◌||◌, not, if◌then◌else◌, Some}
 use Rattle.std.specs.List.{list_all, list_any}
@@ -28,7 +28,7 @@ use Rattle.tg_format_laws.proofs.Quoting.{text_quoted}
 clash : {b : Bool} → b ≡ false → b ≡ true → ⊥
 clash x y = cc
 
--- what may stand directly behind each token: a newline, a blank, `(`, `)`, `,`, `.`, `:`, `;`, `[`, `]`, `{` and `}`
+-- what may stand directly after each token: a newline, a blank, `(`, `)`, `,`, `.`, `:`, `;`, `[`, `]`, `{` and `}`
 abbrev stops : List ℕ
 stops = 10 ∷ 32 ∷ 40 ∷ 41 ∷ 44 ∷ 46 ∷ 58 ∷ 59 ∷ 91 ∷ 93 ∷ 123 ∷ 125 ∷ []
 
@@ -56,7 +56,7 @@ pub stopped : (class : ℕ → Bool) → list_all (λ b. not (class b)) stops �
 stopped class h [] k = refl
 stopped class h (b ∷ rest) k = not_true (class b) (of_any (λ b. not (class b)) stops h b k)
 
--- signs: each byte behind the first is `=` or `>`
+-- signs: each byte after the first is `=` or `>`
 abbrev is_second : ℕ → Bool
 is_second b = b == 61 || b == 62
 
@@ -122,7 +122,7 @@ spelled names (Int n) h = let d = decimal_is_IsNumeral n (omega arith) in (d.0, 
 spelled names (Text bytes) h = (quoted_text bytes, refl, text_quoted bytes h)
 spelled names End h = absurd h
 
--- no longer front is a token: behind a bracket that opens, a dot and a minus whatever follows, else before one of these bytes
+-- no longer front is a token: after a bracket that opens, a dot and a minus whatever follows, else before one of these bytes
 abbrev pub is_alone : Token → Bool
 is_alone one = is_close_behind one || is_minus one
 
@@ -192,7 +192,7 @@ no_comment names (Int n) rest h f k = no_slash (decimal n) rest (numeral_no_slas
 no_comment names (Text bytes) rest h f k = no_slash (spelling names (Text bytes)) rest refl k
 no_comment names End rest h f k = h
 
--- what stands behind a token
+-- what stands after a token
 close_before_stops : (names : List (List ℕ)) (one : Token) (rest : List ℕ) → is_close_before one ≡ true → begins is_stop (spelling names one ++ rest) ≡ true
 close_before_stops names (Sign RightParen) rest h = refl
 close_before_stops names (Sign RightBracket) rest h = refl

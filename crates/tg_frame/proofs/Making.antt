@@ -81,7 +81,7 @@ length_push : (asked : List Bool) (b : Bool) → length (asked ++ b ∷ []) ≡ 
 length_push [] b = refl
 length_push (x ∷ asked) b = let e = length_push asked b in omega arith
 
--- the bounds behind one home more
+-- the bounds after one home more
 slot_grows : (homes : List Access) (s : ℕ) → slot_bound homes ≤ s → slot_bound (homes ++ InFrame s ∷ []) ≤ s + 1
 slot_grows [] s le = omega arith
 slot_grows (InTemp t ∷ homes) s le = slot_grows homes s le

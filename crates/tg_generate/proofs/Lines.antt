@@ -1,4 +1,4 @@
--- The lines of functions, one behind another.
+-- The lines of functions, one after another.
 use Rattle.std.proofs.Common.{◌≡◌, ◌+◌, ◌++◌, ℕ, suc, List, append_assoc, ap, subst, ◌∙◌, arith}
 use Rattle.tg_generate.specs.Generated.{function_line, function_lines, head_lines}
 

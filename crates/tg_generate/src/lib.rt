@@ -46,7 +46,7 @@ fn push_function(alloc: Global, text: &mut Vec<u8>, i: u32) -> Result<(), Memory
     Ok(())
 }
 
-/// The line of a function behind the first, which calls the one before it.
+/// The line of a function after the first, which calls the one before it.
 fn function(alloc: Global, i: u32, before: u32) -> Result<String, AllocError>
     ensures { IfOk result (λ line. string_bytes line ≡ codes "function f" ++ (decimal i
         ++ (codes "(a: int): int = let var b := a + " ++ (decimal i

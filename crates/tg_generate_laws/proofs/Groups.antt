@@ -98,7 +98,7 @@ bodies_give no_functions (x ∷ ss) scope h = absurd h
 bodies_give (function g qs k e rest) [] scope h = absurd h
 bodies_give (function g qs k e rest) (x ∷ ss) scope h = and_then _ h.0 (and_then _ h.1 (bodies_give rest ss scope h.2))
 
--- the scope behind a group, whose last function is found first
+-- the scope after a group, whose last function is found first
 pub scope_more : (fs : FunDecs) (ss : List Signature) (outer scope : Scope) (f : Ident) (ps : List Param) (r : Option Ident) (body : Exp) (s : Signature) →
     Headed fs ss outer →
     with_functions (snoc_function fs f ps r body) (ss ++ s ∷ []) scope ≡ binding f (function_at (at_of f) s) (with_functions fs ss scope)

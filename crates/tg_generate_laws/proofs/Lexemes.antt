@@ -151,7 +151,7 @@ names_in [] = []
 names_in (name text n ∷ ls) = text ∷ names_in ls
 names_in (_ ∷ ls) = names_in ls
 
--- lists of them, one behind the other
+-- lists of them, one after the other
 pub spelled-append : (a b : List Lexeme) → spelled (a ++ b) ≡ spelled a ++ spelled b
 spelled-append [] b = refl
 spelled-append (l ∷ a) b = ap (λ t. spelling l ++ t) (spelled-append a b) ∙ sym (append_assoc (spelling l) (spelled a) (spelled b))

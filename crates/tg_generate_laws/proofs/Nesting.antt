@@ -10,7 +10,7 @@ use Rattle.tg_syntax.specs.SyntaxFaults.{IsShallow}
 use Rattle.tg_generate_laws.proofs.Lexemes.{tokens_at, past, tokens-append}
 use Rattle.tg_generate_laws.proofs.Lines.{head, line, lines, last, program}
 
--- the counts behind tokens, and whether they nest within 256
+-- the counts after tokens, and whether they nest within 256
 abbrev behind : List ℕ → List Spanned → List ℕ
 behind counts [] = counts
 behind counts (t ∷ ts) = behind (after_token t.token counts) ts
@@ -45,7 +45,7 @@ line_behind : (n at x : ℕ) → behind (x ∷ 0 ∷ []) (tokens_at at (line n))
 line_behind zero at x = refl
 line_behind (suc k) at x = refl
 
--- the count that stands beside the first behind so many lines
+-- the count that stands beside the first after so many lines
 abbrev counts_from : ℕ → ℕ
 counts_from zero = 3
 counts_from (suc n) = 1

@@ -85,7 +85,7 @@ module _ (bindings : List (ℕ × Binding)) (types : List (ℕ × Ty)) (std : Is
       headed_more (group s n) (signatures n) outer (id line 1 (place n)) (parameters line) (Some (id line 8 3)) (line_body n line) counting
       (group_headed n) (one_param (id line 3 9) (id line 5 3) refl) (kind (id line 8 3) std.int)
 
-  -- the scope behind the group of so many functions
+  -- the scope after the group of so many functions
   abbrev inside : ℕ → Scope
   inside n = with_functions (group s n) (signatures n) outer
 
@@ -172,7 +172,7 @@ module _ (bindings : List (ℕ × Binding)) (types : List (ℕ × Ty)) (std : Is
       let all_bodies = bodies_give (group s n) (signatures n) (in_no_loop (inside n)) (bodied n n (omega arith)) in
       and_then _ (and_then _ ok (and_then _ (and_then _ ok (and_then _ ok ok)) (and_then _ names (and_then _ heads (and_then _ all_bodies ok))))) (last_line k)
 
--- the names that come behind those of the head
+-- the names that come after those of the head
 abbrev behind : ℕ → List (List ℕ)
 behind zero = []
 behind (suc n) = behind n ++ fresh n

@@ -54,7 +54,7 @@ or_false false = refl
 false_or : (b c : Bool) → b ≡ false → (b || c) ≡ c
 false_or b c p = ap (λ d. d || c) p
 
--- a list with a node behind it, where that is so
+-- a list with a node after it, where that is so
 pub among_added_same : (x : ℕ) (xs : List ℕ) (b : Bool) → is_among x xs ≡ false →
     is_among x (xs ++ (if b then x ∷ [] else [])) ≡ b
 among_added_same x xs true p = list_any-append (nat_eq x) xs (x ∷ [])
@@ -87,7 +87,7 @@ among_within x a (suc k) h l =
     ∙ among_within x (a + 1) k (omega (arith, h, p)) (omega (arith, l)))
     (cases_eq x a)
 
--- The front of a run, and what stands behind a node.
+-- The front of a run, and what stands after a node.
 
 at_node : (n y : ℕ) → y < n → then_some (nat_lt y n) y ≡ Some y
 at_node n y h = ap (λ b. then_some b y) (lt-ltb y n h)

@@ -1,10 +1,10 @@
--- Lists linked by index in two vectors, of which one tells what stands behind a place and the other
+-- Lists linked by index in two vectors, of which one tells what stands after a place and the other
 -- what stands before it. Places below a number are nodes; each place from there on is the end of a
--- list, and its first node stands behind the end, so that a list goes round.
+-- list, and its first node stands after the end, so that a list goes round.
 use Rattle.std.specs.Prelude.{◌≡◌, ℕ, zero, suc, ◌<◌, ◌≤◌, nat_lt, ◌==◌, List, [], ◌∷◌, ◌++◌}
 use Rattle.std.specs.Prelude.{length, slice_index, if◌then◌else◌}
 
--- each place stands before the one behind it, and behind the one before it
+-- each place stands before the one after it, and after the one before it
 pub record AreInverse (next prev : List ℕ) : Type 0 where
   pub sized : length prev ≡ length next
   pub ahead : (y : ℕ) → y < length next →

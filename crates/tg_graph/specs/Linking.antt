@@ -1,4 +1,4 @@
--- How worklists are kept: the end of each stands behind the nodes, by the list's number.
+-- How worklists are kept: the end of each stands after the nodes, by the list's number.
 use Rattle.std.specs.Prelude.{◌≡◌, ℕ, ◌+◌, ◌<◌, ◌≤◌, ◌==◌, List, length, slice_index}
 use Rattle.std.specs.Prelude.{slice_index_or}
 use Rattle.tg_graph.specs.declared.worklists.Worklist.{Worklist}

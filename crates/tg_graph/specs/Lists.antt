@@ -65,7 +65,7 @@ moved lists node list =
     lists_by lists.nodes
     (λ l. without node (nodes_in lists l) ++ (if number l == number list then node ∷ [] else []))
 
--- what stands right behind a node
+-- what stands right after a node
 abbrev pub after : ℕ → List ℕ → Option ℕ
 after x [] = None
 after x (y ∷ ys) = if x == y then slice_get ys 0 else after x ys

@@ -45,8 +45,8 @@ fn number(list: Worklist) -> u32
 }
 
 /// The nodes of a graph in six lists, each in exactly one. The lists are linked by index both ways,
-/// so each call but `new` takes a bounded number of steps and no memory. Behind the nodes stand six
-/// ends, one for each list: behind an end stands the list's first node and before it the last one.
+/// so each call but `new` takes a bounded number of steps and no memory. After the nodes stand six
+/// ends, one for each list: after an end stands the list's first node and before it the last one.
 #[derive(Drop)]
 pub struct Worklists {
     nodes: u32,
@@ -113,7 +113,7 @@ impl Worklists {
         (front < self.nodes).then_some(front)
     }
 
-    /// The node that stands right behind one in its list.
+    /// The node that stands right after one in its list.
     pub fn next(&self, node: u32) -> Option<u32>
         requires { node < self.now.nodes }
         ensures value { (list : Worklist) → IsTrue (is_among node (nodes_in self.now list)) →

@@ -1,4 +1,4 @@
--- Runs of instructions: each is its own step, and goes on with more fuel alone. What relates what comes next, at marks, at calls and behind
+-- Runs of instructions: each is its own step, and goes on with more fuel alone. What relates what comes next, at marks, at calls and after
 -- returns relates the runs.
 use Rattle.std.proofs.Common.{◌≡◌, ◌≤◌, ◌<◌, ℕ, ◌+◌, ◌-◌, List, [], ◌∷◌, Bool, true, false, length, refl, arith}
 use Rattle.std.specs.Prelude.{◌==◌, ◌%◌, Option, Some, None, pos, nat_lt, if◌then◌else◌}
@@ -30,7 +30,7 @@ use Rattle.tg_instr.specs.Meaning.{Back, Enter, Around, Next, Jumps, with_conten
 use Rattle.tg_instr.specs.Running.{Units, CodePoint, behind, run_code, code_step, code_going, code_run, begin_code, enter_code, jump_to, with_frame}
 
 module _ (R : Related) (keeps : Keeps R OneWorld OneTemps) where
-  -- what comes behind a return
+  -- what comes after a return
   abbrev pub AlikeReturns : ℕ → Back → Back → Type 0
   AlikeReturns n back back' = (c : Content) (x : World) → R n x (back c x) (back' c x)
 
@@ -142,7 +142,7 @@ module _ (R : Related) (keeps : Keeps R OneWorld OneTemps) where
       keep_act (Fails k) w s = keeps.stop n (Ended (Break k)) w w (one w)
       keep_act Returns w s = either (gives_back given_back s) w _ _ _ _ (back_same (handed (s (Operand (Reg 2)))) w) (wrongs w)
 
-  -- two places that differ in what comes behind the return alone, as far as so much fuel
+  -- two places that differ in what comes after the return alone, as far as so much fuel
   pub data AlikeCode (n : ℕ) : CodePoint → CodePoint → Type 0 where
     alike_code :
         (f : Function (List Instr)) (rest : List Instr) (a : Activation) (back back' : Back) (w : World) (s : Contents) →
@@ -167,7 +167,7 @@ module _ (R : Related) (keeps : Keeps R OneWorld OneTemps) where
 
     module _ (c d : CodePoint → Run Ran)
         (later : (m : ℕ) → m < n → (x y : CodePoint) → AlikeCode m x y → R m x.world (c x) (d y)) where
-      -- behind a unit of fuel
+      -- after a unit of fuel
       keep_fuelled : (x y : CodePoint) → AlikeCode n x y → R n x.world (with_fuel x.world (c x)) (with_fuel y.world (d y))
       keep_fuelled x y (alike_code f rest a back back' w s h) =
           keeps.fuel n w w _ _ (one w) (λ m lt. later m lt _ _ (code_down m n _ _ (omega arith) (alike_code f rest a back back' w s h)))

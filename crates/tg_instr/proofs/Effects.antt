@@ -44,7 +44,7 @@ call_within_by true a c d = refl
 call_within_by false true c d = refl
 call_within_by false false c d = refl
 
--- what a call leaves unset behind $v0
+-- what a call leaves unset after $v0
 others : List Holder
 others =
     map (λ x. Operand x) (registers (3 ∷ 4 ∷ 5 ∷ 6 ∷ 7 ∷ 8 ∷ 9 ∷ 10 ∷ 11 ∷ 12 ∷ 13 ∷ 14 ∷ 15 ∷ 24 ∷ 25 ∷ 31 ∷ [])) ++ (Hi ∷ Lo ∷ [])

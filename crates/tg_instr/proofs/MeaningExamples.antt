@@ -78,7 +78,7 @@ reads_unset = refl
 reads_unset_hi : (ran (Mfhi (Reg 2) ∷ Return ∷ [])).stop ≡ Wrong
 reads_unset_hi = refl
 
--- a temporary or a register is not set behind a call
+-- a temporary or a register is not set after a call
 reads_behind_call :
     (ran_with (made 32 0 0 (Addiu (Reg 8) (Reg 0) 1 ∷ Move (temp 9) (Reg 31) ∷ Addiu (Reg 4) (Reg 0) 1 ∷
     Call (record { 0 = 33 }) ∷ Move (Reg 4) (Reg 8) ∷ Fault 1 ∷ []) ∷ made 33 1 0 one_more ∷ []) 2).stop
@@ -196,7 +196,7 @@ found_in_result :
     (calls_to (call ∷ Move (temp 0) (Reg 2) ∷ Fault 3 ∷ []) (Move (Reg 2) (Reg 16) ∷ Return ∷ [])).stop ≡ Wrong
 found_in_result = refl
 
--- unset at an entry, and behind a call: a temporary register, hi, $ra
+-- unset at an entry, and after a call: a temporary register, hi, $ra
 unset_at_entry :
     (calls_to (Addiu (Reg 8) (Reg 0) 1 ∷ call ∷ []) (Move (temp 0) (Reg 8) ∷ Fault 3 ∷ [])).stop ≡ Wrong
 unset_at_entry = refl

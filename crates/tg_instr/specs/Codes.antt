@@ -31,7 +31,7 @@ is_end (Fault n) = true
 is_end Return = true
 is_end _ = false
 
--- the last instruction goes on nowhere behind it
+-- the last instruction goes on nowhere after it
 abbrev pub ends_well : List Instr → Bool
 ends_well [] = false
 ends_well (one ∷ []) = is_end one

@@ -21,7 +21,7 @@ halves_changed (Halves left right low high) = Hi ∷ Lo ∷ []
 halves_changed (Calls label) = Hi ∷ Lo ∷ []
 halves_changed _ = []
 
--- what an instruction reads, moves or hands on, and what holds something else behind it
+-- what an instruction reads, moves or hands on, and what holds something else after it
 abbrev pub reads : InstructionShape → List Holder
 reads one = map (λ x. Operand x) (uses one) ++ half_read one
 
@@ -39,7 +39,7 @@ abbrev pub Agree : List Holder → Contents → Contents → Type 0
 Agree [] s t = ⊤
 Agree (x ∷ xs) s t = (s x ≡ t x) × Agree xs s t
 
--- behind an instruction all but its definitions is as before it
+-- after an instruction all but its definitions is as before it
 abbrev pub ChangesDefinitions : Type 0
 ChangesDefinitions =
     (room : ℕ) (literals : List Literal) (enter : Enter) (one : InstructionShape) (e : Around)
@@ -47,7 +47,7 @@ ChangesDefinitions =
     act room literals enter one e next w s
     ≡ act room literals enter one e (λ w1 s1. next w1 (within (changes one) s1 s)) w s
 
--- what its definitions are behind it, and where it goes on, is told by what its uses are
+-- what its definitions are after it, and where it goes on, is told by what its uses are
 abbrev pub ReadsUses : Type 0
 ReadsUses =
     (room : ℕ) (literals : List Literal) (enter : Enter) (one : InstructionShape) (e : Around)
@@ -60,7 +60,7 @@ ReadsUses =
 -- Laws of runs, for any units that instructions are charged.
 
 -- a run is its own step: what comes of a place is a step from it, and then what comes of the places
--- behind it
+-- after it
 abbrev pub CodeSteps : Type 0
 CodeSteps =
     (units : Units) (code : Code (List Instr)) (size : ℕ → ℕ) (floor room : ℕ)

@@ -16,7 +16,7 @@ use Rattle.tg_instr.specs.Shapes.{shape}
 use Rattle.tg_instr.specs.Contents.{Contents, no_contents, at_entry}
 use Rattle.tg_instr.specs.Meaning.{Back, Around, Enter, act}
 
--- what stands behind a mark
+-- what stands after a mark
 abbrev pub behind : (mark : ℕ) → List Instr → Option (List Instr)
 behind m [] = None
 behind m (Mark k ∷ rest) = if k == m then Some rest else behind m rest
@@ -43,7 +43,7 @@ pub record CodePoint : Type 0 where
   pub contents : Contents
 
 -- The units that an instruction is charged, told by its place: the label of its function, and how
--- many instructions of its code are left behind it.
+-- many instructions of its code are left after it.
 abbrev pub Units : Type 0
 Units = (label left : ℕ) → Instr → ℕ
 
@@ -70,7 +70,7 @@ module _ (units : Units) (code : Code (List Instr)) (size : ℕ → ℕ) (floor 
         contents = s;
       })
 
-  -- a call runs the body behind a unit of fuel
+  -- a call runs the body after a unit of fuel
   abbrev pub enter_code : (CodePoint → Run Ran) → Enter
   enter_code later label s top back w =
       begin_code (λ p. with_fuel p.world (later p)) (function_of label code.functions)

@@ -33,7 +33,7 @@ pub data InstructionShape : Type 0 where
   Halves : (left right : Opnd) → (low high : ℕ → ℕ → Given) → InstructionShape
   -- `to` gets whatever `from` holds
   Copy : (to from : Opnd) → InstructionShape
-  -- memory at so many bytes behind `base`
+  -- memory at so many bytes after `base`
   Loads : (to base : Opnd) → (bytes : ℕ) → (Memory → ℕ → Option ℕ) → InstructionShape
   Stores : (from base : Opnd) → (bytes : ℕ) → (Memory → ℕ → ℕ → Option Memory) → InstructionShape
   -- a slot of the frame, the frame address, and the address of a literal

@@ -46,7 +46,7 @@ uses Asks = registers (2 ∷ 4 ∷ [])
 uses (Fails n) = []
 uses Returns = registers (2 ∷ given_back)
 
--- the operands that hold something else behind it
+-- the operands that hold something else after it
 abbrev pub defs : InstructionShape → List Opnd
 defs (From0 to n) = to ∷ []
 defs (From1 to from f) = to ∷ []

@@ -47,7 +47,7 @@ impl Instr {
         }
     }
 
-    /// The operands that hold something else behind the instruction than before it: at a call all
+    /// The operands that hold something else after the instruction than before it: at a call all
     /// that it may change.
     pub fn defs(&self, alloc: Global) -> SmallVec<Opnd, 24>
         ensures { result.items ≡ defs_of self.now }

@@ -184,7 +184,7 @@ fn join_operand(node: u32, moved: Option<Move>, one: &Opnd, graph: &mut Graph) -
     }
 }
 
-// Joins a definition to what is live behind it, unless a move keeps them apart.
+// Joins a definition to what is live after it, unless a move keeps them apart.
 fn join_nodes(node: u32, moved: Option<Move>, other: u32, graph: &mut Graph) -> Result<(), Memory>
     requires node { node < graph.old.nodes }
     requires other { other < graph.old.nodes }
@@ -200,7 +200,7 @@ fn join_nodes(node: u32, moved: Option<Move>, other: u32, graph: &mut Graph) -> 
     }
 }
 
-// Whether a definition may not share a register with a node that is live behind it.
+// Whether a definition may not share a register with a node that is live after it.
 fn is_apart(moved: Option<Move>, to: u32, other: u32) -> bool
     ensures { result ≡ is_apart moved to other }
 {

@@ -8,7 +8,7 @@ use tg_instr::Opnd;
 use tg_isa::Reg;
 
 /// The node of an operand: a register that is a colour stands at its place in the order of the
-/// colours, and temporaries stand behind the colours. No other register has a node.
+/// colours, and temporaries stand after the colours. No other register has a node.
 pub fn node_of(one: &Opnd) -> Option<u32>
     requires { IsTrue (is_below most_temps one.now) }
     ensures { result ≡ node_of one.now }

@@ -89,7 +89,7 @@ is_round g r taken over same = record {
   spilled = ap (λ r. r.spilled) same;
 }
 
--- no run goes on so behind these steps, since the step isn't possible
+-- no run goes on so after these steps, since the step isn't possible
 abbrev pub NeverTakes : Problem → List Step → Step → Type 0
 NeverTakes g steps step = (later : List Step) → AreTaken g (after_all g (start g) steps) (step ∷ later) → ⊥
 

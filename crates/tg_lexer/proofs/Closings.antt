@@ -84,7 +84,7 @@ two_bytes a b [] h = absurd h
 two_bytes a b (x ∷ []) h = absurd h
 two_bytes a b (x ∷ y ∷ text) h = let e = h.0 in let f = h.1 in cc
 
--- behind a piece of the text other comments are left open
+-- after a piece of the text other comments are left open
 open_past : (text : List ℕ) (depth left at : ℕ) (piece tail : List ℕ) → Open text depth at → drop at text ≡ piece ++ tail →
     0 < left → left ≤ at + length piece + 1 →
     ((more rest : List ℕ) → drop at text ≡ (piece ++ more) ++ rest → Closes left more → Closes depth (piece ++ more)) →

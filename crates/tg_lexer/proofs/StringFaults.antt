@@ -60,7 +60,7 @@ misfits_once begun other a b rest after m n e = by (two_fronts begun (a ∷ rest
     by (inl g) = inside a b begun other g.more rest after m n g.long_is g.rest_is
     by (inr g) = sym (inside b a other begun g.more after rest n m g.long_is g.rest_is)
 
--- what stands behind a backslash
+-- what stands after a backslash
 escape_of : {b : ℕ} {xs ys : List ℕ} → 92 ∷ xs ≡ b ∷ ys → is_control b ≡ true → ⊥
 escape_of {b = b} e h = control_backslash b h (sym (head_is e))
 
@@ -123,7 +123,7 @@ fault_escape (end_in_escape begun k) h rest e = begun_no_escape k h rest (tail_i
 fault_escape (line_in_escape begun after m) h rest e = misfit_no_escape 10 m h after rest (tail_is e)
 fault_escape (bad_escape begun c after m n) h rest e = misfit_no_escape c m h after rest (tail_is e)
 
--- behind two fronts of one string stands one fault
+-- after two fronts of one string stands one fault
 pub quoted_fault_once : {quote at to : ℕ} {short meant long meaning rest after : List ℕ} {rule other : LexRule} {place there : ℕ} →
     IsQuoted short meant → IsQuoted long meaning → (from : ℕ) → at ≡ from + length short → to ≡ from + length long →
     FaultInString quote at rest rule place → FaultInString quote to after other there → short ++ rest ≡ long ++ after → Same rule other place there

@@ -84,7 +84,7 @@ IsEscape text Bad = IsBad text
 abbrev pub IsMisfit : ℕ → Escaped → Type 0
 IsMisfit b e = MatchBool (b == 10) (e ≡ Cut) (e ≡ Bad)
 
--- what stands behind an opening quote
+-- what stands after an opening quote
 pub record IsString (text meant : List ℕ) (size : ℕ) : Type 0 where
   pub inside : List ℕ
   pub rest : List ℕ

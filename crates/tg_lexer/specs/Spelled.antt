@@ -7,7 +7,7 @@ use Rattle.tg_syntax.specs.Spellings.{Spells}
 use Rattle.tg_syntax.specs.Lexing.{Lexes}
 
 -- The text's bytes in the token's span spell it, where names are numbered by their places in a
--- list; the end stands behind all.
+-- list; the end stands after all.
 abbrev pub SpellsOrEnds : List (List ℕ) → (bytes after : List ℕ) → Token → Type 0
 SpellsOrEnds names bytes after End = (bytes ≡ []) × (after ≡ [])
 SpellsOrEnds names bytes after one = Spells names bytes one

@@ -1,6 +1,6 @@
 ghost use Rattle.tg_lexer.specs.Lexemes.{FoundComment, IsMark};
 
-// How many bytes a comment has, behind the `/*` that opens it, where it is closed.
+// How many bytes a comment has, after the `/*` that opens it, where it is closed.
 pub(crate) fn comment(text: &[u8]) -> Option<usize>
     ensures { FoundComment text.now result }
 {

@@ -5,7 +5,7 @@ ghost use Rattle.tg_lexer.specs.Lexemes.{IsEscape, IsMisfit};
 
 use crate::bytes::{Class, byte_at, count_run, is_blank, is_digit};
 
-/// What stands behind a backslash.
+/// What stands after a backslash.
 #[derive(Clone, Copy)]
 pub(crate) enum Escaped {
     /// An escape of so many bytes that means a byte.
@@ -103,7 +103,7 @@ fn gap(first: u8, text: &[u8]) -> Escaped
     }
 }
 
-// What a text begins with behind a backslash.
+// What a text begins with after a backslash.
 pub(crate) fn escape(text: &[u8]) -> Escaped
     ensures { IsEscape text.now result }
 {

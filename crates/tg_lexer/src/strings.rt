@@ -7,7 +7,7 @@ use std::alloc::Global;
 use tg_base::{Bytes, Memory};
 use tg_syntax::LexRule;
 
-/// What stands behind an opening quote.
+/// What stands after an opening quote.
 #[derive(Drop)]
 pub(crate) enum Quoted {
     /// A string, and the number of its bytes with the closing quote.
@@ -23,7 +23,7 @@ fn is_plain(byte: u8) -> bool
     b' ' <= byte && byte != 127 && byte != b'"' && byte != b'\\'
 }
 
-// The string behind an opening quote, whose byte is `quote`.
+// The string after an opening quote, whose byte is `quote`.
 pub(crate) fn string(alloc: Global, text: &[u8], quote: usize) -> Result<Quoted, Memory>
     requires { quote + length text.now ≤ 262144 }
     ensures { IfOk result (λ q. IsBehindQuote quote text.now q) }

@@ -84,14 +84,14 @@ joined {a} {b} {xs} {ys} h k = record {
   fit = omega (arith, sum_by-append spaced_length xs ys, sum_by-append (λ t. least_bytes t.token) a b);
 }
 
--- behind a plain token, which is the byte that there was to spare
+-- after a plain token, which is the byte that there was to spare
 paid : {t : Spanned} {a : List Spanned} {xs : List (List ℕ)} → IsPlainToken t → HaveStrings 1 a xs → HaveStrings 0 (t ∷ a) xs
 paid {t} {a} q h = record {
   strings_are = h.strings_are ∙ sym (ap (λ ys. ys ++ strings_of a) q.none);
   fit = omega (arith, q.one, sum_by-cons (λ t. least_bytes t.token) t a);
 }
 
--- behind a plain token, before it, and on both sides of it
+-- after a plain token, before it, and on both sides of it
 behind : {t : Spanned} {a : List Spanned} {xs : List (List ℕ)} → IsPlainToken t → HaveStrings 1 a xs → HaveStrings 1 (t ∷ a) xs
 behind q h = loose (paid q h)
 
@@ -151,7 +151,7 @@ alone_strings (one_type d) = refl
 alone_strings (one_variable x k e) = append-nil (strings e)
 alone_strings (one_function f ps k e) = append-nil (strings e ++ []) ∙ append-nil (strings e)
 
--- behind a group of functions alone
+-- after a group of functions alone
 behind_bodies : (fs : FunDecs) (d : Dec) → decs_strings (behind_functions fs d) ≡ (bodies_strings fs ++ []) ++ dec_strings d
 behind_bodies fs (one_type d) = push (bodies_strings fs) [] [] refl
 behind_bodies fs (one_variable x k e) = push (bodies_strings fs) [] (strings e) (append-nil (strings e))

@@ -64,7 +64,7 @@ more_decs (functions fs (types us rest)) d h k = (h.0, more_decs (types us rest)
 more_decs (functions fs (variable x r e rest)) d h k = (h.0, more_decs (variable x r e rest) d h.1 k)
 more_decs (functions fs (functions gs rest)) d h k = (h.0, more_decs (functions gs rest) d h.1 k)
 
--- what stands in front of a token, and behind it
+-- what stands in front of a token, and after it
 before : (a b : List Spanned) → AreOfWords (a ++ b) → AreOfWords a
 before a b h = left_of_words a b h
 

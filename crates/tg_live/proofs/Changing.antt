@@ -68,7 +68,7 @@ abbrev pub live_before : (live : ℕ → Bool) → ℕ → Bool
 live_before live zero = false
 live_before live (suc q) = live q
 
--- One operand behind all others of a set.
+-- One operand after all others of a set.
 
 module _ (x : Opnd) where
   abbrev n : ℕ

@@ -26,14 +26,14 @@ copies_go_on = refl
 copies_edges : edges_from 0 (successors copies) ≡ (0, 1) ∷ (1, 2) ∷ (2, 3) ∷ (3, 4) ∷ []
 copies_edges = refl
 
--- t0 is used once more behind its copy, and $s0 goes through all of the code to its return
+-- t0 is used once more after its copy, and $s0 goes through all of the code to its return
 t0_behind_the_copy : IsLiveOut copies 1 (temp 0)
 t0_behind_the_copy = record { next = 2; path = []; goes = refl; leads = refl }
 
 s0_at_the_start : IsLiveOut copies 0 (Reg 16)
 s0_at_the_start = record { next = 1; path = 2 ∷ 3 ∷ 4 ∷ []; goes = refl; leads = refl }
 
--- t1 is live out of its definition alone, and t0 not behind its last use
+-- t1 is live out of its definition alone, and t0 not after its last use
 t1_before_its_definition : IsLiveOut copies 0 (temp 1) → ⊥
 t1_before_its_definition = not_live copies (temp 1) (1 ∷ []) refl 0 refl
 

@@ -9,7 +9,7 @@ use Rattle.tg_instr.specs.declared.instr.Instr.TheVariants.{Mark}
 use Rattle.tg_instr.specs.Codes.{is_mark}
 use Rattle.tg_live.specs.Flow.{place_of}
 
--- the place of a mark that stands at this place or behind it
+-- the place of a mark that stands at this place or after it
 abbrev pub place_from : (at : ℕ) → List Instr → (mark : ℕ) → Option ℕ
 place_from at rest m = cond (list_any (is_mark m) rest) (Some (at + place_of m rest)) None
 

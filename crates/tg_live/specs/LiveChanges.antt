@@ -42,7 +42,7 @@ abbrev pub set_without_all : List Opnd → List Opnd → List Opnd
 set_without_all [] set = set
 set_without_all (x ∷ rest) set = set_without_all rest (set_without x set)
 
--- what is live behind so many places
+-- what is live after so many places
 abbrev pub live_behind : (comes goes : Sets) → (count : ℕ) → List Opnd
 live_behind comes goes zero = []
 live_behind comes goes (suc at) =

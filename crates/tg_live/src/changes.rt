@@ -31,7 +31,7 @@ use tg_base::Memory;
 use tg_instr::Opnd;
 
 /// What comes to what is live at each place of a code, and what goes, in the order of the code. An
-/// operand that is searched for later stands behind the others in each row.
+/// operand that is searched for later stands after the others in each row.
 #[derive(Drop)]
 pub(crate) struct LiveChanges {
     comes: OperandTable,
@@ -156,7 +156,7 @@ fn add_goes(
     Ok(())
 }
 
-// Puts an operand into the row behind a place that it is live out of, where it goes there.
+// Puts an operand into the row after a place that it is live out of, where it goes there.
 fn add_end(
     goes: &mut OperandTable,
     one: &Opnd,

@@ -8,7 +8,7 @@ use tg_base::Temp;
 use tg_instr::Opnd;
 use tg_isa::Reg;
 
-/// The number of the registers, behind which the temporaries are numbered.
+/// The number of the registers, after which the temporaries are numbered.
 pub(crate) const REGISTERS: usize = 32;
 
 /// The number of an operand in the order of operands.

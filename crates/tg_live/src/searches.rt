@@ -105,7 +105,7 @@ impl Search {
         self.places.len()
     }
 
-    /// The place that was found so many places behind the first.
+    /// The place that was found so many places after the first.
     pub(crate) fn place(&self, index: usize) -> u32
         requires { index < length self.now.places }
         ensures { result ≡ slice_index self.now.places index }

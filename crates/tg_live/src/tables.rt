@@ -124,7 +124,7 @@ impl OperandTable {
         Ok(())
     }
 
-    /// Puts the row of what an instruction defines behind the last row.
+    /// Puts the row of what an instruction defines after the last row.
     pub(crate) fn push_definitions(&mut self, alloc: Global, one: &Instr) -> Result<(), Memory>
         ensures { OnOk result (self.new ≡ self.old ++ defs_of one.now ∷ []) }
     {

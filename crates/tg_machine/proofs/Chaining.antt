@@ -1,4 +1,4 @@
--- A call behind a call that made all its steps.
+-- A call after a call that made all its steps.
 use Rattle.std.proofs.Common.{◌≡◌, ◌<◌, ◌≤◌, ◌⊎◌, inl, inr, ◌+◌, ℕ, zero, suc, List, [], ◌∷◌, ◌++◌, length, Option, Some, None, arith, refl, sym, ap}
 use Rattle.std.proofs.Common.{◌∙◌, subst, append_assoc, append-nil, length-append}
 use Rattle.std.specs.Io.KnownBytes.{Appends}
@@ -170,7 +170,7 @@ joined k None left' old mid first second last h m t t' s u =
       seen = sym (r.seen second);
     }
 
--- behind so many steps a run goes on as from its start, with the output so far in front
+-- after so many steps a run goes on as from its start, with the output so far in front
 comes_on : (k i : ℕ) (old mid : MachineState) (input second : List (Option ℕ)) (output : List ℕ) → run k (begun old input) ≡
     Running (world mid second output) → run (k + i) (begun old input) ≡ all_behind output (run i (begun mid second))
 comes_on k i old mid input second output h =

@@ -103,7 +103,7 @@ proceed_code w v (Reads s) h p =
     cc (h, p, a)
 proceed_code w v (Writes bytes s) h p = cc (h, p)
 
--- so behind a run the code is what it was
+-- so after a run the code is what it was
 pub run_code : (n : ℕ) (w v : Execution) → run n w ≡ Running v → v.machine.code ≡ w.machine.code
 run_code zero w v h = cc h
 run_code (suc n) w v h = by (proceed w (step w.machine)) refl (sym (run_suc n w) ∙ h) (run_code n)

@@ -6,7 +6,7 @@ use Rattle.tg_machine.specs.declared.status.Status.TheVariants.{Ended}
 use Rattle.tg_machine.specs.Machines.{Simulated, HasEnded}
 use Rattle.tg_machine.specs.Laws.{HasCalled, EndsAgain, StepsEndAgain}
 
--- behind such a call the machine keeps its end
+-- after such a call the machine keeps its end
 keeps_end : {I O : Type 0} (left : I → Option (List ℕ)) (read_faults : I → ℕ) (taken : O → Option (List ℕ)) (write_faults : O → ℕ)
     (k : ℕ) (old mid : Simulated) (first input : I) (start out : O) (e : RunEnd) →
     HasCalled left read_faults taken write_faults k old mid first input start out e → e ≢ StepLimit → mid.end ≡ Some e

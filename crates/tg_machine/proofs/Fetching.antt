@@ -13,7 +13,7 @@ use Rattle.tg_machine.specs.Ran.{Stops, still, ended, read_failed, write_failed,
 use Rattle.tg_machine.proofs.Reached.{reached_none, ran_all}
 use Rattle.tg_machine.proofs.Runs.{go_on, run_suc, running_same}
 
--- what the steps behind a step fetch
+-- what the steps after a step fetch
 abbrev pub see_on : ℕ → Progress → List Seen
 see_on k (Running v) = fetches k v
 see_on k (Ended e v) = []

@@ -10,7 +10,7 @@ use Rattle.tg_machine.specs.declared.fetches.Seen.{Seen}
 use Rattle.tg_machine.specs.Machines.{Simulated}
 use Rattle.tg_machine.specs.Ran.{Stops, still, ended, read_failed, write_failed, IsSimulation}
 
--- the word of the code at so many bytes behind its base, with the place
+-- the word of the code at so many bytes after its base, with the place
 abbrev pub seen_there : MachineState → Option ℕ → Option Seen
 seen_there s (Some i) = Some (record { place = s.place; word = slice_index s.code (i / 4) })
 seen_there s None = None

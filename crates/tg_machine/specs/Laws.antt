@@ -50,7 +50,7 @@ pub record HasStepped {I O : Type 0}
       IsSimulation left read_faults taken write_faults 1 old new input input' out out' (end_of status)
   pub again : IfSome old.end (λ g. (status ≡ Ended g) × HasEnded old new input input' out out')
 
--- Behind a call that answered another end than the limit of steps, a call and a step answer that end
+-- After a call that answered another end than the limit of steps, a call and a step answer that end
 -- again, and leave the machine, the source and the sink as they are.
 abbrev pub EndsAgain : (I O : Type 0) → Type 0
 EndsAgain I O =

@@ -84,7 +84,7 @@ Moved left read_faults taken write_faults (Writes bytes s)
     (write_faults out) (write_faults out') written written' result
     × (write_faults out ≤ write_faults out') × (input' ≡ input) × (new ≡ s)
 
--- these so many bytes are the text at an address, each is loaded, and the 0 behind them is below
+-- these so many bytes are the text at an address, each is loaded, and the 0 after them is below
 -- the top of the stack
 pub record IsText (s : MachineState) (a n : ℕ) (text : List ℕ) : Type 0 where
   pub found : text_at s a ≡ Ok text

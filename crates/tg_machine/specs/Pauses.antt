@@ -13,7 +13,7 @@ abbrev pub RunsTo : ℕ → MachineState → MachineState → Type 0
 RunsTo zero s t = t ≡ s
 RunsTo (suc n) s t = (mid : MachineState) × RunsTo n s mid × (step mid ≡ Goes t)
 
--- What at most so many steps leave. A service is due in the state behind its place; what a step
+-- What at most so many steps leave. A service is due in the state after its place; what a step
 -- that ends the run leaves of the state isn't told.
 abbrev pub Pauses : ℕ → (old new : MachineState) → Pause → Type 0
 Pauses n old new (Due k) =

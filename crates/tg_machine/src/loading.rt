@@ -78,7 +78,7 @@ impl Core {
     }
 }
 
-/// Bytes with zeros behind them up to whole words.
+/// Bytes with zeros after them up to whole words.
 fn padded(alloc: Global, bytes: &[u8]) -> Result<Vec<u8>, Memory>
     requires { length bytes.now ≤ most_bytes }
     ensures { IfOk result (λ v. v.items ≡ padded bytes.now) }

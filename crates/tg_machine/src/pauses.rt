@@ -7,7 +7,7 @@ use tg_state::RunEnd;
 /// How steps without a service come to a pause.
 #[derive(Clone, Copy)]
 pub(crate) enum Pause {
-    /// A service is due behind so many steps.
+    /// A service is due after so many steps.
     Due(u64),
     /// The run ended.
     Ended(RunEnd),

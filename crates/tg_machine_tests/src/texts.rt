@@ -6,7 +6,7 @@ use tg_isa::Image;
 
 // In each row: what a text is, before the first `|`, and the text. What it is: the rule and the
 // line of its first
-// fault, or the entry, the words of the code and, behind a `/`, the bytes of the statics.
+// fault, or the entry, the words of the code and, after a `/`, the bytes of the statics.
 
 // Each rule at its first line.
 static FAULTS: [&str; 60] = [

@@ -69,7 +69,7 @@ given_draws t (r ∷ rs) = more (omega arith) (omega arith) (omega arith) (both 
 abbrev len : Tx → ℕ
 len x = expression_length Canonical x
 
--- one choice behind another, each within its units
+-- one choice after another, each within its units
 both_within : {n m : ℕ} {first next : Choice (Unit {0})} → Within n first → Within m next → Within (n + m) (first >> next)
 both_within h k = more (omega arith) (omega arith) (omega arith) (both h λ u. k)
 

@@ -157,7 +157,7 @@ fits_operated w bin.SubTrap to x y d h k l = fits_define w _ to d (three_named _
 fits_operated w bin.MulHigh to x y d h k l = by_product w _ _ to d (two_named _ _ k l) h (λ e t. one_named _ t)
 fits_operated w _ to x y d h k l = fits_give (is_readable w) w to d (readable w d to h)
 
--- a shift behind a branch over it, to a mark of its own
+-- a shift after a branch over it, to a mark of its own
 shift_named : (w : Scope) (op : Bin) (to : Opnd) (n : ℕ) (d : NumbersDrawn) → Writable w d to →
     IsTrue (may_name w d (shift_by op to n))
 shift_named w bin.ShiftLeft to n d h = two_named _ _ h (readable w d to h)

@@ -30,7 +30,7 @@ pub all_imply : {X : Type 0} (p q : X → Bool) → ((x : X) → IsTrue (p x) �
 all_imply p q f [] h = refl
 all_imply p q f (x ∷ xs) h = both_hold _ _ (f x (left_holds _ _ h)) (all_imply p q f xs (right_holds (p x) _ h))
 
--- a function's drawing begins behind its temporaries and marks
+-- a function's drawing begins after its temporaries and marks
 abbrev pub start : Function (List Linear) → NumbersDrawn
 start f = record { temp = f.temps; mark = mark_above f.body }
 

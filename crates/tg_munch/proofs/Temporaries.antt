@@ -180,7 +180,7 @@ module _ (slots : ℕ) where
   element_draws keeps before (tree.Return' x) =
       more (omega arith) (both (expression_draws x (Some _)) λ v. both (given_draws keeps kept_registers) λ u. puts _)
 
-  -- one behind another: words for arguments are shared
+  -- one after another: words for arguments are shared
   shared : {A B : Type 0} {o p n m : ℕ} {first : Choice A} {onward : A → Choice B} → Takes o n first → ((a : A) → Takes p m (onward a)) →
       Takes (max o p) (n + m) (first >>= onward)
   unfolding ◌>>=◌

@@ -61,7 +61,7 @@ pub leads_on : {P X : Type 0} {next : P → X → P} {f : P → List X → Choic
 leads_on {next = next} {f = f} {g = g} each xs k p i {x = x} less at leads step =
     leads_by f (g p x) xs k p (next p x) i (each.more p x (drop (i + 1) xs)) less at leads step
 
--- behind the last item
+-- after the last item
 pub leads_over : {P X : Type 0} (f : P → List X → Choice (Unit {0})) (xs : List X) (k p : P) (i : ℕ) {a b : Draft} → f p [] ≡ give tt →
     i ≡ length xs → Leads f xs k p i a b → Writes (f k xs) a b tt
 leads_over f xs k p i {b = b} none over leads =

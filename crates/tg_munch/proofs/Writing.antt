@@ -1,4 +1,4 @@
--- A choice behind another, as a draft has them.
+-- A choice after another, as a draft has them.
 use mathlib.Core.Bool.{Bool-set}
 use Rattle.std.proofs.Common.{ℕ, true, ◌≡◌, ◌++◌, refl, sym, ap, ◌∙◌, append_assoc, append-nil}
 use Rattle.std.specs.Prelude.{IsTrue}

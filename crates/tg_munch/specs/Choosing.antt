@@ -56,6 +56,6 @@ choose None = fresh
 abbrev pub defining : Instr → Opnd → Choice Opnd
 defining one to d = record { value = to; code = one ∷ []; drawn = d }
 
--- such an instruction behind another
+-- such an instruction after another
 abbrev pub defining_behind : (first one : Instr) → Opnd → Choice Opnd
 defining_behind first one to = put first >> defining one to

@@ -104,7 +104,7 @@ module _ (slots : ℕ) where
     arguments picks i (tx x xs) =
         (if picks i then passed i (expression x) else give tt) >> arguments picks (i + 1) xs
 
-  -- the left side of an operator, and an address: an operand and a number of bytes behind it
+  -- the left side of an operator, and an address: an operand and a number of bytes after it
   abbrev pub left_side : Tx → Choice Opnd
   left_side (tree.Binary op x y) = expression x None
   left_side x = expression x None
@@ -173,7 +173,7 @@ module _ (slots : ℕ) where
   abbrev pub compared_in_hi : Rel → (right : Tx) → (mark : ℕ) → Choice (Unit {0})
   compared_in_hi rel y m = fresh >>= (λ a. put (Mfhi a) >> compared_with rel a y m)
 
-  -- a comparison behind an element, or at the start of the code
+  -- a comparison after an element, or at the start of the code
   abbrev pub branch_behind :
       (before : Option Linear) → Rel → (left right : Tx) → (mark : ℕ) → Choice (Unit {0})
   branch_behind before rel x y m =
@@ -184,7 +184,7 @@ module _ (slots : ℕ) where
   returned keeps x =
       expression x (Some (Reg 2)) >> (given_back keeps kept_registers >> put Return)
 
-  -- an element of flat code behind another, or at the start, where the kept registers stand in
+  -- an element of flat code after another, or at the start, where the kept registers stand in
   -- temporaries from a number on
   abbrev pub element : (keeps : ℕ) → (before : Option Linear) → Linear → Choice (Unit {0})
   element keeps before (tree.Mark m) = put (Mark m)

@@ -5,7 +5,7 @@ use Rattle.tg_tree.specs.declared.operators.Bin.TheVariants as bin
 use Rattle.tg_tree.specs.Tree as tree
 use Rattle.tg_tree.specs.Tree.{Tx, Ts, Linear}
 
--- the same word, the one before a move to a temporary and the other behind it: a number, or another
+-- the same word, the one before a move to a temporary and the other after it: a number, or another
 -- temporary
 abbrev pub is_same : (to : ℕ) → (x y : Tx) → Bool
 is_same to (tree.Const n) (tree.Const m) = n == m
@@ -22,7 +22,7 @@ abbrev pub leaves_product : (before : Option Linear) → (left right : Tx) → B
 leaves_product (Some (tree.Do' s)) u v = moves_product s u v
 leaves_product _ u v = false
 
--- whether HI is a word, directly behind an element of flat code
+-- whether HI is a word, directly after an element of flat code
 abbrev pub is_in_hi : (before : Option Linear) → Tx → Bool
 is_in_hi before (tree.Binary bin.MulHigh u v) = leaves_product before u v
 is_in_hi before _ = false

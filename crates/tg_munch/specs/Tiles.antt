@@ -80,7 +80,7 @@ offset _ = None
 abbrev pub behind : (bytes : ℕ) → Opnd → Base
 behind n b = record { bytes = n; operand = b }
 
--- so many bytes behind the left side of an address, or the whole address
+-- so many bytes after the left side of an address, or the whole address
 abbrev pub based : Option ℕ → (left whole : Choice Opnd) → Choice Base
 based (Some n) left whole = left >>= (λ b. give (behind n b))
 based None left whole = whole >>= (λ b. give (behind 0 b))
@@ -167,7 +167,7 @@ shift_by bin.ShiftLeft to n = Sll to to n
 shift_by bin.ShiftRight to n = Srl to to n
 shift_by _ to n = Sra to to n
 
--- a shift by a word: for each bit of its lower five, a shift behind a branch on the bit
+-- a shift by a word: for each bit of its lower five, a shift after a branch on the bit
 abbrev pub shift_bit : Bin → (to amount : Opnd) → (bits : ℕ) → Choice (Unit {0})
 shift_bit op to amount n =
     fresh >>= (λ bit. fresh_mark >>= (λ m.

@@ -167,7 +167,7 @@ pub(crate) fn elements(
     Ok(())
 }
 
-/// An element of flat code, behind another or at the start.
+/// An element of flat code, after another or at the start.
 fn element(
     draft: &mut Draft,
     slots: u32,

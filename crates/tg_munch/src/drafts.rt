@@ -82,7 +82,7 @@ impl Draft {
         Ok(to)
     }
 
-    /// Writes an instruction, and behind it one that defines an operand, and gives the operand.
+    /// Writes an instruction, and after it one that defines an operand, and gives the operand.
     pub(crate) fn define_behind(
         &mut self,
         first: Instr,

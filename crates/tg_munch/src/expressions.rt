@@ -140,7 +140,7 @@ fn load_byte(
     Ok(value)
 }
 
-/// An address, as an operand and a number of bytes behind it.
+/// An address, as an operand and a number of bytes after it.
 #[cycle(munching)]
 pub(crate) fn base(draft: &mut Draft, slots: u32, address: &Tx) -> Result<Base, Memory>
     ensures { IfOk result
@@ -180,7 +180,7 @@ fn left_side(draft: &mut Draft, slots: u32, address: &Tx) -> Result<Opnd, Memory
     }
 }
 
-/// A call, behind its arguments.
+/// A call, after its arguments.
 #[cycle(munching)]
 pub(crate) fn call(draft: &mut Draft, slots: u32, label: Label, items: &Txs) -> Result<(), Memory>
     ensures { OnOk result

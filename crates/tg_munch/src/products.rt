@@ -5,7 +5,7 @@ ghost use Rattle.tg_munch.specs.Products as products;
 use tg_base::Temp;
 use tg_tree::{Bin, Linear, Ts, Tx};
 
-/// The same word, the one before a move to a temporary and the other behind it: a number, or
+/// The same word, the one before a move to a temporary and the other after it: a number, or
 /// another temporary.
 fn is_same(to: Temp, one: &Tx, other: &Tx) -> bool
     ensures { result ≡ products.is_same to.0 (plain_tx one.now) (plain_tx other.now) }
@@ -39,7 +39,7 @@ fn leaves_product(before: Option<&Linear>, left: &Tx, right: &Tx) -> bool
     }
 }
 
-/// Whether HI is a word, directly behind an element of flat code.
+/// Whether HI is a word, directly after an element of flat code.
 pub(crate) fn is_in_hi(before: Option<&Linear>, word: &Tx) -> bool
     ensures { result ≡ products.is_in_hi (option_map (λ e. plain_linear e.now) before.entry)
         (plain_tx word.now) }

@@ -106,7 +106,7 @@ fn value(draft: &mut Draft, slots: u32, x: &Tx) -> Result<(), Memory>
     Ok(())
 }
 
-/// A branch on a comparison, behind an element or at the start of the code.
+/// A branch on a comparison, after an element or at the start of the code.
 pub(crate) fn branch_behind(
     draft: &mut Draft,
     slots: u32,

@@ -27,7 +27,7 @@ pub(crate) enum Tile {
     Operands,
 }
 
-/// An address: so many bytes, by a field with a sign, behind what an operand holds.
+/// An address: so many bytes, by a field with a sign, after what an operand holds.
 #[derive(Clone, Copy)]
 pub(crate) struct Base {
     pub(crate) bytes: Bits<16>,

@@ -51,7 +51,7 @@ low_product a b h k =
 pub add_none : (a : ℕ) → a < 2 ^ 32 → add a (extended 0) ≡ a
 add_none a h = grind (arith, common_steps)
 
--- shifts, one behind another
+-- shifts, one after another
 pub right_twice : (a j k : ℕ) → shift_right (shift_right a j) k ≡ shift_right a (j + k)
 right_twice a j k = shr-shr a j k
 

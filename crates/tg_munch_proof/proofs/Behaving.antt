@@ -1,4 +1,4 @@
--- What choices do, one behind another: of the operand that is given, of what is drawn and of the contents behind the
+-- What choices do, one after another: of the operand that is given, of what is drawn and of the contents after the
 -- instructions a fact holds, or the run
 -- has stopped as the word that is given has.
 use Rattle.tg_munch_proof.specs.Places.{Place, goes, IsPart, Lands, Behaves}

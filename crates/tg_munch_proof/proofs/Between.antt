@@ -93,7 +93,7 @@ pub record Activated : Type 0 where
   pub words : AllByRecursion ElementHasWords function.body
   pub moves : AllByRecursion (MovesBelow function.temps) function.body
 
--- one choice behind another
+-- one choice after another
 pub in_two : {A B : Type 0} (first : Choice A) (next : A → Choice B) (d : NumbersDrawn) (tail : List Instr) →
     ((first >>= next) d).code ++ tail ≡
     (first d).code ++ ((next (first d).value (first d).drawn).code ++ tail)
@@ -197,7 +197,7 @@ module _ (a : Activated) where
         (k : ℕ) → k < n → (before : Option Linear) (rest : List Linear) (d : NumbersDrawn) → Left before rest d →
         GoesOn r k before rest d
 
-  -- instructions one behind another
+  -- instructions one after another
   pub in_turn : {A B : Type 0} (first : Choice A) (next : A → Choice B) (d : NumbersDrawn) (tail : List Instr) (r n : ℕ)
       (c : Run Ran) (x : World) (s : Contents) →
       Matches r n c x ((first d).code ++ ((next (first d).value (first d).drawn).code ++ tail)) s →
@@ -311,7 +311,7 @@ module _ (a : Activated) where
       (knows a.function.temps t d s le temps))
       (λ v s1 is q. next v s1 (scene.sees.words e v flat small is) is q)
 
-  -- what is known behind an element that leaves no product in hi
+  -- what is known after an element that leaves no product in hi
   pub no_product : (before : Option Linear) (m : Memory) (t : Temps) (s : Contents) →
       ((u v : Tx) → leaves_product before u v ≡ false) → HiIsThere before literals a.activation.base m t s
   no_product before m t s none u v e = absurd (no (sym (none u v) ∙ e))

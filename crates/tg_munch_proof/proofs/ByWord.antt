@@ -1,4 +1,4 @@
--- A shift by a word: its five bits one behind another, and the operand that is asked for.
+-- A shift by a word: its five bits one after another, and the operand that is asked for.
 use Rattle.tg_munch_proof.specs.Values.{extra}
 use Rattle.std.proofs.Common.{◌≡◌, ◌≤◌, ◌<◌, ℕ, ◌+◌, ◌%◌, Bool, refl, sym, ap, ◌∙◌, subst, arith}
 use Rattle.std.specs.Prelude.{◌==◌, false, true, Option, Some, None, bit_and, if◌then◌else◌}

@@ -86,7 +86,7 @@ module _ (a : Activated) (r n : ℕ) where
       (λ j l. refl)) h)))))
       part)))
 
-  -- A call, behind its arguments.
+  -- A call, after its arguments.
   module _ (fuelled : Fuelled a r n) (l : ℕ) (xs : Txs) (flat : AreFlat xs) (small : HaveWords xs)
       (few : out_of (tree.Call l xs) ≤ outs a.function.body) (d : NumbersDrawn) (tail : List Instr) (credit : ℕ)
       (w x : World) (t : Temps) (s : Contents) (alike : AlikeIn a w x) (temps : TempsAlike a.function.temps t s)

@@ -67,7 +67,7 @@ module _
         below = omega (arith, e, fits, below, holds, few);
       }
 
-  -- Whatever comes next behind the call and its instruction: the call has a unit for it.
+  -- Whatever comes next after the call and its instruction: the call has a unit for it.
   pub call_matches :
       (label : _) (vs : List ℕ) (go : TreeBack) (back : Back) (rest : List Instr) (w x : World) (s : Contents) →
       length vs - 4 ≤ outs f.body →

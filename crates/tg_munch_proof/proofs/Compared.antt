@@ -52,7 +52,7 @@ module _ (p : Place) (x : World) where
       gives k (flag b) (goes p x ((c d).code ++ rest) s) (fork p x b m rest q.0) q.2
       (record { contents = q.0; stay = q.1; is = ap (λ i. fork p x i m rest q.0) (flag_is b) })
 
-  -- behind a side
+  -- after a side
   side_then : (first : Choice Opnd) (next : Opnd → Choice (Unit {0})) (d : NumbersDrawn) (s : Contents) (k l : ℕ) (g :
       Given) (h : ℕ → Given) (m : ℕ) →
       Behaves p x first d s k g (Result p.activation d None s) →

@@ -55,7 +55,7 @@ module _ (most : ℕ) (some : 1 ≤ most) where
   module _ (count : Units) (fits : CountsAtMost most count) (code : Code (List Instr)) (size : ℕ → ℕ) (floor room : ℕ) where
     module _ (n : ℕ) (c d : CodePoint → Run Ran)
         (later : (m : ℕ) → m < n → (x y : CodePoint) → AlikeCode Within keeps m x y → Within m x.world (c x) (d y)) where
-      -- behind a unit of fuel
+      -- after a unit of fuel
       fuelled : (x y : CodePoint) → AlikeCode Within keeps n x y →
           Within n x.world (with_fuel x.world (c x)) (with_fuel y.world (d y))
       fuelled x y (alike_code f rest a back back' w s h) =

@@ -1,4 +1,4 @@
--- How the instructions of a flat expression come to what stands behind them: composing them as the value of the
+-- How the instructions of a flat expression come to what stands after them: composing them as the value of the
 -- expression is composed.
 use Rattle.tg_munch_proof.specs.Places.{Does, gives, ends, unsaid}
 use Rattle.std.proofs.Common.{◌≡◌, ◌≤◌, ℕ, ◌+◌, refl, subst, arith}
@@ -24,7 +24,7 @@ module _ (w : World) (P : ℕ → Run Ran → Type 0) where
   does_on k l c d g h (ends i b e q) = ends (k + i) c e (comes_on k i c b _ h q)
   does_on k l c d g h (unsaid i b) = unsaid (k + i) c
 
--- one expression behind another, as their values are composed and their units are spent
+-- one expression after another, as their values are composed and their units are spent
 pub does_onward : (w : World) (P Q : ℕ → Run Ran → Type 0) (k l : ℕ) (c : Run Ran) (g : Given) (f : ℕ → Given) → Does
     w P k c g →
     ((v : ℕ) (e : Run Ran) → P v e → Does w Q l e (f v)) → Does w Q (k + after_word g l) c (onward g f)
@@ -32,7 +32,7 @@ does_onward w P Q k l c g f (gives i v b e h p) next = does_on w Q i l b e (f v)
 does_onward w P Q k l c g f (ends i b e h) next = ends (i + 0) b e (comes_within i (i + 0) b _ (omega arith) h)
 does_onward w P Q k l c g f (unsaid i b) next = unsaid (i + 0) b
 
--- Behind flat code that goes on with the word or stops so, with credit for the units.
+-- After flat code that goes on with the word or stops so, with credit for the units.
 pub does_simulate : (w x : World) (P : ℕ → Run Ran → Type 0) (r n k : ℕ) (d : Run Ran) (g : Given) (go : ℕ → Run Ran)
     → w.input ≡ x.input →
     Does x P k d g → ((v : ℕ) (e : Run Ran) → P v e → Simulates 1 r n (go v) e) → Simulates 1 (r + k) n (with_given g

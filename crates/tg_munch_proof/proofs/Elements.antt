@@ -54,7 +54,7 @@ use Rattle.tg_munch_proof.proofs.Moves.{stay_same, register_same, knows, kept_sa
 use Rattle.tg_munch_proof.proofs.Statements.{Runs, move_runs, product_runs, worth_runs, store_runs, byte_runs}
 use Rattle.tg_munch_proof.proofs.Steps.{returns}
 
--- what is left behind a mark is as the body is
+-- what is left after a mark is as the body is
 module _ (temps : ℕ) where
   behind_flat : (m : ℕ) (es rest : List Linear) → flat.behind m es ≡ Some rest → IsFlatCode es → IsFlatCode rest
   behind_flat m [] rest e h = absurd (none rest e)
@@ -126,7 +126,7 @@ sides_are before _ e = absurd (no e)
     no q = cc
 
 module _ (a : Activated) (r n : ℕ) (fuelled : Fuelled a r n) where
-  -- a jump: a turn on both sides, to what stands behind the mark on either
+  -- a jump: a turn on both sides, to what stands after the mark on either
   abbrev flat_jump : ℕ → World → Temps → Run Ran
   flat_jump mark w t =
       flat.jump_to a.program.code a.program.size a.program.floor a.program.room (going a.program) a.function.body
@@ -388,7 +388,7 @@ module _ (a : Activated) (r n : ℕ) (fuelled : Fuelled a r n) where
   lets_go before (tree.Service k y) f h le rest d tail = asking_runs a r n before k y f h.0 h.1 rest d tail
   lets_go before (tree.After z y) f h le rest d tail = absurd f
 
-  -- an element, and what is left behind it
+  -- an element, and what is left after it
   step : (before : Option Linear) (e : Linear) (rest : List Linear) (d : NumbersDrawn) → Left a before (e ∷ rest) d →
       IsFlatCode rest → Runs a r n before e →
       (Left a (Some e) rest (element a.function.slots a.function.temps before e d).drawn →

@@ -34,7 +34,7 @@ use Rattle.tg_munch_proof.proofs.Operated.{operands_tile}
 use Rattle.tg_munch_proof.proofs.Results.{Target, asked, choosing, target_settable}
 use Rattle.tg_munch_proof.proofs.Tiled.{Sets, finish_sets, defined, constant_does, field_tile}
 
--- Equal values behind a word, and units.
+-- Equal values after a word, and units.
 pub onward_same : (g : Given) (f h : ℕ → Given) → ((u : ℕ) → f u ≡ h u) → onward g f ≡ onward g h
 onward_same (word v) f h e = e v
 onward_same (stops_by z) f h e = refl

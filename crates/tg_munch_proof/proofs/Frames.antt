@@ -1,4 +1,4 @@
--- Frames that are laid: a function's slots on both sides, and behind the pass words for arguments too.
+-- Frames that are laid: a function's slots on both sides, and after the pass words for arguments too.
 use Rattle.std.proofs.Common.{◌≡◌, ◌≢◌, ◌≤◌, ◌<◌, ℕ, zero, suc, ◌+◌, ◌-◌, ◌*◌, Bool, true, false, refl, sym, ap, ◌∙◌}
 use Rattle.std.proofs.Common.{subst, arith}
 use Rattle.std.proofs.lemmas.Bool.Decides.{nat_tests}
@@ -26,7 +26,7 @@ lay_other base (suc n) c m a h =
     put_other (a == slot base n) c ((lay base n c m).stack a) (not_equal a (slot base n) (h n (omega arith))) ∙
     lay_other base n c m a (λ k lt. h k (omega arith))
 
--- what is closed in flat code may be anything behind the pass
+-- what is closed in flat code may be anything after the pass
 closed_by : (b : Bool) (a i : ℕ) (c : Cell) (cells cells' : ℕ → Cell) → (i == a) ≡ b → cells a ≡ Closed →
     CellHoldsAtLeast (cells i) (cells' i) →
     CellHoldsAtLeast (cells i) (if b then c else cells' i)
@@ -61,7 +61,7 @@ low_holds low (suc n) c w x closed h =
     puts_behind (low + 4 * n) c w (low_laid low n c x) (closed n (omega arith)) (low_holds low n c w x (λ k lt.
     closed k (omega arith)) h)
 
--- a frame is laid, with its words for arguments behind the pass: they are no slots
+-- a frame is laid, with its words for arguments after the pass: they are no slots
 apart : (base size slots n k j : ℕ) → 4 * (slots + n) ≤ size → size ≤ base → k < n → j < slots → base - size + 4 * k
     ≢ slot base j
 apart base size slots n k j fits le lk lj e = omega (arith, e)

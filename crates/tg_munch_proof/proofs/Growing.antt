@@ -1,4 +1,4 @@
--- What is chosen draws temporaries one behind another: the next one is never below what it was.
+-- What is chosen draws temporaries one after another: the next one is never below what it was.
 use Rattle.std.proofs.Common.{◌≡◌, ◌≤◌, ℕ, ◌+◌, ◌*◌, ◌-◌, ◌%◌, List, [], ◌∷◌, Bool, true, false, refl, subst, arith}
 use Rattle.std.specs.Prelude.{◌==◌, ◌&&◌, not, nat_lt, Option, Some, None, if◌then◌else◌}
 use Rattle.tg_frame.specs.declared.accesses.Access.{Access}

@@ -2,7 +2,7 @@
 pub mod Arithmetic
 pub mod Fields
 pub mod Words
--- what choices do, one behind another
+-- what choices do, one after another
 pub mod Does
 pub mod Behaving
 pub mod Results

@@ -66,7 +66,7 @@ module _ (scene : Scene) where
   abbrev pub SideDoes : Tx → NumbersDrawn → Contents → Type 0
   SideDoes e d s = Sides scene e d s
 
-  -- an address: an operand with a word and so many bytes behind it
+  -- an address: an operand with a word and so many bytes after it
   pub record Located (d : NumbersDrawn) (s : Contents) (bytes : ℕ) (y : Opnd) (d1 : NumbersDrawn) (v : ℕ) (s1 : Contents) : Type 0
     where
       pub address : ℕ

@@ -1,4 +1,4 @@
--- Words at the low end of a frame, for the arguments behind the fourth of calls: closed to flat code and open to
+-- Words at the low end of a frame, for the arguments after the fourth of calls: closed to flat code and open to
 -- instructions, and the store of one.
 use Rattle.std.proofs.Common.{◌≡◌, ◌≢◌, ◌≤◌, ◌<◌, ℕ, ◌+◌, ◌-◌, ◌*◌, ◌%◌, ◌^◌, List, [], ◌∷◌, ◌++◌, length, Bool}
 use Rattle.std.proofs.Common.{true, false, refl, ap, ◌∙◌, arith}
@@ -44,7 +44,7 @@ module _ (a : Activated) where
   abbrev pub low : ℕ
   low = a.activation.base - a.activation.size
 
-  -- where an argument behind the fourth stands there
+  -- where an argument after the fourth stands there
   abbrev pub out_word : ℕ → ℕ
   out_word i = low + 4 * (i - 4)
 

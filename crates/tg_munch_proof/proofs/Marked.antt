@@ -1,4 +1,4 @@
--- Where a mark of flat code stands among the instructions, with what is chosen for the elements behind it.
+-- Where a mark of flat code stands among the instructions, with what is chosen for the elements after it.
 use Rattle.std.proofs.Common.{◌≡◌, ◌≤◌, ℕ, List, [], ◌∷◌, ◌++◌, append_assoc, Bool, true, false, refl, sym, ap, ◌∙◌, subst}
 use Rattle.std.proofs.Common.{arith}
 use Rattle.std.proofs.lemmas.Bool.Decides.{nat_tests}
@@ -23,7 +23,7 @@ none_is : {X : Type 0} (x : X) → None ≡ Some x → ⊥
 none_is x e = cc
 
 module _ (slots keeps : ℕ) where
-  -- the instructions of elements, with a mark and what is behind it
+  -- the instructions of elements, with a mark and what is after it
   pub record Found (m : ℕ) (before : Option Linear) (es rest : List Linear) (d : NumbersDrawn) : Type 0 where
     pub drawn : NumbersDrawn
     pub front : List Instr
@@ -73,7 +73,7 @@ module _ (slots keeps : ℕ) where
       (tree.Mark k)) es rest _ g)
   found m before (e ∷ es) rest d h = further m before e es rest d (found m (Some e) es rest _ h)
 
--- in code whose marks differ what is behind a mark is what stands behind it
+-- in code whose marks differ what is after a mark is what stands after it
 none_before : (m : ℕ) (front rest : List Instr) → list_any (is_mark m) (front ++ (Mark m ∷ rest)) ≡ true
 none_before m [] rest = ap (λ (b : Bool). b || list_any (is_mark m) rest) (itself m)
   where

@@ -1,4 +1,4 @@
--- What is known between two elements: temporaries that are set and registers that are kept, behind what writes no
+-- What is known between two elements: temporaries that are set and registers that are kept, after what writes no
 -- temporary of the body, or one.
 use Rattle.std.proofs.Common.{◌≡◌, ◌≤◌, ◌<◌, ℕ, ◌+◌, List, [], ◌∷◌, length, Bool, refl, sym, ap, ◌∙◌, subst, arith}
 use Rattle.std.proofs.lemmas.Bool.Decides.{nat_tests}

@@ -56,7 +56,7 @@ module _ (temps : ℕ) where
   side_words (tree.LoadByte x) after f h = flat_words (tree.LoadByte x) after f h
   side_words (tree.After s x) after f h = absurd f
 
-  -- an element: what it has, and what is named behind it
+  -- an element: what it has, and what is named after it
   abbrev Element : Linear → List Named → Type 0
   Element e after = (ElementHasWords e × MovesBelow temps e) × AreAllowed after
 

@@ -111,7 +111,7 @@ module _ (p : Place) (x : World) where
   operated_does bin.ShiftRight y to a b d s u v n t wu wv ha hb = absurd (no n)
   operated_does bin.ShiftSigned y to a b d s u v n t wu wv ha hb = absurd (no n)
 
-  -- what an operator leaves besides its word, behind two sides whose words are there
+  -- what an operator leaves besides its word, after two sides whose words are there
   abbrev pub Behind : Given → Given → (ℕ → ℕ → Contents → Type 0) → Contents → Type 0
   Behind g h More s = (u : ℕ) × ((v : ℕ) × ((g ≡ word u) × (h ≡ word v) × More u v s))
 

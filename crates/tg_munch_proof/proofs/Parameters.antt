@@ -1,4 +1,4 @@
--- The parameters of a function, given one behind another to their homes: from $a0 to $a3, and from the words above the
+-- The parameters of a function, given one after another to their homes: from $a0 to $a3, and from the words above the
 -- frame address.
 use Rattle.std.proofs.Common.{◌≡◌, ◌≢◌, ◌≤◌, ◌<◌, ℕ, ◌+◌, ◌-◌, ◌*◌, ◌%◌, ◌^◌, List, [], ◌∷◌, ◌++◌, length}
 use Rattle.std.proofs.Common.{Bool, true, false, refl, ap, ◌∙◌, arith}
@@ -63,7 +63,7 @@ module _ (a : Activated) (n : ℕ) where
     pub passed : ArePassed base s x.memory i vs
     pub fits : base + 4 * ((i + length vs) - 4) ≤ stack_top
 
-  -- and behind all of them
+  -- and after all of them
   pub record Placed (w x : World) (t : Temps) (s : Contents) : Type 0 where
     pub alike : AlikeIn a w x
     pub temps : TempsAlike a.function.temps t s
@@ -167,7 +167,7 @@ module _ (a : Activated) (n : ℕ) where
       ap (λ (b : Bool). if b then Word 0 else if k == 29 then Word (base - a.activation.size) else s (Operand (Reg k))) e ∙
       ap (λ (b : Bool). if b then Word (base - a.activation.size) else s (Operand (Reg k))) h
 
-  -- What comes next behind the parameters.
+  -- What comes next after the parameters.
   abbrev pub Next : (credit : ℕ) → Run Ran → List Instr → World → Temps → Type 0
   Next credit c tail w1 t1 =
       (x1 : World) (s1 : Contents) → Placed w1 x1 t1 s1 → Matches a credit n c x1 tail s1

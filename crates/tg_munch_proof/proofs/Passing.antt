@@ -1,4 +1,4 @@
--- The arguments of a call, given one behind another to $a0 to $a3 and to the low words of the frame.
+-- The arguments of a call, given one after another to $a0 to $a3 and to the low words of the frame.
 use Rattle.std.proofs.Common.{◌≡◌, ◌≢◌, ◌≤◌, ◌<◌, ℕ, suc, ◌+◌, ◌-◌, ◌*◌, List, [], ◌∷◌, ◌++◌, Bool}
 use Rattle.std.proofs.Common.{true, false, refl, sym, ap, ◌∙◌, subst, arith}
 use Rattle.std.proofs.lemmas.Bool.Decides.{nat_tests}
@@ -110,7 +110,7 @@ module _ (a : Activated) where
         other_words = λ k le e. refl;
       }
 
-      -- an argument, behind the ones before it
+      -- an argument, after the ones before it
       abbrev Step : ℕ → ℕ → ℕ → Contents → Contents → World → World → Type 0
       Step i m v s s1 x x1 =
           (SameTemps m s s1) ×

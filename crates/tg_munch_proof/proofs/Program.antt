@@ -1,4 +1,4 @@
--- Whole programs: their first activation, behind which nothing is.
+-- Whole programs: their first activation, after which nothing is.
 use Rattle.std.proofs.Common.{◌≡◌, ◌≤◌, ℕ, ◌+◌, List, [], ◌∷◌, map, Bool, true, false, refl, sym, subst, arith, pos}
 use Rattle.std.specs.Prelude.{◌==◌, nat_lt, Option, Some, if◌then◌else◌}
 use Rattle.std.specs.List.{AllByRecursion}

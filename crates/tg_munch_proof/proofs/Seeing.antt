@@ -18,7 +18,7 @@ use Rattle.tg_instr.specs.Codes.{marks_differ}
 use Rattle.tg_instr.specs.Running.{behind}
 use Rattle.tg_instr.proofs.CodeRuns.{code_steps}
 
--- an address behind a region
+-- an address after a region
 past : (a base size : ℕ) → base + size ≤ a → offset a base size ≡ None
 past a base size h = by (nat_le base a) (nat_lt a (base + size)) not_below
   where

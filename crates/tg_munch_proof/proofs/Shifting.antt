@@ -1,4 +1,4 @@
--- A shift by a word: a shift behind a branch, for each of the five lower bits.
+-- A shift by a word: a shift after a branch, for each of the five lower bits.
 use Rattle.tg_munch_proof.specs.Places.{Walks}
 use Rattle.std.proofs.Common.{◌≡◌, ◌≤◌, ◌<◌, ℕ, zero, suc, ◌+◌, ◌-◌, ◌*◌, ◌/◌, ◌%◌, ◌^◌, List, [], ◌∷◌, Bool, refl}
 use Rattle.std.proofs.Common.{sym, ap, ◌∙◌, arith}
@@ -132,7 +132,7 @@ module _ (p : Place) (x : World) (walks : Walks p) where
         contents = s;
       }) i
 
-  -- One bit: whichever way the branch goes, at most four instructions and a turn come to what stands behind the mark.
+  -- One bit: whichever way the branch goes, at most four instructions and a turn come to what stands after the mark.
   abbrev one_shift : Bin → (i j n m : ℕ) → Opnd → List Instr → List Instr
   one_shift op i j n m y rest = instr.Andi (temp i) y n ∷ if_equal (temp i) nothing m ∷ shift_by op (temp j) n ∷
       instr.Mark m ∷ rest
@@ -186,7 +186,7 @@ module _ (p : Place) (x : World) (walks : Walks p) where
       four : (q : Ran) → works 1 (works 1 (works 1 (works 1 q))) ≡ works 4 q
       four q = ap (works 1) (ap (works 1) (works_add 1 1 q) ∙ works_add 1 2 q) ∙ works_add 1 3 q
 
-  -- what is known behind a bit: the word so far, and what stays
+  -- what is known after a bit: the word so far, and what stays
   pub record Partly (j : ℕ) (d : NumbersDrawn) (s : Contents) (r : ℕ) (d1 : NumbersDrawn) (s1 : Contents) : Type 0 where
     pub holds : s1 (Operand (temp j)) ≡ Word r
     pub stay : Stay d.temp (Some (temp j)) s s1

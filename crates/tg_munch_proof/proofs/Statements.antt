@@ -66,7 +66,7 @@ some_is i j e = cc
 same_word : (i j : ℕ) → word i ≡ word j → i ≡ j
 same_word i j e = cc
 
--- sides that are the same behind a move give the same word
+-- sides that are the same after a move give the same word
 same_value : (i v : ℕ) (ls : List Literal) (base : ℕ) (m : Memory) (t : Temps) (x u : Tx) → is_same i x u ≡ true →
     flat_value ls base m (set_temp i v t) u ≡ flat_value ls base m t x
 same_value i v ls base m t (tree.Const n) (tree.Const k) e = ap word (sym (eqb-true n k e))
@@ -98,7 +98,7 @@ module _ (a : Activated) (r n : ℕ) where
       Matches a r n (flat_goes a (e ∷ rest) w t) x
       ((element a.function.slots a.function.temps before e d).code ++ tail) s
 
-  -- what is known behind a move
+  -- what is known after a move
   pub moved : (i v : ℕ) (e : Tx) (before : Option Linear) (d : NumbersDrawn) (w x w1 x1 : World) (t : Temps) (s s1 : Contents) →
       i < a.function.temps → a.function.temps + kept_count ≤ d.temp → IsWord v → SameTempsBut i d.temp s s1 →
       s1 (Operand (temp i)) ≡ Word v → AlikeIn a w1 x1 →
@@ -126,7 +126,7 @@ module _ (a : Activated) (r n : ℕ) where
       (no_product a (Some (tree.Do' (tree.Move i e))) w.memory (set_temp i v t) s1 none) h)))
       part))
 
-  -- a product's upper word is that of the same sides behind the move
+  -- a product's upper word is that of the same sides after the move
   upper_is : (i v : ℕ) (y z : Tx) (w : World) (t : Temps) (s1 : Contents) → Upper (worth a w t y) (worth a w t z) s1 →
       HiIsThere (Some (tree.Do' (tree.Move i (tree.Binary bin.Mul y z)))) (literals a) a.activation.base w.memory
       (set_temp i v t) s1

@@ -28,7 +28,7 @@ module _ (p : Place) where
   copies i x r rest w s n e =
       ap (λ c. works 1 (with_content c w (λ d. goes p w rest (set (Operand (temp i)) d s)) n)) e
 
-  -- What is found at the entry goes into temporaries, one behind another.
+  -- What is found at the entry goes into temporaries, one after another.
   abbrev pub AreHeld : List ℕ → Contents → Type 0
   AreHeld [] s = Unit {0}
   AreHeld (r ∷ rs) s = (held p.activation s (Operand (Reg r)) ≡ Found r) × AreHeld rs s
@@ -113,7 +113,7 @@ module _ (p : Place) where
       one_more : (k : ℕ) → 1 + k ≡ suc k
       one_more k = omega arith
 
-  -- A return behind them is one: what is found is what was, by computing.
+  -- A return after them is one: what is found is what was, by computing.
   pub returns : (t : ℕ) (d : NumbersDrawn) (rest : List Instr) (w : World) (s : Contents) (n : ℕ) → AreKept t kept_registers s →
       goes p w ((given_back t kept_registers d).code ++ Return ∷ rest) s n ≡ works 10 (p.back (handed (s (Operand (Reg
       2)))) w n)

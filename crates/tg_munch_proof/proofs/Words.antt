@@ -14,7 +14,7 @@ use Rattle.tg_tree.specs.Holding.{CellHoldsAtLeast, WorldHoldsAtLeast, in_stack}
 use Rattle.tg_tree.proofs.OperatorWords.{operate_word}
 use Rattle.tg_munch_proof.specs.Words.{IsWord, HasWords}
 
--- what is loaded before the pass is loaded behind it
+-- what is loaded before the pass is loaded after it
 cell_seen : (c d : Cell) (v : ℕ) → CellHoldsAtLeast c d → cell_word c ≡ Some v → cell_word d ≡ Some v
 cell_seen c d v (holding.elsewhere e) h = absurd (none h)
   where
@@ -93,7 +93,7 @@ was_there None v e = absurd (stopped e)
     stopped : or_wrong None ≡ word v → ⊥
     stopped e = cc
 
--- a word behind another
+-- a word after another
 behind_word : (g : Given) (f : ℕ → Given) (v : ℕ) → onward g f ≡ word v → (u : ℕ) × (g ≡ word u) × (f u ≡ word v)
 behind_word (word u) f v e = (u, refl, e)
 behind_word (stops_by z) f v e = absurd (stopped e)

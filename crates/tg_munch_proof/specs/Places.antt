@@ -39,7 +39,7 @@ goes p x rest s =
 abbrev pub IsPart : Place → List Instr → Type 0
 IsPart p rest = (front : List Instr) × (p.function.body ≡ front ++ rest)
 
--- what is known of the function's code: behind each of its marks stands what stands there, and its
+-- what is known of the function's code: after each of its marks stands what stands there, and its
 -- runs are their own steps
 pub record Walks (p : Place) : Type 0 where
   pub marked :
@@ -51,7 +51,7 @@ pub record Walks (p : Place) : Type 0 where
       code_step each_one p.code p.size p.floor p.room
       (code_going each_one p.code p.size p.floor p.room) q n
 
--- A run comes, behind at most k units, to one of which this holds with the word that is given, or
+-- A run comes, after at most k units, to one of which this holds with the word that is given, or
 -- to the end that is; where what is given goes wrong nothing is said.
 pub data Does (w : World) (P : ℕ → Run Ran → Type 0) :
     (k : ℕ) → (c : Run Ran) → Given → Type 0 where

@@ -58,7 +58,7 @@ AreKept keeps [] s = Unit {0}
 AreKept keeps (r ∷ rs) s =
     (s (Operand (temp keeps)) ≡ Found r) × AreKept (keeps + 1) rs s
 
--- behind a product of two sides its upper word is there, in hi
+-- after a product of two sides its upper word is there, in hi
 abbrev pub HiIsThere :
     (before : Option Linear) → List Literal → (base : ℕ) → Memory → Temps → Contents → Type 0
 HiIsThere before ls base m t s =

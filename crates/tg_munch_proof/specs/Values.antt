@@ -55,7 +55,7 @@ abbrev pub IsThereAs : Option Opnd → ℕ → Opnd → Type 0
 IsThereAs None n y = IsOld n y
 IsThereAs (Some to) n y = y ≡ to
 
--- an operand with a word, behind what may be drawn and written for it
+-- an operand with a word, after what may be drawn and written for it
 pub record Result
     (act : Activation) (d : NumbersDrawn) (dest : Option Opnd) (s : Contents)
     (y : Opnd) (d1 : NumbersDrawn) (v : ℕ) (s1 : Contents) : Type 0 where

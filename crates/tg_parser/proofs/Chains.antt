@@ -1,4 +1,4 @@
--- What taking the first token gives, and how programs go on behind what was taken.
+-- What taking the first token gives, and how programs go on after what was taken.
 use Rattle.std.specs.Prelude.{IsTrue, ◌↔◌, Result, Ok, Err, IsErr}
 use Rattle.std.specs.Result.{IsErrAnd}
 use Rattle.std.proofs.Common.{Bool, true, false, length, arith, ◌≡◌, List, [], ◌∷◌, refl, sym, subst}
@@ -41,7 +41,7 @@ pub name_none : (ts : List Spanned) → length ts ≡ 0 → Refuses More OneName
 name_none [] e = wants (name_out OneName)
 name_none (t ∷ ts) e = absurd (omega arith)
 
--- behind a mark that was taken
+-- after a mark that was taken
 pub want_on : (j : Job) {m : Mark} {f : Span → Steps (Of j)} {s : Span} {ts rest : List Spanned} {r : Answer (Of j)} →
     Does OneSpan (want m (λ s. give s)) ts (Got s rest) → Does j (f s) rest r → Does j (want m f) ts r
 want_on j (want_got _ h (give_got _)) d = want_got j h d
@@ -60,7 +60,7 @@ want_stops j (wants (want_got _ _ d)) = elim d [ ]
 want_stops j (wants (want_out _)) = wants (want_out j)
 want_stops j (no_memory _) = no_memory j
 
--- behind a name that was taken
+-- after a name that was taken
 pub name_on : (j : Job) {f : Ident → Steps (Of j)} {x : Ident} {ts rest : List Spanned} {r : Answer (Of j)} →
     Does OneName (name (λ x. give x)) ts (Got x rest) → Does j (f x) rest r → Does j (name f) ts r
 name_on j (name_got _ h (give_got _)) d = name_got j h d
@@ -78,7 +78,7 @@ name_stops j (wants (name_got _ _ d)) = elim d [ ]
 name_stops j (wants (name_out _)) = wants (name_out j)
 name_stops j (no_memory _) = no_memory j
 
--- behind a job that was done
+-- after a job that was done
 pub call_then : (j i : Job) {f : Of i → Steps (Of j)} {x : Of i} {ts rest : List Spanned} {e : Stop} →
     Does i (job i) ts (Got x rest) → Refuses e j (f x) rest → Refuses e j (call i f) ts
 call_then j i d (refuses one h) = refuses one (call_got j i d h)

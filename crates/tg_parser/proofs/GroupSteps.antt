@@ -1,4 +1,4 @@
--- The plain list of declarations with one more behind them.
+-- The plain list of declarations with one more after them.
 use Rattle.std.proofs.Common.{◌≡◌, Vec, Global, List, [], ◌∷◌, ◌++◌, Option, map, append_assoc, refl, sym, ap, ◌∙◌}
 use Rattle.tg_syntax.specs.declared.tokens.Ident.{Ident}
 use Rattle.tg_syntax.specs.declared.trees.Exp.{Exp}
@@ -12,7 +12,7 @@ use Rattle.tg_syntax.specs.Plain.{plain, plain_type, plain_dec}
 use Rattle.tg_syntax.specs.Lists.{decs_of, functions_of}
 use Rattle.tg_syntax.proofs.ListLaws.{plain_functions-items, plain_functions-made}
 
--- one more goes behind what follows
+-- one more goes after what follows
 behind_first : (x y : Dec) (rest : Decs) (d : PlainDec) → snoc_dec (plain_dec x (plain_dec y rest)) d ≡ plain_dec x (snoc_dec (plain_dec y rest) d)
 behind_first (Variable' n t s e) y rest d = refl
 behind_first (Types ts) (Types us) rest d = refl
@@ -22,7 +22,7 @@ behind_first (Functions fs) (Types us) rest d = refl
 behind_first (Functions fs) (Variable' n t s e) rest d = refl
 behind_first (Functions fs) (Functions gs) rest d = refl
 
--- what stands for the last group and one more does so behind others too
+-- what stands for the last group and one more does so after others too
 pub behind_others : (front : List Dec) (last : Dec) (new : List Dec) (d : PlainDec) → decs_of new ≡ snoc_dec (decs_of (last ∷ [])) d →
     decs_of (front ++ new) ≡ snoc_dec (decs_of (front ++ last ∷ [])) d
 behind_others [] last new d h = h

@@ -1,4 +1,4 @@
--- Operands, expressions, fields' values and declarations behind others, one after another.
+-- Operands, expressions, fields' values and declarations that follow others, one after another.
 use Rattle.std.proofs.Common.{◌≡◌, List, [], ◌∷◌, ◌++◌, refl, ap, subst, ◌∙◌}
 use Rattle.tg_base.specs.declared.ids.Span.{Span}
 use Rattle.tg_syntax.specs.declared.tokens.Ident.{Ident}
@@ -46,7 +46,7 @@ inits_none {s = s} h =
     let pair : List CodeInit → Inits × Span = λ is. (inits_of is, s) in
     ap pair h
 
--- reading on behind this left operand is reading on behind the first one
+-- reading on after this left operand is reading on after the first one
 pub record OperatorsOn (k : Level) (first : Exp) (tokens : List Spanned) (l : Exp) (rest : List Spanned) : Type 0 where
   pub reaches : (r : Answer Exp) → Does (After k l) (operators k l) rest r → Does (After k first) (operators k first) tokens r
 
@@ -71,7 +71,7 @@ operators_stops h (refuses {after = after} one d) = refuses one (h.reaches (Bad 
 operators_stops h (wants d) = wants (h.reaches Out d)
 operators_stops h (no_memory _) = no_memory (After _ _)
 
--- reading on behind these expressions is reading on behind the first ones
+-- reading on after these expressions is reading on after the first ones
 pub record ItemsOn (m : Sign) (first : Exps) (tokens : List Spanned) (es : Exps) (rest : List Spanned) : Type 0 where
   pub reaches : (r : Answer Exps) → Does (Items m es) (items m es) rest r → Does (Items m first) (items m first) tokens r
 

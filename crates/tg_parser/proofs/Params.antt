@@ -1,4 +1,4 @@
--- Parameters behind others, one after another.
+-- Parameters that follow others, one after another.
 use Rattle.std.specs.Prelude.{IsTrue, ◌↔◌}
 use Rattle.std.proofs.Common.{Bool, true, ◌≡◌, List, [], ◌∷◌, ◌++◌, subst}
 use Rattle.tg_syntax.specs.declared.tokens.Sign.TheVariants.{Comma}
@@ -11,7 +11,7 @@ use Rattle.tg_parser.specs.declared.faults.Stop.{Stop}
 use Rattle.tg_parser.specs.Given.{Refuses, refuses, wants, no_memory}
 use Rattle.tg_parser.proofs.Chains.{split_on}
 
--- reading on behind these parameters is reading on behind the first ones
+-- reading on after these parameters is reading on after the first ones
 pub record Onward (first : List Param) (tokens : List Spanned) (params : List Param) (rest : List Spanned) : Type 0 where
   pub reaches : (r : Answer (List Param)) → Does (MoreParams params) (more_params params) rest r → Does (MoreParams first) (more_params first) tokens r
 

@@ -1,4 +1,4 @@
--- The programs that go on behind what the code found at the front.
+-- The programs that go on after what the code found at the front.
 use Rattle.std.specs.Prelude.{List, Result, Ok, Err, Option, Some, None}
 use Rattle.tg_syntax.specs.declared.tokens.Spanned.{Spanned}
 use Rattle.tg_syntax.specs.declared.trees.Exp.{Exp as CodeExp}
@@ -48,7 +48,7 @@ one_of OneType j f = call TypeDec f
 one_of OneVariable j f = call VarDec f
 one_of OneFunction j f = call FunDec f
 
--- what a result says of the programs that go on behind a declaration's first word, and otherwise
+-- what a result says of the programs that go on after a declaration's first word, and otherwise
 -- have read all
 abbrev pub Declares :
     {X : Type 0} →

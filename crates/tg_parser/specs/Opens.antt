@@ -44,7 +44,7 @@ BeginsTwo {A =
     A} {B = B} one other rest (Err e) s ts = (j : Job) (f : A → B →
     Steps (Of j)) → Refuses e j (s j f) ts
 
--- of the programs that go on behind a mark, where it stands, and otherwise without it
+-- of the programs that go on after a mark, where it stands, and otherwise without it
 abbrev pub Skips :
     {X : Type 0} →
     (X → Span) → (X → List Spanned) → Result (Option X) Stop → Mark → List Spanned →
@@ -57,7 +57,7 @@ Skips value rest (Ok None) m ts =
 Skips value rest (Err e) m ts =
     (j : Job) (f : Span → Steps (Of j)) (z : Steps (Of j)) → Refuses e j (split m f z) ts
 
--- of those that go on behind an operator, unless a tail ends the left operand
+-- of those that go on after an operator, unless a tail ends the left operand
 abbrev pub Operates :
     {X : Type 0} →
     (X → Op) → (X → ℕ) → (X → List Spanned) → Result (Option X) Stop → Level → Exp → List Spanned →
@@ -72,7 +72,7 @@ Operates op at rest (Err e) k l ts =
     (j : Job) (f : Op → ℕ → Steps (Of j)) (z : Steps (Of j)) →
     Refuses e j (test (ends_tail l) z (oper k f z)) ts
 
--- of those that go on behind `else`, where it belongs to the `if` of an expression
+-- of those that go on after `else`, where it belongs to the `if` of an expression
 abbrev pub Elses : Result Bool Stop → Exp → List Spanned → Type 0
 Elses (Ok true) x ts =
     (j : Job) (f : Span → Steps (Of j)) (z : Steps (Of j)) →

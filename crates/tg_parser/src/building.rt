@@ -47,7 +47,7 @@ fn up_to(first: Span, last: &Exp) -> Span
     join(first, span_of(last))
 }
 
-/// An expression behind a minus sign, which spans from the sign on, as the others here span from
+/// An expression after a minus sign, which spans from the sign on, as the others here span from
 /// their first token to the end of their last expression.
 pub(crate) fn build_negation(alloc: Global, first: Span, a: Exp) -> Result<Exp, Memory>
     ensures { IfOk result

@@ -18,7 +18,7 @@ pub(crate) fn ends_tail(e: &Exp) -> bool
     }
 }
 
-/// Whether an `if` without `else` stands at the right end, so that an `else` behind it is its own.
+/// Whether an `if` without `else` stands at the right end, so that an `else` after it is its own.
 pub(crate) fn is_short(e: &Exp) -> bool
     ensures { result ≡ has_short (plain e.now) }
 {

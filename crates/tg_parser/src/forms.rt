@@ -90,7 +90,7 @@ fn one_form(alloc: Global, tokens: &[Spanned]) -> Reading<Form>
     Ok((Form::Alias(name), rest))
 }
 
-/// The type that may stand behind a name.
+/// The type that may stand after a name.
 pub fn annotation(tokens: &[Spanned]) -> Reading<Option<Ident>>
     ensures given { AnswersJob Annotation (λ x. x.0) (λ x. x.1.now) result annotation tokens.now }
     ensures shorter { IfOk result (λ x. length x.1.now ≤ length tokens.now) }

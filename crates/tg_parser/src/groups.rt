@@ -7,7 +7,7 @@ use std::alloc::Global;
 use tg_base::{ListOf, Memory};
 use tg_syntax::{Dec, Exp, FunDec, FunDecs, Ident, TypeDec};
 
-/// A type behind other declarations: in the last group, where that is one of types.
+/// A type after other declarations: in the last group, where that is one of types.
 pub(crate) fn push_type(alloc: Global, decs: &mut Vec<Dec>, dec: TypeDec) -> Result<(), Memory>
     ensures { OnOk result (decs_of decs.new.items
         ≡ snoc_dec (decs_of decs.old.items) (one_type (plain_type dec))) }
@@ -48,7 +48,7 @@ fn type_alone(alloc: Global, dec: TypeDec) -> Result<Dec, Memory>
     Ok(Dec::Types(ListOf::from_vec(group)))
 }
 
-/// A variable behind other declarations.
+/// A variable after other declarations.
 pub(crate) fn push_variable(
     decs: &mut Vec<Dec>,
     name: Ident,
@@ -62,7 +62,7 @@ pub(crate) fn push_variable(
     Ok(())
 }
 
-/// A function behind other declarations: in the last group, where that is one of functions.
+/// A function after other declarations: in the last group, where that is one of functions.
 pub(crate) fn push_function(alloc: Global, decs: &mut Vec<Dec>, dec: FunDec) -> Result<(), Memory>
     ensures { OnOk result (decs_of decs.new.items
         ≡ snoc_dec (decs_of decs.old.items)

@@ -89,7 +89,7 @@ pub(crate) fn target_of(e: Exp) -> Target
     }
 }
 
-/// The span of a mark, where it stands at the front, and the tokens behind it.
+/// The span of a mark, where it stands at the front, and the tokens after it.
 pub(crate) fn skip(mark: Mark, tokens: &[Spanned]) -> Result<Option<(Span, &[Spanned])>, Stop>
     ensures given { Skips (λ x. x.0) (λ x. x.1.now) result mark tokens.now }
     ensures shorter { IfOk result (λ o. IfSome o (λ x. length x.1.now < length tokens.now)) }
@@ -109,7 +109,7 @@ pub(crate) struct Operator {
     pub(crate) at: u32,
 }
 
-/// The operator of a rank that stands behind a left operand, and the tokens behind it.
+/// The operator of a rank that stands after a left operand, and the tokens after it.
 pub(crate) fn operator_behind<'a>(
     left: &Exp,
     rank: Rank,
@@ -132,7 +132,7 @@ pub(crate) fn operator_behind<'a>(
     }
 }
 
-/// Whether what stands behind an expression that binds more tightly than the operators is no
+/// Whether what stands after an expression that binds more tightly than the operators is no
 /// operator of a rank, nor of one that binds more tightly, so that the expression is whole at that
 /// rank.
 pub(crate) fn is_over(left: &Exp, rank: Rank, tokens: &[Spanned]) -> bool
@@ -225,7 +225,7 @@ pub(crate) enum DeclarationKind {
     OneFunction,
 }
 
-/// The declaration that begins here, and the tokens behind its first word.
+/// The declaration that begins here, and the tokens after its first word.
 pub(crate) fn declared_next(
     tokens: &[Spanned],
 ) -> Result<Option<(DeclarationKind, &[Spanned])>, Stop>

@@ -397,7 +397,7 @@ fn suffixes(
     Ok((span, place, tokens))
 }
 
-/// A mark and the expression behind it.
+/// A mark and the expression after it.
 #[cycle(descent)]
 fn clause(alloc: Global, mark: Mark, tokens: &[Spanned]) -> Result<(Span, Exp, &[Spanned]), Stop>
     ensures given { BeginsTwo (λ x. x.0) (λ x. plain x.1) (λ x. x.2.now) result
@@ -409,7 +409,7 @@ fn clause(alloc: Global, mark: Mark, tokens: &[Spanned]) -> Result<(Span, Exp, &
     Ok((span, e, rest))
 }
 
-/// A mark and the expression behind it, in a box.
+/// A mark and the expression after it, in a box.
 #[cycle(descent)]
 fn boxed_clause(
     alloc: Global,
@@ -536,7 +536,7 @@ fn declarations(alloc: Global, tokens: &[Spanned]) -> Reading<Vec<Dec>>
     }
 }
 
-/// One more declaration, behind its first word.
+/// One more declaration, after its first word.
 #[cycle(descent)]
 fn one_more(
     alloc: Global,

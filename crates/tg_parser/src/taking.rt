@@ -8,7 +8,7 @@ use tg_base::Span;
 use tg_syntax::{Ident, Spanned, Token};
 use tg_syntax_laws::Mark;
 
-/// What was read, and the tokens behind it.
+/// What was read, and the tokens after it.
 pub(crate) type Reading<'a, T> = Result<(T, &'a [Spanned]), Stop>;
 
 /// Whether a token is a mark.
@@ -23,7 +23,7 @@ pub(crate) fn is(mark: Mark, token: &Spanned) -> bool
     }
 }
 
-/// The first token, and those behind it.
+/// The first token, and those after it.
 pub(crate) fn next(tokens: &[Spanned]) -> Result<(&Spanned, &[Spanned]), Stop>
     ensures first { MatchResult result
         (λ x. tokens.now ≡ x.0.now ∷ x.1.now)

@@ -1,4 +1,4 @@
--- What stands, behind rounds, for an instruction that was handed in: its block.
+-- What stands, after rounds, for an instruction that was handed in: its block.
 use Rattle.std.proofs.Common.{ℕ, ◌≡◌, ◌≤◌, ◌<◌, ◌+◌, List, [], ◌∷◌, ◌++◌, Bool, cond, Option, Some, None, length, ◌⊎◌}
 use Rattle.std.specs.Prelude.{IsTrue, IsFalse, nat_lt, flat_map}
 use Rattle.std.specs.List.{AllByRecursion}
@@ -120,7 +120,7 @@ pub record IsSlotting (n : ℕ) (k : Known) (slot_of : ℕ → Option ℕ) : Typ
   pub closed : (m : ℕ) → IsClosed n k m → slot_of m ≡ None
   pub beside : (m : ℕ) (a : Opnd) → IsOpen n k m a → (slot_of m ≡ None) ⊎ (slot_of m ≡ slot_at slot_of a)
 
--- Which temporaries have partners behind a round.
+-- Which temporaries have partners after a round.
 
 abbrev pub unless_slotted : (slot : Option ℕ) → Opnd → Option Opnd
 unless_slotted None a = Some a

@@ -24,7 +24,7 @@ use Rattle.tg_regalloc.proofs.Blocks.IsFit.{outer, closed}
 use Rattle.tg_regalloc.proofs.Blocks.IsBlock.{straight, whole, loaded, stored, final}
 use Rattle.tg_regalloc.proofs.Blocks.AreBlocks.{none, also}
 
--- a block behind a round, and the temporaries that it may still draw
+-- a block after a round, and the temporaries that it may still draw
 pub record Goes (n : ℕ) (k : Known) (one : Instr) (block : List Instr) (next end left : ℕ) : Type 0 where
   pub still : ℕ
   pub is_block : IsBlock n k one block still

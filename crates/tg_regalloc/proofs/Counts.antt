@@ -70,7 +70,7 @@ moved_words base (Temp t) (Reg q) = lit≤ tt
 moved_words base (Reg r) (Temp s) = lit≤ tt
 moved_words base (Reg r) (Reg q) = lit≤ tt
 
--- with so many words of the instruction, and at most so many before and behind it
+-- with so many words of the instruction, and at most so many before and after it
 sum_words : (base : ℕ) (one : Instr) (x y z : Opnd) (a b c n : ℕ) → words (loaded base 8 (named one).first) ≤ a →
     words (loaded base 9 (named one).second) ≤ b → words (stored base 8 (named one).to) ≤ c → words_of (renamed one x y z) ≤ n →
     words (loaded base 8 (named one).first ++ (loaded base 9 (named one).second ++ (renamed one x y z ∷ stored base 8 (named one).to))) ≤ a + b + c + n

@@ -1,4 +1,4 @@
--- How much of a code comes of each instruction: the blocks of the first code, those behind each
+-- How much of a code comes of each instruction: the blocks of the first code, those after each
 -- round, and what painting leaves of the last.
 use Rattle.std.proofs.Common.{lit≤}
 use Rattle.std.proofs.Common.{ℕ, suc, ◌≡◌, ◌≤◌, ◌<◌, ◌+◌, ◌*◌, List, [], ◌∷◌, ◌++◌, Bool, true, false, cond, Option, Some, None, length, refl, ap}
@@ -133,7 +133,7 @@ code_of_singles : (list : List Instr) → code_of (map (λ one. one ∷ []) list
 code_of_singles [] = refl
 code_of_singles (one ∷ rest) = ap (λ l. one ∷ l) (code_of_singles rest)
 
--- Partners behind a round.
+-- Partners after a round.
 
 module _ (n : ℕ) (slot_of : ℕ → Option ℕ) where
   abbrev partner_after : List Instr → (next : ℕ) → (ℕ → Option Opnd) → ℕ → Option Opnd
@@ -271,7 +271,7 @@ module _ (colour : ℕ → ℕ) where
 
 -- All rounds.
 
--- behind a round the blocks are the next code
+-- after a round the blocks are the next code
 code_of_rewritten : (slot_of : ℕ → Option ℕ) (blocks : List (List Instr)) (next : ℕ) →
     code_of (blocks_rewritten slot_of blocks next) ≡ code_rewritten slot_of (code_of blocks) next
 code_of_rewritten slot_of [] next = refl
@@ -279,7 +279,7 @@ code_of_rewritten slot_of (block ∷ blocks) next =
     ap (λ l. code_rewritten slot_of block next ++ l) (code_of_rewritten slot_of blocks (temps_after slot_of block next)) ∙
     sym (code_append slot_of block (code_of blocks) next)
 
--- the blocks behind the rounds
+-- the blocks after the rounds
 record Grown (n : ℕ) (originals : List Instr) (s t : BetweenRounds) (rounds : List Round) (blocks : List (List Instr)) (left : ℕ) : Type 0 where
   small : AreSmall originals (blocks_behind n s rounds blocks)
   whole : code_of (blocks_behind n s rounds blocks) ≡ code_painted (colour_of (last_round rounds)) t.list

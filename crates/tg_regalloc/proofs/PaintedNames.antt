@@ -83,7 +83,7 @@ module _ (colour : ℕ → ℕ) where
   pub slots_stay : (m : ℕ) (list : List Instr) → IsTrue (list_all (has_slots_below m) list) → IsTrue (list_all (has_slots_below m) (code_painted colour list))
   slots_stay m list h = painted_passes colour (has_slots_below m) (has_slots_below m) (λ one h. slots_renamed m one _ _ _ h) list h
 
--- the colours of temporaries stand behind those of registers
+-- the colours of temporaries stand after those of registers
 pub same_colour : (round : Round) → colour_in (drop 25 round.colours) ≡ colour_of round
 same_colour round = λ i t. ap colour_or_first (get_or-drop 25 round.colours t None) i
 

@@ -75,7 +75,7 @@ module _ (slot_of : ℕ → Option ℕ) where
       (zero_placed test.right (next + drawn (target slot_of (Branch test m) next) + drawn (first_use slot_of (Branch test m) next)))
   stays_placed _ next = refl
 
-  -- what an instruction names behind a round
+  -- what an instruction names after a round
   pub named_placed : (one : Instr) (next : ℕ) →
       named (renamed one (target slot_of one next).operand (first_use slot_of one next).operand (second_use slot_of one next).operand) ≡
       names (replaced (target slot_of one next).operand (named one).to) (replaced (first_use slot_of one next).operand (named one).first)

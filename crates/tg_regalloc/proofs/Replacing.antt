@@ -132,7 +132,7 @@ differ_renamed : (one : Instr) (x y z : Opnd) (ys : List Instr) → marks_differ
 differ_renamed (Mark m) x y z ys = refl
 differ_renamed _ x y z ys = refl
 
--- the instruction with other operands, and accesses before and behind it; a last instruction has
+-- the instruction with other operands, and accesses before and after it; a last instruction has
 -- none
 pub around : (one : Instr) (x y z : Opnd) (before after : List Instr) → IsTrue (list_all is_access before) → IsTrue (list_all is_access after) →
     (IsTrue (is_end one) → before ++ (renamed one x y z ∷ after) ≡ one ∷ []) → Replaces one (before ++ (renamed one x y z ∷ after))

@@ -1,4 +1,4 @@
--- The temporaries and the slots of the code behind a round that spills.
+-- The temporaries and the slots of the code after a round that spills.
 use Rattle.std.proofs.Common.{ℕ, ◌≡◌, ◌<◌, ◌≤◌, ◌+◌, List, [], ◌∷◌, Bool, true, false, Option, Some, None, refl, arith}
 use Rattle.std.specs.Prelude.{IsTrue, nat_lt}
 use Rattle.std.specs.List.{list_all}

@@ -1,4 +1,4 @@
--- The registers that the code behind a round that spills names.
+-- The registers that the code after a round that spills names.
 use Rattle.std.proofs.Common.{ℕ, ◌+◌, List, [], ◌∷◌, Bool, Option, Some, None, refl}
 use Rattle.std.specs.Prelude.{IsTrue}
 use Rattle.std.specs.List.{list_all}

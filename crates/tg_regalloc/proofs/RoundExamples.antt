@@ -1,4 +1,4 @@
--- Code behind rounds, computed.
+-- Code after rounds, computed.
 use Rattle.std.proofs.Common.{ℕ, ◌≡◌, List, [], ◌∷◌, ◌++◌, Option, Some, None, refl}
 use Rattle.std.specs.List.{range_with_len}
 use Rattle.tg_instr.specs.declared.operands.Opnd.{Opnd}

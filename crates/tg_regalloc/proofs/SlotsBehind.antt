@@ -1,4 +1,4 @@
--- The slots of temporaries behind a round.
+-- The slots of temporaries after a round.
 use Rattle.std.proofs.Common.{ℕ, ◌≡◌, ◌<◌, ◌+◌, ◌-◌, List, Option, Some, None, length, map, take, drop, ◌++◌, get_or, refl, ap, subst, sym, ◌∙◌}
 use Rattle.std.proofs.Common.{arith, length-drop}
 use Rattle.std.specs.Prelude.{All, nat_eq}
@@ -34,7 +34,7 @@ slots_taken originals base round t =
     let x = get_or round.aliases (25 + t) 0 in
     shifted_below base (length classes) (position (nat_eq x) classes) (λ i e. (position-Some (nat_eq x) classes i 0 e).0)
 
--- the rest behind the registers, as the code takes it
+-- the rest after the registers, as the code takes it
 pub behind_registers : {A : Type 0} (xs : List A) → take (length xs - 25) (drop 25 xs) ≡ drop 25 xs
 behind_registers xs = take_all (length xs - 25) (drop 25 xs) (omega (arith, length-drop 25 xs))
 

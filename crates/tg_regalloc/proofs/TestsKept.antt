@@ -68,7 +68,7 @@ module _ (test : Instr → Bool) (ignores : IgnoresOperands test) where
       all_append test (instruction_in_frame base one) _ (instruction_in_frame_passes base one (left_holds _ _ h))
       (in_frame_passes base rest (right_holds (test one) _ h))
 
-  -- Behind rounds.
+  -- After rounds.
 
   pub rewritten_passes : (slot_of : ℕ → Option ℕ) (list : List Instr) (next : ℕ) → Pass list → Pass (code_rewritten slot_of list next)
   rewritten_passes slot_of [] next h = refl

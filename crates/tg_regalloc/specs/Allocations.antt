@@ -1,5 +1,5 @@
 -- What an allocation of a code is (George and Appel 1996, section 4): its rounds, and the code over
--- registers behind them.
+-- registers after them.
 use Rattle.std.specs.Prelude.{◌≡◌, ◌≢◌, ◌+◌, IsTrue, IsFalse, List, [], map}
 use Rattle.std.specs.List.{range_with_len}
 use Rattle.tg_frame.specs.declared.frames.Frame.{Frame}

@@ -55,9 +55,9 @@ AllInFrameIsLast =
 
 -- Instructions.
 
--- What stands behind all rounds for each instruction that was handed in: its block.
+-- What stands after all rounds for each instruction that was handed in: its block.
 
--- the blocks behind a round, whose made temporaries are numbered from this one on
+-- the blocks after a round, whose made temporaries are numbered from this one on
 abbrev pub blocks_rewritten :
     (slot_of : ℕ → Option ℕ) → List (List Instr) → (next : ℕ) → List (List Instr)
 blocks_rewritten slot_of [] next = []
@@ -65,7 +65,7 @@ blocks_rewritten slot_of (block ∷ blocks) next =
     code_rewritten slot_of block next
     ∷ blocks_rewritten slot_of blocks (temps_after slot_of block next)
 
--- behind these rounds, from the blocks of a code on
+-- after these rounds, from the blocks of a code on
 abbrev pub blocks_behind :
     (originals : ℕ) → BetweenRounds → List Round → List (List Instr) → List (List Instr)
 blocks_behind n s [] blocks = blocks

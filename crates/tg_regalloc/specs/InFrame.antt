@@ -1,5 +1,5 @@
 -- Code whose temporaries stand in slots of the frame, each in one of its own: what an instruction
--- uses is loaded before it, and what it defines is stored behind it (Appel, chapter 11).
+-- uses is loaded before it, and what it defines is stored after it (Appel, chapter 11).
 use Rattle.std.specs.Prelude.{ℕ, zero, suc, ◌+◌, ◌*◌, ◌≤◌, length, List, [], ◌∷◌, ◌++◌, Option}
 use Rattle.std.specs.Prelude.{Some, None}
 use Rattle.tg_instr.specs.declared.operands.Opnd.{Opnd}

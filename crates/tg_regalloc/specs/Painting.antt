@@ -1,4 +1,4 @@
--- The code behind the last round (George and Appel 1996, section 4): each temporary is the register
+-- The code after the last round (George and Appel 1996, section 4): each temporary is the register
 -- that its colour names, and moves from a register to itself fall away.
 use Rattle.std.specs.Prelude.{ℕ, ◌+◌, ◌==◌, Bool, false, not, Option, Some, None, List}
 use Rattle.std.specs.Prelude.{filter, map}

@@ -1,6 +1,6 @@
--- The code behind a round that spills (George and Appel 1996, section 4; Appel, chapter 11): what
+-- The code after a round that spills (George and Appel 1996, section 4; Appel, chapter 11): what
 -- uses a temporary that went to a slot loads it before into a temporary of its own, and what
--- defines one stores it behind from a temporary of its own.
+-- defines one stores it afterwards from a temporary of its own.
 use Rattle.std.specs.Prelude.{ℕ, ◌+◌, nat_eq, nat_lt, Bool, Option, Some, None, List, [], ◌∷◌}
 use Rattle.std.specs.Prelude.{◌++◌}
 use Rattle.std.specs.Prelude.{filter, slice_index_or}

@@ -54,7 +54,7 @@ pub fn allocate(
     Err(Memory)
 }
 
-/// Every temporary in the frame, behind a round that spills made temporaries alone.
+/// Every temporary in the frame, after a round that spills made temporaries alone.
 fn all_in_frame(
     alloc: Global,
     code: &Code,

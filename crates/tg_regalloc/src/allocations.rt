@@ -31,7 +31,7 @@ pub struct Allocation {
 }
 
 impl Allocation {
-    /// The same, behind these rounds and a last one.
+    /// The same, after these rounds and a last one.
     pub(crate) fn behind(self, rounds: Vec<Round>, last: Round) -> Result<Allocation, Memory>
         ensures { IfOk result (λ a. a ≡ record self { rounds = rounds.items ++ last ∷ [] }) }
     {

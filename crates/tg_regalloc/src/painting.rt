@@ -19,7 +19,7 @@ use tg_instr::{Instr, Opnd, push_instr};
 use tg_isa::Reg;
 
 /// The register of a colour, by its place in the order `$v0 $v1`, `$a0` to `$a3`, `$t0` to `$t9`,
-/// `$s0` to `$s7`, `$ra`; behind these `$zero`.
+/// `$s0` to `$s7`, `$ra`; after these `$zero`.
 pub fn register_of(colour: u8) -> Reg
     ensures { result ≡ register_of colour }
 {

@@ -16,7 +16,7 @@ use tg_base::{Memory, Temp};
 use tg_instr::{Instr, Opnd, push_instr};
 use tg_isa::Reg;
 
-/// Where an operand of an instruction stands behind a round that spills: itself, or, where it is a
+/// Where an operand of an instruction stands after a round that spills: itself, or, where it is a
 /// temporary that went to a slot, a temporary made for this place, which is loaded from the slot or
 /// stored to it.
 #[derive(Clone, Copy)]
@@ -45,7 +45,7 @@ impl Placed {
         }
     }
 
-    /// Puts the store behind the instruction, where the operand has a slot.
+    /// Puts the store after the instruction, where the operand has a slot.
     pub fn put_store(self, list: &mut Vec<Instr>) -> Result<(), Memory>
         ensures { OnOk result (list.new.items ≡ list.old.items ++ stores self.operand self.slot) }
     {

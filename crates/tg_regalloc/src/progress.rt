@@ -76,7 +76,7 @@ impl Progress {
         })
     }
 
-    /// Behind a round that gives slots to these classes.
+    /// After a round that gives slots to these classes.
     pub fn spill(self, alloc: Global, round: &Round, classes: &[u32]) -> Result<Progress, Memory>
         requires small { CodeIsNumbered self.code }
         requires locations { length self.locations.items ≤ self.code.temps }
@@ -109,7 +109,7 @@ impl Progress {
         })
     }
 
-    /// Behind the last round.
+    /// After the last round.
     pub fn finish(
         self,
         alloc: Global,
@@ -135,7 +135,7 @@ impl Progress {
         self.colour(alloc, frame, &round)?.behind(rounds, round)
     }
 
-    /// The code in the colours of a round, with no rounds behind it.
+    /// The code in the colours of a round, with no rounds after it.
     fn colour(&self, alloc: Global, frame: Frame, round: &Round) -> Result<Allocation, Memory>
         requires locations { length self.now.locations.items ≤ self.now.code.temps }
         requires nodes { IsOfTemps self.now.code.temps round.now }

@@ -25,7 +25,7 @@ use std::alloc::Global;
 use tg_base::Memory;
 use tg_instr::{Code, Instr, Instrs, push_instr};
 
-/// The code behind a round that spills, given the slot of each temporary that has one.
+/// The code after a round that spills, given the slot of each temporary that has one.
 pub fn rewrite(alloc: Global, code: &Code, slots: &[Option<u32>]) -> Result<Code, Memory>
     requires slots { length slots.now ≡ code.now.temps }
     requires room { code.now.temps + 3 * length code.now.list < 2 ^ 32 }

@@ -30,7 +30,7 @@ use Rattle.tg_regalloc_proof.specs.Named.{to_of, first_of, second_of, passes, re
 use Rattle.tg_regalloc_proof.proofs.Contents.{leads, Equal, gives_same, entry_same, and_false}
 
 -- What is around an instruction in two programs: the heap's room, the literals, and of both the functions, the slots of the
--- frame, the marks and what comes behind the return.
+-- frame, the marks and what comes after the return.
 pub record Sides : Type 0 where
   pub room : ℕ
   pub literals : List Literal

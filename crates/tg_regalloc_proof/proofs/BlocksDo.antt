@@ -232,7 +232,7 @@ module _
         put_added added cells w.memory v.memory r.memory (slot a.base k) c o.is_added;
   }
 
-  -- An instruction in both runs: what is live before it, behind it and behind each mark; what comes next; and where both are.
+  -- An instruction in both runs: what is live before it, after it and after each mark; what comes next; and where both are.
   pub record Moment : Type 1 where
     pub one : Instr
     pub before : Opnd → Type 0

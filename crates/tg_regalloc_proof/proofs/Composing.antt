@@ -147,7 +147,7 @@ IsHeldAt size l fs = (f : Function (List Instr)) → function_of l fs ≡ Some f
 some_function : (f g : Function (List Instr)) → Some f ≡ Some g → f ≡ g
 some_function f g e = cc
 
--- behind a function that both have
+-- after a function that both have
 held_behind : (size : ℕ → ℕ) (l : ℕ) (p : Function (List Instr)) (xs ys : List (Function (List Instr))) →
     (IsHeldAt size l xs → IsHeldAt size l ys) → IsHeldAt size l (p ∷ xs) → IsHeldAt size l (p ∷ ys)
 held_behind size l p xs ys later = by (p.label == l)

@@ -150,7 +150,7 @@ Certified l h ps qs =
     (k : Function (List Instr)) × (function_of l (functions_of qs) ≡ Some k) × (C : Replaced h k) ×
     Covers (units_of ps l) h.body (units_of qs l) C.blocks
 
--- the first that is asked for is it, or what is asked for stands behind it
+-- the first that is asked for is it, or what is asked for stands after it
 certified_first : (l : ℕ) (p q : Charged) (h : Function (List Instr)) (ps qs : List Charged) (C : Replaced p.function q.function) →
     Covers p.charge p.function.body q.charge C.blocks →
     (function_of l (functions_of ps) ≡ Some h → Certified l h ps qs) →

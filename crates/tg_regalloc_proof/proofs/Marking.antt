@@ -1,4 +1,4 @@
--- A code as blocks, and what stands behind a mark in it.
+-- A code as blocks, and what stands after a mark in it.
 use Rattle.std.proofs.Common.{ℕ, ◌≡◌, ◌==◌, Bool, true, false, List, [], ◌∷◌, ◌++◌, refl, sym, ap, ◌∙◌, subst, ◌⊎◌}
 use Rattle.std.proofs.Common.{inl, inr, Option, Some, None}
 use Rattle.std.specs.Prelude.{if◌then◌else◌}
@@ -135,7 +135,7 @@ module _ (place : Opnd → Place) where
     abbrev Standing : List Instr → Blocks → Type 0
     Standing = Stands place Live
 
-    -- charges, which go on to cover what stands behind a mark
+    -- charges, which go on to cover what stands after a mark
     module _ (charge charge' : Charge) where
       abbrev pub FoundBehind : (m : ℕ) → (l : List Instr) → Blocks → (all r : List Instr) → Type 0
       FoundBehind m l blocks all r =

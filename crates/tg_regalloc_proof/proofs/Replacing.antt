@@ -143,7 +143,7 @@ module _ (fs gs : List (Function (List Instr))) (units units' : Units) (e : Surr
   Paid f g rest blocks = Covers (units f.label) rest (units' g.label) blocks
 
   -- An activation of both: the functions, of which the second stands in the place of the first and is charged no more, the
-  -- frame, and what comes behind the return.
+  -- frame, and what comes after the return.
   record Both : Type 0 where
     f : F
     g : F
@@ -272,9 +272,9 @@ module _ (fs gs : List (Function (List Instr))) (units units' : Units) (e : Surr
   fuelled : (c d : CodePoint → Run Ran) → Follows c d → Follows (λ q. with_fuel q.world (c q)) (λ q. with_fuel q.world (d q))
   fuelled c d h A rest blocks i st pays now = by_fuel now.first_world now.second_world _ _ now.worlds.input (h A rest blocks i st pays now)
 
-  -- One activation, where what comes behind a unit of fuel follows.
+  -- One activation, where what comes after a unit of fuel follows.
   module _ (c d : CodePoint → Run Ran) (h : Follows c d) (A : Both) where
-    -- what is live behind a mark
+    -- what is live after a mark
     abbrev behind_mark : ℕ → Opnd → Type 0
     behind_mark m o = (r : List Instr) × (behind m A.f.body ≡ Some r) × living A.f.body r o
 

@@ -1,4 +1,4 @@
--- The next code of a round keeps the meaning: what has a slot is loaded into a made temporary before and stored behind.
+-- The next code of a round keeps the meaning: what has a slot is loaded into a made temporary before and stored afterwards.
 use Rattle.std.proofs.Common.{ℕ, ◌≡◌, ◌+◌, ◌<◌, ◌≤◌, true, false, List, [], ◌∷◌, ◌++◌, refl, sym, ap}
 use Rattle.std.proofs.Common.{◌∙◌, subst, Option, Some, None, true≢false, arith}
 use Rattle.tg_tree.specs.Tree.{Function}

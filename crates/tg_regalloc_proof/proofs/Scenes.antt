@@ -69,7 +69,7 @@ module _ (a : Activation) (P : Places) where
     pub hi : t Hi ≡ s Hi
     pub lo : t Lo ≡ s Lo
 
-  -- What is live before and behind an instruction and behind the marks; what is live stands apart from what is
+  -- What is live before and after an instruction and after the marks; what is live stands apart from what is
   -- defined.
   pub record Flows (q : InstructionShape) (B A : Opnd → Type 0) (J : ℕ → Opnd → Type 0) : Type 0 where
     pub used : (x : Opnd) → list_any (is_same x) (uses q) ≡ true → B x
@@ -121,7 +121,7 @@ module _ (a : Activation) (P : Places) where
   plain_of (Temp t) (Reg r) e h = subst IsPlainPlace (h ∙ P.fixed r) (P.plain (Temp t) tt)
   plain_of (Reg r) (Reg q) e h = absurd (register_apart r q e h)
 
-  -- Behind a definition, whatever the second did for it: its place has what is defined, and the places apart from it
+  -- After a definition, whatever the second did for it: its place has what is defined, and the places apart from it
   -- are as they were.
   pub defined :
       (A B : Opnd → Type 0) (d : Opnd) (c : Content) (cells cells1 : ℕ → Cell) (s t t1 : Contents) →
@@ -253,7 +253,7 @@ module _ (a : Activation) (P : Places) where
       by x (inl e) = inl (at (P.place x) ∙ (e ∙ sym (held_beside_halves a h l s x)))
       by x (inr u) = inr u
 
-  -- behind a call
+  -- after a call
   pub came_back : (B A : Opnd → Type 0) (J : ℕ → Opnd → Type 0) (cells : ℕ → Cell) (label : ℕ) (c : Content)
       (s t : Contents) →
       Flows (Calls label) B A J → Scene B cells s t → Scene A cells (after_call c s) (after_call c t)

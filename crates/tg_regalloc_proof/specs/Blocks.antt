@@ -13,7 +13,7 @@ code_of blocks = flat_map (λ block. block) blocks
 
 -- Blocks of the instructions of blocks.
 
--- what is left behind so many
+-- what is left after so many
 abbrev pub drop_as_many : List Instr → Blocks → Blocks
 drop_as_many [] blocks = blocks
 drop_as_many (one ∷ rest) [] = []
@@ -26,7 +26,7 @@ take_as_many (one ∷ rest) [] = []
 take_as_many (one ∷ rest) (block ∷ blocks) = block ++ take_as_many rest blocks
 
 -- where the second are the blocks of the code that the first are: what stands for each instruction
--- behind both
+-- after both
 abbrev pub regrouped : Blocks → Blocks → Blocks
 regrouped [] inner = []
 regrouped (block ∷ blocks) inner =
@@ -34,11 +34,11 @@ regrouped (block ∷ blocks) inner =
 
 -- Charges.
 
--- the units that an instruction of a code is charged, told by how many are left behind it
+-- the units that an instruction of a code is charged, told by how many are left after it
 abbrev pub Charge : Type 0
 Charge = (left : ℕ) → Instr → ℕ
 
--- the units of a block, with so many instructions left behind it
+-- the units of a block, with so many instructions left after it
 abbrev pub spent : Charge → (left : ℕ) → List Instr → ℕ
 spent charge left [] = 0
 spent charge left (one ∷ rest) = charge (length rest + left) one + spent charge left rest

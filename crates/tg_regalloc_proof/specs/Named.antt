@@ -59,7 +59,7 @@ reshaped (AddressOf to label) z x y = AddressOf z label
 reshaped (Tests rel left right m) z x y = Tests rel x y m
 reshaped one z x y = one
 
--- the next instruction may come behind it
+-- the next instruction may come after it
 abbrev pub passes : InstructionShape → Bool
 passes (Goes m) = false
 passes (Fails n) = false

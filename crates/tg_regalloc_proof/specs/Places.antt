@@ -1,6 +1,6 @@
 -- Where a function that stands in the place of another has what that has in its operands, and the
 -- block that stands for each instruction then: loads before it, the instruction with other
--- operands, a store behind it; of a move between places that are one, nothing.
+-- operands, a store after it; of a move between places that are one, nothing.
 use Rattle.std.specs.Prelude.{ℕ, ◌≡◌, ◌==◌, Bool, false, List, [], ◌∷◌, ◌++◌, Option, Some}
 use Rattle.std.specs.Prelude.{None}
 use Rattle.tg_instr.specs.declared.operands.Opnd.{Opnd}
@@ -53,7 +53,7 @@ abbrev pub fetched : (scratch : Opnd) → Place → List Instr
 fetched z (In y) = []
 fetched z (At k) = FrameLoad z k ∷ []
 
--- what is stored behind
+-- what is stored afterwards
 abbrev pub kept : (scratch : Opnd) → Place → List Instr
 kept z (In y) = []
 kept z (At k) = FrameStore z k ∷ []

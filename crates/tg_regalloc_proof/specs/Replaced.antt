@@ -33,7 +33,7 @@ pub record Replaced (f g : Function (List Instr)) : Type 0 where
   pub blocks : Blocks
   pub whole : code_of blocks ≡ g.body
   pub stands : Stands places.place (living f.body) f.body blocks
-  -- what is defined, and what is live behind it, stand apart
+  -- what is defined, and what is live after it, stand apart
   pub apart :
       (d x : Opnd) →
       IsDefinedBeside f.body d x →

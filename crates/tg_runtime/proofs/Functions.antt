@@ -6,14 +6,14 @@ use Rattle.tg_tree.specs.declared.fragments.Literal.{Literal}
 use Rattle.tg_tree.specs.Tree.{Ts, Function, Code}
 use Rattle.tg_tree.specs.Plain.{plain_fragment, plain_literal}
 
--- one more list behind those before it
+-- one more list after those before it
 pub joined :
     (xs ys all : List Fragment) (us vs : List (Function Ts)) →
     all ≡ xs ++ ys → map plain_fragment xs ≡ us → map plain_fragment ys ≡ vs → map plain_fragment all ≡ us ++ vs
 joined xs ys all us vs e g h =
     ap (map plain_fragment) e ∙ (map-append plain_fragment xs ys ∙ (ap (λ l. l ++ map plain_fragment ys) g ∙ ap (λ l. us ++ l) h))
 
--- one more function behind those before it
+-- one more function after those before it
 pub pushed :
     (x : Fragment) (xs all : List Fragment) {u : Function Ts} {us : List (Function Ts)} →
     all ≡ xs ++ x ∷ [] → map plain_fragment xs ≡ us → plain_fragment x ≡ u → map plain_fragment all ≡ us ++ u ∷ []

@@ -22,7 +22,7 @@ minus_one = 4294967295
 abbrev pub is_negative : Tx → Cond
 is_negative x = Compare Less x (Const 0)
 
--- a number of bytes behind an address
+-- a number of bytes after an address
 abbrev pub plus : Tx → ℕ → Tx
 plus x n = Binary Add x (Const n)
 
@@ -183,7 +183,7 @@ append string from end to = sequence (
     copy_bytes from end to ∷ [])
 
 -- The words that hold a string's bytes are put where those of another string begin: both begin at
--- multiples of 4, and what the last word holds behind the bytes goes along.
+-- multiples of 4, and what the last word holds after the bytes goes along.
 abbrev pub begin_with : (string made from end to : ℕ) → Ts
 begin_with string made from end to = sequence (
     Move from (bytes_of string) ∷
@@ -191,7 +191,7 @@ begin_with string made from end to = sequence (
     Move to (bytes_of made) ∷
     copy_words from end to ∷ [])
 
--- the second string's bytes replace what came along behind those of the first
+-- the second string's bytes replace what came along after those of the first
 abbrev pub concat : (left right made from end to : ℕ) → Ts
 concat left right made from end to = sequence (
     Move end (Binary Add (Load (Temp left)) (Load (Temp right))) ∷

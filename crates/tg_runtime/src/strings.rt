@@ -108,7 +108,7 @@ fn is_outside(alloc: Global, string: u32, first: u32, count: u32) -> Result<Cond
     either(alloc, is_negative(alloc, first)?, count_or_behind)
 }
 
-/// The bytes of one string, and behind them those of another one.
+/// The bytes of one string, and after them those of another one.
 pub(crate) fn concat(alloc: Global) -> Result<Ts, Memory>
     ensures { IfOk result (λ s. plain_ts s ≡ routines.concat 0 1 2 3 4 5) }
 {

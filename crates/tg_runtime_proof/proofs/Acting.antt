@@ -30,7 +30,7 @@ use Rattle.tg_runtime_proof.proofs.Coming.{is_word, units, tests, value_of}
 abbrev pub grown : ℕ → World → World
 grown n w = record w { memory = record w.memory { heap = w.memory.heap ++ replicate n 0 } }
 
--- the statements of a sequence, and those behind so many
+-- the statements of a sequence, and those after so many
 abbrev pub parts : Ts → Stms
 parts (Seq ss) = ss
 parts _ = no_stms
@@ -47,7 +47,7 @@ module _ (setting : Setting) where
   abbrev pub after : Stms → Around → Next → Next
   after ss z next w t = run_all Trees setting.room setting.literals setting.calling (heads setting) ss z next w t
 
-  -- what is left of a sequence behind so many of its statements
+  -- what is left of a sequence after so many of its statements
   abbrev pub rest : ℕ → Ts → Around → Next → Next
   rest j s = after (behind j (parts s))
 

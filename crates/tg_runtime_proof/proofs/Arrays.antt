@@ -84,7 +84,7 @@ module _ (call : Situation) (n v : ℕ) where
   abbrev at : ℕ
   at = heap_base + length w.memory.heap
 
-  -- the block behind so many turns
+  -- the block after so many turns
   abbrev filled : ℕ → List ℕ
   filled i = (word_bytes n ++ elements_block i v) ++ replicate (4 * (n - i)) 0
 
@@ -151,7 +151,7 @@ module _ (call : Situation) (n v : ℕ) where
     abbrev with_end : Temps
     with_end = set_temp 4 (4 * n) (begun n v)
 
-    -- behind the test of the size
+    -- after the test of the size
     begins : (k : ℕ) (e : Run Ran) → is_negative n ≡ false →
         Comes k (next 1 w (begun n v)) e → Comes (10 + k) (does here body z off w (begun n v)) e
     begins k e sign c =
@@ -195,7 +195,7 @@ module _ (call : Situation) (n v : ℕ) where
               (lt-ltb call.host.room (length w.memory.heap + 4294967296) (omega (arith, most))))))
         ]
 
-    -- behind the last turn
+    -- after the last turn
     ends : n < 2 ^ 32 → (w3 : World) (t : Temps) → IsFilled n w3 t →
         Comes 16 (next 8 w3 t) (z.back at (with_block (array_block n v) w))
     ends n_small w3 t h =

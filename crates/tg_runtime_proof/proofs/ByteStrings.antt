@@ -29,7 +29,7 @@ module _ (setting : Setting) (z : Around) (next : Next) (w : World) (memory : Is
   abbrev at : ℕ
   at = heap_base + length w.memory.heap
 
-  -- behind the string, which is to have its byte
+  -- after the string, which is to have its byte
   abbrev with_string : Next
   with_string = rest setting 1 (string_of_byte 1 0) z next
 

@@ -1,4 +1,4 @@
--- Words in lists of bytes: what is read behind a write, by places and by splitting the list.
+-- Words in lists of bytes: what is read after a write, by places and by splitting the list.
 use Rattle.std.proofs.Common.{◌≡◌, ◌≢◌, ℕ, suc, ◌+◌, ◌-◌, ◌*◌, ◌/◌, ◌%◌, ◌^◌, ◌<◌, ◌≤◌, List, [], ◌∷◌, ◌++◌, length}
 use Rattle.std.proofs.Common.{refl, sym, ap, ◌∙◌, arith}
 use Rattle.std.specs.Prelude.{slice_index, slice_set}
@@ -108,7 +108,7 @@ word_there xs i v le =
     let e3 : slice_index x3 (i + 3) ≡ v / 16777216 = get_or-set_same x2 (i + 3) _ 0 (omega (arith, le, l0, l1, l2)) in
     omega (arith, e0, e1, e2, e3)
 
--- in front of and behind the seam of two lists
+-- before and after the seam of two lists
 pub word_in_front : (xs ys : List ℕ) (i : ℕ) → i + 4 ≤ length xs → word_at (xs ++ ys) i ≡ word_at xs i
 word_in_front xs ys i le =
     word_of_bytes (xs ++ ys) xs i i (get_or_append_left xs ys 0 i (omega (arith, le)))

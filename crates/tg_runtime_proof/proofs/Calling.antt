@@ -53,7 +53,7 @@ abbrev pub around_body : (size : ℕ → ℕ) → Function Ts → (top : ℕ) �
 around_body size f top back =
     outermost (record { base = top; size = size f.label }) (λ v w1. back v (without_slots f top w1))
 
--- a call comes to the body, behind the entry's units and a unit of fuel
+-- a call comes to the body, after the entry's units and a unit of fuel
 pub call_comes : (units : ℕ → ℕ) (size : ℕ → ℕ) (floor : ℕ) (runner : Runner Ts) (functions : List (Function Ts))
     (label : ℕ) (f : Function Ts) (vs : List ℕ) (top : ℕ) (back : Back) (w : World) (e : Run Ran) (k : ℕ) →
     function_of label functions ≡ Some f → floor + size f.label ≤ top → length f.params ≡ length vs →

@@ -106,7 +106,7 @@ module _ (setting : Setting) where
       (move_comes k i v (plus (Temp i) n) z next w t e (tt, tt)
       (summed (Temp i) (Const n) u n v z w t (ap or_wrong has) refl sum) c)
 
-  -- two expressions one behind the other
+  -- two expressions one after the other
   pub values_come : (k u v : ℕ) (x y : Tx) (z : Around) (go : ℕ → Go ℕ) (w : World) (t : Temps) (e : Run Ran) →
       IsFlat x → IsFlat y → is_word z w t x u → is_word z w t y v →
       Comes k (go u v w t) e →
@@ -186,7 +186,7 @@ module _ (setting : Setting) where
   return_comes k u x z next w t e f h c =
       comes_working (units x + k) 16 _ e (value_comes k u x z (λ v w1 t1. z.back v w1) w t e f h c)
 
-  -- A turn of a loop, behind which a unit of fuel is used and the loop begins again.
+  -- A turn of a loop, after which a unit of fuel is used and the loop begins again.
 
   abbrev head : Ts → Around → Next → Next
   head s z next w t = heads setting (record { statement = Loop s; around = z; next = next; world = w; temps = t })

@@ -217,7 +217,7 @@ module _ (call : Situation) (a b : ℕ) (x y : List ℕ)
     abbrev next : ℕ → Next
     next j = rest here j body z off
 
-    -- behind the common bytes the lengths tell
+    -- after the common bytes the lengths tell
     ends : (w1 : World) (t : Temps) → IsAlike n w1 t → Comes 38 (next 4 w1 t) e
     ends w1 t h =
         let lx = string_ends w.memory a x call.memory.whole s in

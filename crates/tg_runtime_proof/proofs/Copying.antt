@@ -25,7 +25,7 @@ use Rattle.tg_runtime_proof.proofs.Acting.{after, behind, rest, sequence_of, tak
 use Rattle.tg_runtime_proof.proofs.Bytes.{word_bytes}
 use Rattle.tg_runtime_proof.proofs.Memories.{blocked, store_in_block}
 
--- bytes that a string of this length takes behind the word of its length
+-- bytes that a string of this length takes after the word of its length
 abbrev pub space_of : ℕ → ℕ
 space_of n = (n + 3) / 4 * 4
 

@@ -1,4 +1,4 @@
--- Loads behind stores: statics and heap as lists of bytes, and the stack by addresses.
+-- Loads after stores: statics and heap as lists of bytes, and the stack by addresses.
 use Rattle.std.proofs.Common.{◌≡◌, ◌≢◌, ℕ, ◌+◌, ◌-◌, ◌%◌, ◌<◌, ◌≤◌, List, ◌∷◌, ◌++◌, length, Some, None, refl, sym}
 use Rattle.std.proofs.Common.{ap, ◌∙◌, arith, eq-eqb, ne_eqb, inl, inr}
 use Rattle.std.proofs.lemmas.Bool.{cases_lt, cases_eq}
@@ -131,7 +131,7 @@ whole_set m h w e bytes = record {
   heap_bytes = bytes;
 }
 
--- a word behind its store, and any other
+-- a word after its store, and any other
 pub stored_there : (m : Memory) (i v : ℕ) → IsWhole m → i < length m.heap → i % 4 ≡ 0 →
     load (heap_set m i v) (heap_base + i) ≡ Some v
 stored_there m i v w lt even =
@@ -189,7 +189,7 @@ store_cell m a v even at laid =
       | Kept r ↦ λ ne. refl
     ] laid)
 
--- Service 9: a block behind the taken heap. What lies below it, and what above, is as it was.
+-- Service 9: a block after the taken heap. What lies below it, and what above, is as it was.
 
 abbrev pub blocked : List ℕ → Memory → Memory
 blocked block m = record m { heap = m.heap ++ block }

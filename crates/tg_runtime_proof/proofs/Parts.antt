@@ -135,7 +135,7 @@ module _ (call : Situation) (a first n : ℕ) (x : List ℕ) (s : IsStringAt cal
   abbrev space : ℕ
   space = space_of n
 
-  -- the block behind so many turns
+  -- the block after so many turns
   abbrev filled : ℕ → List ℕ
   filled i = (word_bytes n ++ take i part) ++ replicate (space - i) 0
 

@@ -59,7 +59,7 @@ module _ (call : Situation) (a : ℕ) (x : List ℕ) (s : IsStringAt call.world.
     pub at : t 1 ≡ Some (a + 4 + i)
     pub end : t 2 ≡ Some (a + 4 + n)
 
-  -- what is still to be written, behind so many turns
+  -- what is still to be written, after so many turns
   abbrev left : Around → ℕ → Run Ran
   left z i = written (drop i x) (z.back 0 w)
 

@@ -49,7 +49,7 @@ module _ (call : Situation) where
   abbrev next : Inside call.host → ℕ → Next
   next inside j = rest (setting_in call.host inside) j body inside.around off
 
-  -- behind the read
+  -- after the read
   abbrev behind_read : Inside call.host → (input : List ℕ) → Run Ran
   behind_read inside input = next inside 1 (with_input (drop 1 input) w) (set_temp 0 (first_of input) no_temps)
 
@@ -110,7 +110,7 @@ module _ (call : Situation) where
       inside.around (next inside 2) v t e tt tt refl refl (not_negative b (omega (arith, lt)))
       (byte_string_full here inside.around (next inside 2) v call.memory t (omega (arith, much))))
 
-  -- a byte is read, and what is behind comes to this
+  -- a byte is read, and what is after it comes to this
   reads_first : (inside : Inside call.host) (e : Run Ran) → Comes 48 (behind_read inside w.input) e →
       Comes 59 (does (setting_in call.host inside) body inside.around off w no_temps) e
   reads_first inside e c =

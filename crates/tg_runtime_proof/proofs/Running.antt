@@ -1,5 +1,5 @@
 -- Runs of trees run bodies by steps, with static links and without, so their calls of the runtime are served; a code
--- with the runtime behind it has it; and what memory has to be.
+-- with the runtime after it has it; and what memory has to be.
 use Rattle.std.proofs.Common.{◌≡◌, ℕ, suc, arith, List, [], ◌∷◌, ◌++◌, Some, refl, sym, ap, ◌∙◌, All, ◌<◌, ◌≤◌, ◌+◌}
 use Rattle.std.proofs.Common.{inl, inr, ne_eqb}
 use Rattle.std.specs.Prelude.{if◌then◌else◌}
@@ -49,7 +49,7 @@ linked_are_served code size floor room level w may =
     runtime_is_correct (linked_host code size floor room level) w (linked_runs_by_steps code size floor room level) may
 
 -- The runtime's functions have labels below 32; functions of which none has such a label have the runtime, with it
--- behind them.
+-- after them.
 
 abbrev pub IsLow : Function Ts → Type 0
 IsLow f = f.label < 32
@@ -121,7 +121,7 @@ odd_words = (refl, refl)
 odd_byte : load_byte odd (statics_base + 4) ≡ Some 300
 odd_byte = refl
 
--- A string in the stack where the heap will be is lost behind a block: so a string ends where the taken heap does.
+-- A string in the stack where the heap will be is lost after a block: so a string ends where the taken heap does.
 abbrev high : Memory
 high = record { statics = []; heap = []; stack = λ a. Has 0 }
 

@@ -214,7 +214,7 @@ string_byte m a k x whole s lt =
     ap Some (byte_of_word (string_block x) (4 * q) r (block_small x (omega (arith, b, low)) s.each) (omega arith) ∙
     (ap (λ j. slice_index (string_block x) j) split ∙ block_byte x k lt)))
 
--- a new one, behind the taken heap
+-- a new one, after the taken heap
 pub string_made : (m : Memory) (x : List ℕ) → IsWhole m → All (λ b. b < 256) x →
     length m.heap + length (string_block x) ≤ most_room →
     IsStringAt (blocked (string_block x) m) (heap_base + length m.heap) x
@@ -242,7 +242,7 @@ string_kept m m1 a x le same s =
           λ k lt. same k lt ∙ s.words k lt;
     }
 
--- a block behind the taken heap leaves it
+-- a block after the taken heap leaves it
 pub string_stays : (m : Memory) (block : List ℕ) (a : ℕ) (x : List ℕ) → IsWhole m → IsStringAt m a x →
     IsStringAt (blocked block m) a x
 string_stays m block a x whole s =

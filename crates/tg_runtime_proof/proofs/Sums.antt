@@ -111,7 +111,7 @@ module _ (call : Situation) (a b : ℕ) (x y : List ℕ)
   block_whole : string_block x ≡ word_bytes (length x) ++ whole
   block_whole = let low = left_ends in block_is x (omega (arith, low))
 
-  -- the block behind so many turns of the first loop, and of the second
+  -- the block after so many turns of the first loop, and of the second
   abbrev worded : ℕ → List ℕ
   worded i = (word_bytes n ++ take (4 * i) whole) ++ replicate (space - 4 * i) 0
 
@@ -283,7 +283,7 @@ module _ (call : Situation) (a b : ℕ) (x y : List ℕ)
       let k = length-append x y in
       omega (arith, l, k)
 
-  -- the lengths, loaded behind the block
+  -- the lengths, loaded after the block
   length_left : (i : ℕ) → load (blocked (worded i) w.memory) a ≡ Some (length x)
   length_left i =
       let low = s.below in
@@ -308,7 +308,7 @@ module _ (call : Situation) (a b : ℕ) (x y : List ℕ)
     abbrev next : ℕ → Next
     next j = rest here j body z off
 
-    -- behind so many statements of the two parts
+    -- after so many statements of the two parts
     abbrev beginning : ℕ → Next
     beginning j = rest here j (begin_with 0 2 3 4 5) z (next 3)
 
@@ -365,7 +365,7 @@ module _ (call : Situation) (a b : ℕ) (x y : List ℕ)
               (sym (h.world ∙ ap (λ q. with_block q w) finished)) (comes_itself e));
         }
 
-    -- behind the words of the first string, the bytes of the second
+    -- after the words of the first string, the bytes of the second
     second_half : length w.memory.heap + (4 + space) ≤ call.host.room → (w3 : World) (t : Temps) → IsWorded m w3 t →
         Comes (24 * length y + 43) (beginning 4 w3 t) (z.back at (with_block (string_block (x ++ y)) w))
     second_half fits w3 t h =

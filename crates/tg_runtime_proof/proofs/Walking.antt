@@ -1,4 +1,4 @@
--- A walk from an address up to an end, whatever a turn does: by what holds behind so many turns. All five loops of the
+-- A walk from an address up to an end, whatever a turn does: by what holds after so many turns. All five loops of the
 -- runtime are walks.
 use Rattle.std.proofs.Common.{◌≡◌, ◌≢◌, ℕ, zero, suc, ◌+◌, ◌*◌, ◌<◌, ◌≤◌, List, [], ◌∷◌, ◌++◌, Some, refl, sym, ap}
 use Rattle.std.proofs.Common.{arith, subst, eq-eqb, ne_eqb}
@@ -18,16 +18,16 @@ use Rattle.tg_runtime_proof.specs.Settings.{Setting, does, Steps}
 use Rattle.tg_runtime_proof.proofs.Coming.{turn_comes, comes_along, comes_within}
 use Rattle.tg_runtime_proof.proofs.Acting.{after, after_last, sequence_comes, chosen_comes, passed_comes}
 
--- R holds behind so many turns, each of which spends so much, or goes elsewhere for that and what the rest spends.
+-- R holds after so many turns, each of which spends so much, or goes elsewhere for that and what the rest spends.
 pub record Walk (setting : Setting) (z : Around) (next : Next) (R : ℕ → World → Temps → Type 0) : Type 0 where
   pub at : ℕ  -- the temporary that has the address
   pub end : ℕ  -- and the one that has its end
   pub turn : List Ts
   pub turns : ℕ  -- so many of them
   pub spent : ℕ  -- units of a turn
-  pub left : ℕ  -- units of what comes behind the walk
-  pub address : ℕ → ℕ  -- behind so many turns
-  pub gives : ℕ → Run Ran  -- what is still to come, behind so many turns
+  pub left : ℕ  -- units of what comes after the walk
+  pub address : ℕ → ℕ  -- after so many turns
+  pub gives : ℕ → Run Ran  -- what is still to come, after so many turns
   pub apart : (i : ℕ) → i < turns → address i ≢ address turns
   pub at_is : (i : ℕ) (w : World) (t : Temps) → R i w t → t at ≡ Some (address i)
   pub end_is : (i : ℕ) (w : World) (t : Temps) → R i w t → t end ≡ Some (address turns)

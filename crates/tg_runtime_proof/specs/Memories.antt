@@ -33,7 +33,7 @@ pub record IsMemory (room : ℕ) (m : Memory) : Type 0 where
   pub most : room ≤ most_room
 
 -- A string stands at an address, word by word, its padding too; so nothing but its own bytes is
--- there, and a copy of its words has zeros behind its bytes. It ends where the taken heap does, or
+-- there, and a copy of its words has zeros after its bytes. It ends where the taken heap does, or
 -- before: so no block that is taken later covers it.
 pub record IsStringAt (m : Memory) (a : ℕ) (bytes : List ℕ) : Type 0 where
   pub aligned : a % 4 ≡ 0

@@ -25,7 +25,7 @@ use Rattle.tg_tree.specs.Memory.{string_block}
 use Rattle.tg_runtime_proof.specs.Memories.{IsMemory, IsStringAt, array_block}
 use Rattle.tg_runtime_proof.specs.Settings.{Host, HasRuntime, RunsBySteps}
 
--- a world with a block behind the taken heap
+-- a world with a block after the taken heap
 abbrev pub with_block : List ℕ → World → World
 with_block block w = record w { memory = record w.memory { heap = w.memory.heap ++ block } }
 

@@ -18,7 +18,7 @@ pub record Setting : Type 0 where
   pub goes : Point → Run Ran  -- how the run goes on from a point
 
 module _ (setting : Setting) where
-  -- a point behind a unit of fuel, as at the head of a loop
+  -- a point after a unit of fuel, as at the head of a loop
   abbrev pub heads : Point → Run Ran
   heads q = with_fuel q.world (setting.goes q)
 

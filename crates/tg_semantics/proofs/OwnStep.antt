@@ -1,5 +1,5 @@
 -- Evaluation as runs from points that are their own step, so that a translation's proof is an instance of the induction of `tg_simulation`: a point is
--- what stands behind a unit of fuel, with all that comes next.
+-- what stands after a unit of fuel, with all that comes next.
 use Rattle.std.proofs.Common.{ℕ}
 use Rattle.tg_simulation.specs.Runs.{Run}
 use Rattle.tg_simulation.specs.Outcomes.{Outcome}

@@ -38,7 +38,7 @@ module _ (heap stack : ℕ) (after : Job → Passing Value) (go : Value → Rest
       eval (If s c a b) env go out w n ≡ costs 1 (eval c env (λ v. choose v (eval a env) (eval b env) go out) out w n)
   if_is s c a b env = refl
 
-  -- a `break` of the body goes on behind the loop, and a turn uses a unit of fuel
+  -- a `break` of the body goes on after the loop, and a turn uses a unit of fuel
   while_is : (s : Span) (c a : Exp) (env : Env) → eval (While s c a) env go out w n ≡ costs 1
       (eval c env (λ v. choose v (λ go out. eval a env (λ _. with_turn (after (repeat_while c a env) go out)) (go nothing))
       (λ go out. go nothing) go out) out w n)

@@ -1,4 +1,4 @@
--- What stands behind a unit of fuel, without a bound, and its equation.
+-- What stands after a unit of fuel, without a bound, and its equation.
 use Rattle.std.proofs.Common.{◌≡◌, ℕ, zero, suc, ◌+◌, ◌≤◌, Option, Some, None, Bool, true, false, nat_lt, refl, ap, arith, le_trans}
 use Rattle.std.specs.Prelude.{if◌then◌else◌}
 use Rattle.tg_simulation.specs.Outcomes.{ended, stuck, writes_first, costs, passes_limit, reaches}
@@ -79,7 +79,7 @@ module _ (heap stack : ℕ) where
   same : (k : ℕ) (go : Value → Rest) (a : Value) → Rests k (go a) (go a)
   same k go a w n le = refl
 
-  -- a bound above the fuel gives what stands behind it
+  -- a bound above the fuel gives what stands after it
   bound_is_behind : (n : ℕ) (job : Job) (go go' : Value → Rest) (out out' : Rest) (k : ℕ) → suc k ≤ n → ((a : Value) → Rests k (go a) (go' a)) →
       Rests k out out' → Rests k (at n job go out) (behind heap stack job go' out')
   bound_is_behind zero job go go' out out' k p hg ho w j le = absurd (omega arith)

@@ -39,7 +39,7 @@ pub data Location : Type 0 where
   in_field : (object name : ℕ) → Location
   in_element : (object index : ℕ) → Location
 
--- what stands behind a unit of fuel: a function's run on its arguments, or a loop from its head on
+-- what stands after a unit of fuel: a function's run on its arguments, or a loop from its head on
 pub data Job : Type 0 where
   run_function : (level : ℕ) → SourceFunction → List Entry → List Value → Job
   repeat_while : (test body : Exp) → Env → Job
@@ -242,7 +242,7 @@ module _ (Action : Type 0 → Type 0) (M : Actions Action) where
   call_standard Exit (int i ∷ []) = end_program (by_exit i)
   call_standard _ _ = over stuck
 
-  -- Expressions (appendix A.3), where `after_turn` is what stands behind a unit of fuel.
+  -- Expressions (appendix A.3), where `after_turn` is what stands after a unit of fuel.
 
   module _ (after_turn : Job → Action Value) where
     -- a call whose arguments are evaluated: the activation opens, and then the unit of fuel is used
@@ -376,7 +376,7 @@ module _ (Action : Type 0 → Type 0) (M : Actions Action) where
         parts ← eval_inits rest env
         give ((name_of f, v) ∷ parts)
 
-      -- declarations (appendix A.2); a variable is seen behind its own value
+      -- declarations (appendix A.2); a variable is seen after its own value
       pub declare : Decs → Env → Action Env
       declare no_decs env = give env
       declare (types ts rest) env = spend (length ts) >> declare rest env
@@ -398,7 +398,7 @@ module _ (Action : Type 0 → Type 0) (M : Actions Action) where
       bind_params params values (with_variable (name_of p.name) place env)
     bind_params _ _ env = over stuck
 
-    -- what stands behind a unit of fuel is done
+    -- what stands after a unit of fuel is done
     abbrev pub run : Job → Action Value
     run (run_function level f seen args) = do
       env ← bind_params f.params args (record { level = suc level; entries = seen })
@@ -417,7 +417,7 @@ module _ (Action : Type 0 → Type 0) (M : Actions Action) where
       weigh (program_weight body)
       in_function (eval body (record { level = 0; entries = entries }))
 
-  -- what stands behind a unit of fuel, where at most n units are used after it
+  -- what stands after a unit of fuel, where at most n units are used after it
   abbrev pub meaning : ℕ → Job → Action Value
   meaning zero job = over out_of_fuel
   meaning (suc n) job = run (λ next. meaning n next) job

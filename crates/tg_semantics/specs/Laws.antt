@@ -60,11 +60,11 @@ HasOneOutcome =
     (evaluate names body input heap stack fuel').end ≢ out_of_fuel →
     evaluate names body input heap stack fuel ≡ evaluate names body input heap stack fuel'
 
--- what stands behind a unit of fuel, with no bound but the fuel that is left
+-- what stands after a unit of fuel, with no bound but the fuel that is left
 abbrev pub behind : (heap stack : ℕ) → Job → Passing Value
 behind heap stack job go out w n = meaning Passing (passing heap stack) (suc n) job go out w n
 
--- and it is what the job does with the same behind the next unit
+-- and it is what the job does with the same after the next unit
 abbrev pub FuelUnfolds : Type 0
 FuelUnfolds =
     (heap stack : ℕ) (job : Job) (go : Value → Rest) (out : Rest) (w : _) (n : ℕ) →

@@ -27,7 +27,7 @@ pub fn fuel_is_a_bound()
     ensures one { HasOneOutcome }
 {}
 
-/// Laws of what stands behind a unit of fuel: it is the job's run with the same behind the next
+/// Laws of what stands after a unit of fuel: it is the job's run with the same after the next
 /// unit, and a program is its body's run over it.
 pub fn fuel_unfolds()
     ensures jobs { FuelUnfolds }

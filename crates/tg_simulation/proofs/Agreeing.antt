@@ -116,7 +116,7 @@ module _ (stack a b : ℕ) where
           never_wrong = λ m s. met_wrong (c m) (d m) (unstuck m) s (over_when m Wrong s tt);
         }
 
--- a pass behind it
+-- a pass after it
 module _ (a b k l : ℕ) (c : Run Source) (d e : Run Ran) (agrees : Agrees a b c d) (keeps : Preserves k l d e) (stays : StaysOver e) where
   after_cut : (o : Source) (p q : Ran) → DoesTheSame k l p q → IsCut a b o p → IsCut (k * a) (k * b + l) o q
   after_cut o p q s h =
@@ -145,7 +145,7 @@ module _ (a b k l : ℕ) (c : Run Source) (d e : Run Ran) (agrees : Agrees a b c
       by j s (inl g) = inl (after_same (c n) (d m) (e j) stop s g)
       by j s (inr g) = inr (after_cut (c n) (d m) (e j) s g)
 
-  -- what is over behind the pass does what was before it
+  -- what is over after the pass does what was before it
   over_same : (m : ℕ) (stop : Stop) → (e m).stop ≡ stop → IsOver stop → DoesTheSame k l (d m) (e m)
   over_same m stop s o =
       let x = keeps.there m (agrees.never_wrong m) in

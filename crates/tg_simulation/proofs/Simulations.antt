@@ -1,4 +1,4 @@
--- Code behind a pass, step by step.
+-- Code after a pass, step by step.
 use Rattle.std.proofs.Common.{◌≡◌, ℕ, zero, suc, ◌+◌, ◌*◌, ◌<◌, ◌≤◌, List, ◌++◌, refl, sym, ap, ◌∙◌, arith, subst}
 use Rattle.std.proofs.Math.Nat.{mul-add}
 use Rattle.tg_simulation.specs.Runs.{Run, turn}

@@ -9,7 +9,7 @@ use Rattle.tg_simulation.specs.Outcomes.{ended, out_of_fuel, stuck, costs, passe
 use Rattle.tg_simulation.specs.Bytes.{least_frame}
 use Rattle.tg_simulation.specs.Agreement.{Source, Follows, Agrees, FillsStack}
 
--- what two passes promise, one behind the other
+-- what two passes promise, one after the other
 abbrev pub PassesCompose : Type 0
 PassesCompose =
     (a b k l : ℕ) (c d e : Run Ran) →

@@ -1,4 +1,4 @@
--- How the steps of code behind a pass follow those of the code before it, and how code comes to
+-- How the steps of code after a pass follow those of the code before it, and how code comes to
 -- other code by steps of its own.
 use Rattle.std.specs.Prelude.{ℕ, ◌+◌, ◌*◌, ◌≡◌, ◌≢◌, ◌≤◌, ◌<◌, List}
 use Rattle.tg_simulation.specs.Runs.{Run, turn}
@@ -6,13 +6,13 @@ use Rattle.tg_simulation.specs.Ran.{Ran, Stop, WantsFuel, Wrong, stops, writes, 
 use Rattle.tg_simulation.specs.Preserving.{DoesTheSame, Preserves}
 use Rattle.tg_simulation.specs.Agreement.{Source, Follows}
 
--- as far as n units of fuel, each run before the pass that doesn't go wrong is one behind it, with
+-- as far as n units of fuel, each run before the pass that doesn't go wrong is one after it, with
 -- as much fuel or more, and with at most a times the work and r units more
 abbrev pub Simulates : (a r n : ℕ) → Run Ran → Run Ran → Type 0
 Simulates a r n c d =
     (i : ℕ) → i ≤ n → (c i).stop ≢ Wrong → (j : ℕ) × (i ≤ j) × DoesTheSame a r (c i) (d j)
 
--- The first run comes to the second: with as much fuel or more it does the same behind at most k
+-- The first run comes to the second: with as much fuel or more it does the same after at most k
 -- units of work, as where a loop of the runtime has gone round.
 abbrev pub Comes : (k : ℕ) → Run Ran → Run Ran → Type 0
 Comes k d e = (i : ℕ) → (j : ℕ) × (i ≤ j) × (m : ℕ) × (m ≤ k) × (d j ≡ works m (e i))
@@ -43,14 +43,14 @@ SimulatesTurn =
     ((m : ℕ) → m < n → Simulates a r m c d) →
     Simulates a r n (turn (stops input WantsFuel) c) (turn (stops input WantsFuel) d)
 
--- the code behind alone uses one
+-- the code after the pass alone uses one
 abbrev pub SimulatesTurnBehind : Type 0
 SimulatesTurnBehind =
     (a r n : ℕ) (none : Ran) (c d : Run Ran) →
     Simulates a r n c d →
     Simulates a r n c (turn none d)
 
--- work of the code before pays for what the code behind may do
+-- work of the code before the pass pays for what the code after it may do
 abbrev pub SimulatesPaying : Type 0
 SimulatesPaying =
     (a r n k : ℕ) (c d : Run Ran) →
@@ -63,8 +63,8 @@ SimulatesWorking =
     Simulates a r n c d →
     Simulates a (r + k) n c (λ j. works k (d j))
 
--- Credit for credit: both work, and what was paid, or was allowed to the code behind, is taken back
--- as credit.
+-- Credit for credit: both work, and what was paid, or was allowed to the code after the pass, is
+-- taken back as credit.
 
 abbrev pub SimulatesTrading : Type 0
 SimulatesTrading =
@@ -131,7 +131,7 @@ SimulatesAlong =
     Simulates a r n c d →
     Simulates a r n c' d'
 
--- Code that comes to such code, behind a pass and behind a program.
+-- Code that comes to such code, after a pass and after a program.
 
 abbrev pub SimulatesComing : Type 0
 SimulatesComing =

@@ -43,7 +43,7 @@ ghost use Rattle.tg_simulation.specs.Simulating.{
   ComesTurn,
 };
 
-/// The law that what two passes promise holds of both, one behind the other.
+/// The law that what two passes promise holds of both, one after the other.
 pub fn passes_compose()
     ensures { PassesCompose }
 {}
@@ -56,7 +56,7 @@ pub fn following_agrees()
 {}
 
 /// The laws that code which agrees with a program, and ends by a full stack where its calls are too
-/// deep, still does so behind a pass.
+/// deep, still does so after a pass.
 pub fn agreement_goes_on()
     ensures agrees { AgreementGoesOn }
     ensures full { FullStackGoesOn }
@@ -79,8 +79,8 @@ pub fn steps_follow()
     ensures coming { FollowsComing }
 {}
 
-/// The laws of simulation behind a pass: that it is what a pass promises, and one for each step
-/// that the code before the pass and the code behind it take.
+/// The laws of simulation after a pass: that it is what a pass promises, and one for each step
+/// that the code before the pass and the code after it take.
 pub fn passes_simulate()
     ensures preserves { SimulationPreserves }
     ensures stopping { SimulatesStopping }
@@ -97,7 +97,7 @@ pub fn passes_simulate()
 {}
 
 /// The laws of credit: both sides of a simulation work, and what was paid by the code before the
-/// pass, or wasn't done by the code behind it, is credit again.
+/// pass, or wasn't done by the code after it, is credit again.
 pub fn credit_is_traded()
     ensures trading { SimulatesTrading }
     ensures unpaid { SimulatesUnpaid }

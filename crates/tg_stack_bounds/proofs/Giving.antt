@@ -1,5 +1,5 @@
 -- What actions of a translation give: a value, a state whose homes and callees have the levels of a
--- table, and functions behind those that were done, each paid by what its text weighs.
+-- table, and functions after those that were done, each paid by what its text weighs.
 use Rattle.std.proofs.Common.{◌≡◌, ◌≤◌, ◌+◌, ◌*◌, ◌==◌, ℕ, Bool, true, false, Some, List, [], ◌∷◌, ◌++◌, length, refl, sym, ap, ◌∙◌, subst, arith}
 use Rattle.std.proofs.Common.{eqb-true, append_assoc, append-nil}
 use Rattle.std.specs.Prelude.{if◌then◌else◌}

@@ -224,7 +224,7 @@ module _ (table : LevelTable) where
   operation_added op.Divide of_strings direct x y s sound = quotient_added direct x y s sound
   operation_added o of_strings direct x y s sound = compared o of_strings x y s sound
 
-  -- Places, assignments, and what stands behind statements.
+  -- Places, assignments, and what stands after statements.
 
   pub paid_field : (n : Weight) (k : ℕ) (x : Tx) (s : TranslationState) → Keeps table s → PaidRead n x →
       Gives table s [] (PaidPlace (one_node n)) (field_place k x s)

@@ -139,7 +139,7 @@ store_byte s a v = set_byte_there s (spot s a) v
 abbrev pub store_word : MachineState → ℕ → ℕ → Result MachineState RunEnd
 store_word s a v = if a % 4 == 0 then set_word_there s (spot s a) v else Err (Unaligned a)
 
--- bytes with zeros behind them up to a multiple of 4
+-- bytes with zeros after them up to a multiple of 4
 abbrev pub padded : List ℕ → List ℕ
 padded bytes = bytes ++ replicate ((4 - length bytes % 4) % 4) 0
 

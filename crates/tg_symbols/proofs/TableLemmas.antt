@@ -133,7 +133,7 @@ newest : {V : Type 0} (entries : List (Entry V)) (k : ℕ) (e : Entry V) → k <
     reverse (take (suc k) entries) ≡ e ∷ reverse (take k entries)
 newest entries k e l j = ap reverse (take_more entries k e l j) ∙ reverse-append (take k entries) (e ∷ [])
 
--- the entries that are left, behind those that were taken
+-- the entries that are left, after those that were taken
 pub one_taken : {V : Type 0} (taken rest : List (ℕ × V)) (entries : List (Entry V)) (at k : ℕ) (e : Entry V) →
     taken ++ map pair (reverse (take at entries)) ≡ rest → at ≡ suc k → at ≤ length entries → e ≡ get_or entries k e →
     (taken ++ pair e ∷ []) ++ map pair (reverse (take k entries)) ≡ rest

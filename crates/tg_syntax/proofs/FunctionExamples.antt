@@ -93,7 +93,7 @@ uses : body_of_a (tree.Seq here (exps (var "v" ∷ var "n" ∷ block (let_var "k
     of 0 0 5 5 0 ∷ of 9 1 12 13 2 ∷ []
 uses = refl
 
--- (let var v:=v in v end; v): what is hidden crosses nothing, before and behind it the program's v does
+-- (let var v:=v in v end; v): what is hidden crosses nothing, before and after it the program's v does
 hidden_by_a_variable : body_of_a (tree.Seq here (exps (block (let_var "v" (var "v") no_decs) (var "v" ∷ []) ∷ var "v" ∷ []))) ≡
     of 0 0 5 5 0 ∷ of 9 1 9 10 2 ∷ []
 hidden_by_a_variable = refl
@@ -103,7 +103,7 @@ hidden_in_a_loop : body_of_a (tree.For here (id "v" 0) (var "v") (var "v") (var 
 hidden_in_a_loop = refl
 
 -- let function print() = () function b() = (print(); b(); v; n) in print(); b() end: of a group each function sees all, and
--- hides a standard one; both are called across a level from within it, and across none behind it
+-- hides a standard one; both are called across a level from within it, and across none after it
 a_group :
     body_of_a (block (group
     (fun "print" 20 [] (tree.Seq here no_exps) (fun "b" 30 [] (tree.Seq here (exps (call "print" [] ∷ call "b" [] ∷ var "v" ∷ var "n" ∷ []))) no_functions))

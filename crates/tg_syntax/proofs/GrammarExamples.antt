@@ -113,7 +113,7 @@ tail_takes_all =
     (sum_whole (sum_up (a_number 1 5))) refl (sum_whole (sum_up (a_number 2 12))) refl refl
     (sum_whole (sum_more {a = num 3 19 ∷ []} {b = num 4 21 ∷ []} (plus 20) (sum_up (a_number 3 19)) refl refl (a_number 4 21)))))))) refl
 
--- and the sum never stands behind the `if`
+-- and the sum never stands after the `if`
 pub not_behind : {a : List Spanned} {s z w : Span} {at to : ℕ} {l c x y r : Exp} →
     Reads Sum a (Exp.Binary s op.Plus at (Exp.Binary z op.Plus to l (Exp.If w c x y)) r) → ⊥
 not_behind (sum_up h) = no_term refl h

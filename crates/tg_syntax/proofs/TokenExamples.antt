@@ -87,7 +87,7 @@ no_tab more f = let s = form_of_mark f 11 more refl refl in clash (sign_tab s.0)
 pub vertical_tab : HasLexicalFault (32 ∷ 11 ∷ []) L1 1
 vertical_tab = met (omega arith) (LeadsTo.blank 32 refl here) (illegal_byte 11 [] refl no_tab)
 
--- L3: a newline in the place of an escape's third digit, and the end behind a backslash
+-- L3: a newline in the place of an escape's third digit, and the end after a backslash
 digit_escape : {xs meant : List ℕ} → Escape xs meant → (a b c : ℕ) → xs ≡ a ∷ b ∷ c ∷ [] → is_digit a ≡ true → is_digit c ≡ true
 digit_escape Escape.newline a b c e d = absurd (cc)
 digit_escape Escape.tab a b c e d = absurd (cc)
@@ -121,7 +121,7 @@ newline_for_digit =
 pub end_behind_backslash : HasLexicalFault (codes "\"a\\") L3 0
 end_behind_backslash = met (omega arith) here (in_string (codes "a") (codes "a") (92 ∷ []) (plain 97 refl nothing) (end_in_escape [] IsBegun.backslash))
 
--- L5, and L6 at a byte behind the opening quote
+-- L5, and L6 at a byte after the opening quote
 pub large : HasLexicalFault (codes "2147483648") L5 0
 large = met (omega arith) here (large_int (codes "2147483648") [] ten_digits (digits_longest (codes "2147483648") [] ten_digits refl) (omega arith))
 

@@ -85,6 +85,6 @@ abbrev mutual
 abbrev pub BeginsApart : Exp → Type 0
 BeginsApart body = AllPairs (λ a b. a ≢ b) (beginnings body [])
 
--- each begins behind those before it
+-- each begins after those before it
 abbrev pub BeginsInOrder : Exp → Type 0
 BeginsInOrder body = AllPairs (λ a b. b < a) (beginnings body [])

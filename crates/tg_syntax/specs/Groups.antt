@@ -32,7 +32,7 @@ snoc_function no_functions f params result e = function f params result e no_fun
 snoc_function (function g ps r b rest) f params result e =
     function g ps r b (snoc_function rest f params result e)
 
--- behind one group alone: in it, where it is of its kind
+-- after one group alone: in it, where it is of its kind
 abbrev pub behind_types : List TypeDec → Dec → Decs
 behind_types ts (one_type d) = types (ts ++ d ∷ []) no_decs
 behind_types ts d = types ts (one_declaration d)
@@ -42,7 +42,7 @@ behind_functions fs (one_function f params result e) =
     functions (snoc_function fs f params result e) no_decs
 behind_functions fs d = functions fs (one_declaration d)
 
--- behind all: in the last group, where that is of its kind
+-- after all: in the last group, where that is of its kind
 abbrev pub snoc_dec : Decs → Dec → Decs
 snoc_dec no_decs d = one_declaration d
 snoc_dec (types ts no_decs) d = behind_types ts d

@@ -27,7 +27,7 @@ pub data LeadsTo : ℕ → List ℕ → ℕ → List ℕ → Type 0 where
       LeadsTo (at + length bytes) text to rest →
       LeadsTo at (bytes ++ text) to rest
 
--- an escape of which, behind its backslash, only this was read
+-- an escape of which, after its backslash, only this was read
 pub data IsBegun : List ℕ → Type 0 where
   backslash : IsBegun []
   caret : IsBegun (94 ∷ [])
@@ -45,7 +45,7 @@ pub record Misfits (begun : List ℕ) (b : ℕ) : Type 0 where
 abbrev pub is_control : ℕ → Bool
 is_control b = nat_le b 31 || b == 127
 
--- in a string, behind what was read of it, stands a fault; its place is that of the opening quote,
+-- in a string, after what was read of it, stands a fault; its place is that of the opening quote,
 -- or that where this stands
 pub data FaultInString (quote at : ℕ) : List ℕ → LexRule → ℕ → Type 0 where
   end_in_string : FaultInString quote at [] L3 quote

@@ -33,7 +33,7 @@ pub fn int(span: Span, value: u32) -> Exp
     }
 }
 
-/// An expression behind a minus sign.
+/// An expression after a minus sign.
 pub fn negate(alloc: Global, span: Span, a: Exp) -> Result<Exp, Memory>
     ensures { IfOk result (λ e. plain e ≡ PlainNeg span (plain a)) }
 {

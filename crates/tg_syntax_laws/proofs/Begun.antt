@@ -57,7 +57,7 @@ sum_not_end t h e = let n : sum_op t ≡ None = ap sum_op e in cc
 term_not_end : {o : Op} (t : Token) → term_op t ≡ Some o → t ≢ token.End
 term_not_end t h e = let n : term_op t ≡ None = ap term_op e in cc
 
--- with one more behind
+-- with one more at the end
 more_params : (ps : List Param) (p : Param) (b : List ℕ) → param_beginnings (ps ++ p ∷ []) b ≡ p.kind.span.from ∷ p.name.span.from ∷ param_beginnings ps b
 more_params [] p b = refl
 more_params (q ∷ ps) p b = more_params ps p (q.kind.span.from ∷ q.name.span.from ∷ b)

@@ -492,7 +492,7 @@ suffix_stop : (s : Span) (v : LValue) (t : Spanned) (ts : List Spanned) → stre
 suffix_stop s v t ts h = split_no (Suffix s v) (weaker t.token (token.Sign Dot) h)
     (split_no (Suffix s v) (weaker t.token (token.Sign LeftBracket) (omega arith)) (give_got (Suffix s v)))
 
--- behind a name and `[`
+-- after a name and `[`
 bracketed : (x : Ident) (l r : Spanned) (w : List Spanned) (e : Exp) (t : Spanned) (ts : List Spanned) (p : Span × LValue) (z : List Spanned) →
     IsSign l LeftBracket → IsSign r RightBracket → Reaches Whole w e (r ∷ t ∷ ts) → strength t.token ≤ 9 →
     Does (Suffix (joined x.span r.span) (Index (Simple x) e)) (suffixes (joined x.span r.span) (Index (Simple x) e)) (t ∷ ts) (Got p z) →

@@ -146,7 +146,7 @@ program_ends ts z s e o (program {a = a} t h q) d =
     let r : s ≡ [] = end_alone o.body a o.end t s o.is_end (no_end h) (sym (append_assoc o.body (o.end ∷ []) s) ∙ sym (ap (λ w. w ++ s) o.whole) ∙ sym d) in
     subst (λ w. IsProgram w e) (d ∙ ap (λ w. ts ++ w) r ∙ append-nil ts) (program t h q)
 
--- nothing more is wanted behind the end
+-- nothing more is wanted after the end
 pub not_out : (ts : List Spanned) → EndsOnce ts → Does Whole_program whole_program ts Out → ⊥
 not_out ts o h =
     let b = out_is ts h in

@@ -51,7 +51,7 @@ module _ (OfIdent : Ident → Type 0) (OfByte : (at : ℕ) → Type 0) where
   at_start (Let s _ _) h = h.0
   at_start (Seq s _) h = h.0
 
-  -- with one more behind
+  -- with one more at the end
   more_params : (ps : List Param) (p : Param) → ThroughParams OfIdent OfByte ps → OfIdent p.name → OfIdent p.kind → ThroughParams OfIdent OfByte (ps ++ p ∷ [])
   more_params [] p h i j = (i, j, tt)
   more_params (q ∷ ps) p h i j = (h.0, h.1, more_params ps p h.2 i j)

@@ -48,7 +48,7 @@ abbrev pub WantsMore : Type 0
 WantsMore = (tokens : List Spanned) → Does Whole_program whole_program tokens Out →
     BeginsProgram tokens
 
--- and never behind the one end of a list
+-- and never after the one end of a list
 abbrev pub EndsAlways : Type 0
 EndsAlways =
     (tokens : List Spanned) → EndsOnce tokens → Does Whole_program whole_program tokens Out → ⊥

@@ -45,7 +45,7 @@ TokensStand =
     (names : List (List ℕ)) (text : List ℕ) (tokens : List Spanned) → Lexes names 0 text tokens →
     StandFrom 0 tokens
 
--- the identifiers and operators of a program whose tokens stand so begin each behind those before
+-- the identifiers and operators of a program whose tokens stand so begin each after those before
 -- it
 abbrev pub ProgramsInOrder : Type 0
 ProgramsInOrder =

@@ -60,7 +60,7 @@ pub data Job : Type 0 where
   MoreParams : List Param → Job
   OneForm : Job
   Annotation : Job
-  -- what follows `type`, `var` and `function`, and declarations behind others
+  -- what follows `type`, `var` and `function`, and declarations after others
   TypeDec : Job
   VarDec : Job
   FunDec : Job

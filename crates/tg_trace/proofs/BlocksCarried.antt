@@ -1,4 +1,4 @@
--- Statements that are cut do what they did: what is open in front of them does so, if what was open behind them does what comes next.
+-- Statements that are cut do what they did: what is open in front of them does so, if what was open after them does what comes next.
 use Rattle.std.proofs.Common.{◌≡◌, ℕ, zero, suc, ◌+◌, ◌-◌, ◌*◌, ◌<◌, ◌≤◌, List, [], ◌∷◌, ◌++◌, length, Bool, true, false, refl, sym, ap, ◌∙◌, subst}
 use Rattle.std.proofs.Common.{arith, length-append}
 use Rattle.std.specs.Prelude.{Option, Some, None, not, slice_index, if◌then◌else◌}
@@ -31,7 +31,7 @@ use Rattle.tg_trace.proofs.BlocksPlaces.{at, leads_to, opens, first, first_is, a
 use Rattle.tg_trace.proofs.BlocksKept.{Keeps, keeps_itself, keeps_on, opened_keeps, draw_keeps, seal_keeps, branch_keeps, head_keeps, side, turn}
 use Rattle.tg_trace.proofs.BlocksKept.{side_keeps, cut_keeps, all_keeps, Fits, fits_first, fits_rest, Stands, sealed_stands, head_stands, fits_turn}
 
--- less work behind, and work that is paid before
+-- less work after the pass, and work that is paid before it
 pub lighter : (a r n k : ℕ) (c d : Run Ran) → Simulates a r n c (charged k d) → Simulates a r n c d
 lighter a r n k c d h i le s =
     let x = h i le s in
@@ -267,7 +267,7 @@ module _
         (leads_on n n (r + 1) (r + 1) (length c.laid) (length sealed.laid) most most yes' (go true) (omega arith) (omega arith) kept.laid (omega arith) h) on
         (fits_rest places laid c sealed all kept f) j a b w t)
 
-    -- statements that leave don't come to what is open behind them
+    -- statements that leave don't come to what is open after them
     break_opens :
         (n r least most k : ℕ) (exits : List ℕ) (out : Out) (next : Next) (c : CutBlocks) → k < length exits → Scene n r (length c.laid) most exits out →
         Opens n r most (open_at (Jump (exit_of exits k)) c) (runs (Break k) out next)
@@ -431,7 +431,7 @@ module _
           seal_leads n r most c next sc.within h
           (fits_first places laid c c1 (head mark c3) (head_keeps mark c1 c3 (omega arith) k13) f)
 
-      -- what comes after a turn: the loop again, behind a unit of fuel
+      -- what comes after a turn: the loop again, after a unit of fuel
       abbrev again : Next
       again w t = later (record { statement = Loop s; around = around_with out; next = next; world = w; temps = t })
 

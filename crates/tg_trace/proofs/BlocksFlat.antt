@@ -95,7 +95,7 @@ no_later p = wrong p.world
 abbrev pub no_out : Out
 no_out k w t = wrong w
 
--- For functions that are entered, and what comes after returns, before and behind a pass.
+-- For functions that are entered, and what comes after returns, before and after a pass.
 module _
     (room : ℕ) (ls : List Literal) (enter enter' : Enter) (n r : ℕ) (enters : EntersSimulate 1 0 n enter enter') (activation : Activation)
     (back back' : Back) (backs : BacksSimulate 1 r n back back') where

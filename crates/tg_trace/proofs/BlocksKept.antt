@@ -107,7 +107,7 @@ head_keeps mark c d h k =
 abbrev pub side : (exits : List ℕ) → (join : ℕ) → Ts → CutBlocks → CutBlocks
 side exits join s c = cut exits s (open_at (Jump join) c)
 
--- a loop's turn, behind what is laid of what comes next
+-- a loop's turn, after what is laid of what comes next
 abbrev pub turn : (exits : List ℕ) → Ts → CutBlocks → CutBlocks
 turn exits s c = cut (exits ++ next_mark c ∷ []) s (open_at (Jump (length (seal c).places)) (draw 0 (seal c)))
 
@@ -202,7 +202,7 @@ module _ (places : List ℕ) (laid : List Block) where
         block = f.blocks (length d.laid) g (omega (arith, length-append d.laid (b ∷ []))) ∙ get_seam d.laid b;
       }
 
-  -- behind a head that stands at a mark which was drawn before
+  -- after a head that stands at a mark which was drawn before
   pub fits_turn : (mark : ℕ) (c b d : CutBlocks) → Keeps c b → mark < length b.places → Fits c (head mark d) → Fits b d
   fits_turn mark c b d k l f =
       let e : Block = record { body = d.body; end = d.end } in

@@ -1,4 +1,4 @@
--- Where blocks go on, by how many blocks are laid behind their own: the one at a mark is ahead, or is come to behind a unit of fuel.
+-- Where blocks go on, by how many blocks are laid after their own: the one at a mark is ahead, or is come to after a unit of fuel.
 use Rattle.std.proofs.Common.{◌≡◌, ℕ, zero, suc, ◌+◌, ◌-◌, ◌<◌, ◌≤◌, List, [], ◌∷◌, ◌++◌, length, take, get_or, map, Bool, true, false, refl, sym, ap}
 use Rattle.std.proofs.Common.{◌∙◌, arith}
 use Rattle.std.specs.Prelude.{Some, None, reverse, slice_get, slice_index, nat_lt, if◌then◌else◌}
@@ -37,7 +37,7 @@ module _ (code : Code (List Block)) (size : ℕ → ℕ) (floor room : ℕ) (pla
   abbrev pub whole : List Block
   whole = placed_all places laid
 
-  -- the blocks behind so many
+  -- the blocks after so many
   abbrev pub behind : ℕ → List Block
   behind i = map (placed places (length laid - 1)) (reverse (take i laid))
 
@@ -52,18 +52,18 @@ module _ (code : Code (List Block)) (size : ℕ → ℕ) (floor room : ℕ) (pla
   abbrev pub leads_to : ℕ → (mark : ℕ) → Next
   leads_to i m w t = at i (place_of places (length laid - 1) m) e tt w t
 
-  -- a block in front of so many, behind its mark
+  -- a block in front of so many, after its mark
   abbrev pub opens : ℕ → Stms → BlockEnd → Next
   opens i body z w t = (run_within code size floor room goes body >> finish code size floor room goes (at i) (placed_end places (length laid - 1) z)) e tt w t
 
-  -- the block that was laid behind so many
+  -- the block that was laid after so many
   abbrev pub first : ℕ → Next
   first i w t = from (i + 1) (length laid - (i + 1)) 0 e tt w t
 
   behind_one : (i : ℕ) (b : Block) → slice_get laid i ≡ Some b → behind (i + 1) ≡ placed places (length laid - 1) b ∷ behind i
   behind_one i b h = ap (λ bs. map (placed places (length laid - 1)) bs) (ap reverse (take_one laid i b h) ∙ reverse_last (take i laid) b)
 
-  -- what a block's own place tells it is what tells the blocks behind it
+  -- what a block's own place tells it is what tells the blocks after it
   abbrev from_own : ℕ → ℕ → Acts Last
   from_own i q =
       if nat_lt (length laid - (i + 1)) q then from i (length laid - (i + 1) + 1)
@@ -133,7 +133,7 @@ module _ (code : Code (List Block)) (size : ℕ → ℕ) (floor room : ℕ) (pla
       (ap (λ bs. run_from code size floor room goes whole bs 0 q e tt w t n) all ∙
       (ap (λ p. from (length laid) p q e tt w t n) none ∙ ap (λ g. g e tt w t n) f))
 
-  -- any other is come to behind a unit of fuel
+  -- any other is come to after a unit of fuel
   pub back : (j i m : ℕ) → slice_index places m ≡ i → j ≤ i → i < length laid → (w : World) (t : Temps) → leads_to j m w t ≡ with_fuel w (first i w t)
   back j i m is le lt w t =
       let n = length laid in

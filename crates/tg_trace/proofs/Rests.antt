@@ -60,7 +60,7 @@ pub set_block : (bs : List CodeBlock) (p : ℕ) (b b' : CodeBlock) → b ≡ b' 
     plain_blocks (slice_set bs p b) ≡ slice_set (plain_blocks bs) p no_block
 set_block bs p b b' e n = set_at bs p b ∙ ap (slice_set (plain_blocks bs) p) (ap plain_block e ∙ n)
 
--- blocks with one more behind
+-- blocks with one more at the end
 pub blocks_more : (bs : List CodeBlock) (b : CodeBlock) → plain_blocks (bs ++ b ∷ []) ≡ plain_blocks bs ++ plain_block b ∷ []
 blocks_more bs b = map-append plain_block bs (b ∷ [])
 

@@ -14,7 +14,7 @@ use Rattle.tg_trace.proofs.BlocksKept.{get_front, get_seam, side, turn}
 use Rattle.tg_trace.proofs.TracesLoops.{same_index, UsableIn, CutState, Step, step_usable, step_on, stays, opens, fronts, Sealed, seals, begun}
 use Rattle.tg_trace.proofs.TracesLoops.{begun_starts, FromOutside, begun_state, from_outside, turns}
 
--- the marks behind the loops around
+-- the marks after the loops around
 abbrev Exits : (L P : ℕ) (Out : ℕ → Type 0) (starts : List ℕ) (c : CutBlocks) (exits : List ℕ) → Type 0
 Exits L P Out starts c exits = (k : ℕ) → k < length exits → UsableIn L P Out starts c (slice_index exits k)
 

@@ -1,4 +1,4 @@
--- Behind each block comes one that it leads to and that isn't laid, if there is one: a jump that is left goes back.
+-- After each block comes one that it leads to and that isn't laid, if there is one: a jump that is left goes back.
 use Rattle.std.proofs.Common.{◌≡◌, ◌≤◌, ◌<◌, ℕ, zero, suc, Bool, true, false, List, [], ◌∷◌, ◌++◌, length, refl, ap, sym, ◌∙◌, subst, arith}
 use Rattle.std.proofs.Common.{append_assoc, append-nil, eq-eqb}
 use Rattle.std.specs.Prelude.{Option, Some, None, slice_get, slice_set}
@@ -36,7 +36,7 @@ one_less (false ∷ l) (suc p) h = ap suc (one_less l p h)
 true_false : {A : Type 0} → true ≡ false → A
 true_false e = cc
 
--- Of an end behind which a next block comes: a jump that is left goes to a place that is laid.
+-- Of an end after which a next block comes: a jump that is left goes to a place that is laid.
 abbrev LedTo : (laid : List ℕ) (next : Option ℕ) → BlockEnd → Type 0
 LedTo laid next (Jump p) = is_next next p ≡ false → Contains laid p
 LedTo laid next (Branch _ _ _ p q) = is_next next p ≡ false → is_next next q ≡ false → Contains laid q
@@ -70,7 +70,7 @@ module _ (laid : List Bool) (places : List ℕ) (there : (p : ℕ) → slice_get
   led_onward n (Fault k) c h = tt
   led_onward n (Return x) c h = tt
 
--- what comes next in an order, or behind it
+-- what comes next in an order, or after it
 abbrev first_of : List ℕ → Option ℕ → Option ℕ
 first_of [] next = next
 first_of (p ∷ ps) next = Some p

@@ -142,7 +142,7 @@ module _
       by h (inl lt) ph b = let x = same_place h lt in let s = nested.stands h ph lt in omega (arith, x, s.2, b, its_place)
       by h (inr e) ph b = let x = ap place' e in omega (arith, x, b)
 
--- The blocks of a loop are laid behind those that stood, from which their marks are known, as the head's is; and then the head.
+-- The blocks of a loop are laid after those that stood, from which their marks are known, as the head's is; and then the head.
 module _
     (L P : ℕ) (Out : ℕ → Type 0) (n1 q1 : ℕ) (place1 start1 : ℕ → ℕ) (Leads1 : ℕ → ℕ → Type 0) (outside : Nested L P Out n1 q1 place1 start1 Leads1)
     (n3 q3 : ℕ) (place3 start3 : ℕ → ℕ) (Leads3 : ℕ → ℕ → Type 0)

@@ -31,7 +31,7 @@ use Rattle.tg_trace.proofs.BlocksRuns.{blocks_step}
 use Rattle.tg_trace.proofs.BlocksFlat.{pays_less, keeps_simulating}
 use Rattle.tg_trace.proofs.TracesStands.{Falls, Stands}
 
--- Both do the same, and the code behind the pass no more work.
+-- Both do the same, and the code after the pass no more work.
 abbrev pub SameWork : (r : ℕ) → Related
 SameWork r n w c d = Simulates 1 r n c d
 
@@ -62,7 +62,7 @@ next_is (Some p) q e = ap Some (eqb-true p q e)
 some_code : (xs ys : List Linear) → Some xs ≡ Some ys → xs ≡ ys
 some_code xs ys e = cc
 
--- For functions before and behind, and a function's blocks and code.
+-- For functions before and after the pass, and a function's blocks and code.
 module _
     (functions : List (Function (List Block))) (flat : List (Function (List Linear))) (literals : List Literal) (size : ℕ → ℕ) (floor room : ℕ)
     (bs : List Block) (whole : List Linear) where
@@ -186,7 +186,7 @@ module _
           (keep_run (SameWork r) OneWorld OneTemps (keeps_simulating r) n Canonical room literals _ _ _ _ (enters r) (no_loop r) s e e' _ _ he
           (λ y z t1 u1. from_one _ _ (λ w1 t2. bodies_do ss tail next h w1 t2) y z t1 u1) w w t t (one w) (one t)))
 
-    -- The end of the block at a place, before what stands behind it.
+    -- The end of the block at a place, before what stands after it.
     module _ (r : ℕ) (e e' : Around) (he : AlikeAround (SameWork r) OneWorld OneTemps n e e') where
       module _
           (p : ℕ) (next : Option ℕ) (more : List Linear) (falls : (q : ℕ) → next ≡ Some q → Falls bs whole p more q)

@@ -1,4 +1,4 @@
--- Where the code of a block stands in the code of an order: behind its mark, and before the mark of the next.
+-- Where the code of a block stands in the code of an order: after its mark, and before the mark of the next.
 use Rattle.std.proofs.Common.{◌≡◌, ◌≢◌, ◌<◌, ℕ, zero, suc, inl, inr, Bool, List, [], ◌∷◌, ◌++◌, length, refl, ap, sym, ◌∙◌, subst, arith}
 use Rattle.std.proofs.Common.{append_assoc, append-nil, length-append}
 use Rattle.std.specs.Prelude.{Option, Some, slice_get, if◌then◌else◌}
@@ -19,7 +19,7 @@ use Rattle.tg_trace.proofs.Marks.{marks_behind_body, marks_behind_end}
 use Rattle.tg_trace.proofs.TracesCode.{laid_code, traced_is}
 use Rattle.tg_trace.proofs.TracesOrders.{Each, HeadsStand, traces_heads}
 
--- behind a mark that stands for the first time
+-- after a mark that stands for the first time
 behind_mark : (p : ℕ) (xs rest : List Linear) → (Contains (marks xs) p → ⊥) → behind p (xs ++ Mark p ∷ rest) ≡ Some rest
 behind_mark p [] rest n = ap (λ (b : Bool). if b then Some rest else behind p rest) (eq-eqb p p refl)
 behind_mark p (Mark k ∷ xs) rest n =
@@ -47,7 +47,7 @@ all_apart before (p ∷ ps) apart = (
   all_apart (before ++ p ∷ []) ps (subst (AllPairs (λ x y. x ≢ y)) (sym (append_assoc before (p ∷ []) ps)) apart),
 )
 
--- the marks of code and of a block's behind it
+-- the marks of code and of a block's after it
 block_marks : (xs : List Linear) (p : ℕ) (next : Option ℕ) (b : Block) → marks (xs ++ block_code p next b) ≡ marks xs ++ p ∷ []
 block_marks [] p next b =
     ap (λ ms. p ∷ ms)
@@ -62,7 +62,7 @@ block_marks (tree.Return' x ∷ xs) p next b = block_marks xs p next b
 some_same : (r q : ℕ) → Some r ≡ Some q → r ≡ q
 some_same r q e = cc
 
--- what stands behind a block's code is the next block, to which it leads only if that stands above
+-- what stands after a block's code is the next block, to which it leads only if that stands above
 pub record Falls (bs : List Block) (whole : List Linear) (p : ℕ) (more : List Linear) (q : ℕ) : Type 0 where
   pub rest : List Linear
   pub is : more ≡ Mark q ∷ rest

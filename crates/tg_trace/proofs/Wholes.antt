@@ -51,7 +51,7 @@ either_grows false c d h = h
 onto : (a b c : CutBlocks) → Grows a b → Grows b c → Grows a c
 onto a b c h k = omega arith
 
--- a choice, and a loop, behind what is laid of what comes next
+-- a choice, and a loop, after what is laid of what comes next
 sides_grow :
     (exits : List ℕ) (d : Cond) (s t : Ts) (c : CutBlocks) →
     ((b : CutBlocks) → Grows b (cut exits t b)) → ((b : CutBlocks) → Grows b (cut exits s b)) → Grows (seal c) (cut exits (If d s t) c)

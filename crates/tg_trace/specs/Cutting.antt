@@ -87,7 +87,7 @@ branch (Either d e) yes' no' c = sealed (branch e yes' no' c) (λ m c1. branch d
 abbrev pub head : (mark : ℕ) → CutBlocks → CutBlocks
 head mark c = lay mark (stand mark (length c.laid) c)
 
--- where a break leads, of the marks behind the loops that are around it, the outermost first
+-- where a break leads, of the marks after the loops that are around it, the outermost first
 abbrev pub exit_of : (exits : List ℕ) → (loops : ℕ) → ℕ
 exit_of exits k = slice_index exits (length exits - (k + 1))
 
@@ -98,11 +98,11 @@ leaves (tree.Fault _) = true
 leaves (tree.Return _) = true
 leaves _ = false
 
--- what is in front of a side of a choice, behind which both join
+-- what is in front of a side of a choice, after which both join
 abbrev pub before_join : (join : ℕ) → (CutBlocks → CutBlocks) → CutBlocks → CutBlocks
 before_join join side c = side (open_at (Jump join) c)
 
--- A loop by its turn, which has the mark behind the loop and goes on at its head.
+-- A loop by its turn, which has the mark after the loop and goes on at its head.
 abbrev pub turned : (ℕ → CutBlocks → CutBlocks) → CutBlocks → CutBlocks
 turned turn c =
     sealed c (λ exit c1.
@@ -128,7 +128,7 @@ abbrev mutual
   cut_all exits no_stms c = c
   cut_all exits (stm s ss) c = cut exits s (if leaves s then c else cut_all exits ss c)
 
--- behind a closed body nothing is come to
+-- after a closed body nothing is come to
 abbrev pub start : CutBlocks
 start = record { laid = []; places = []; body = no_stms; end = Fault 0 }
 

@@ -1,4 +1,4 @@
--- Blocks are laid in traces (Appel, chapter 8): behind each block comes one that it leads to, for
+-- Blocks are laid in traces (Appel, chapter 8): after each block comes one that it leads to, for
 -- as long as such a one isn't laid. So a jump is left only where it goes back.
 use Rattle.std.specs.Prelude.{ℕ, zero, suc, ◌==◌, Bool, true, false}
 use Rattle.std.specs.Prelude.{List, [], ◌∷◌, ◌++◌, length, replicate, slice_get, slice_set}
@@ -31,14 +31,14 @@ unless _ place other = other
 abbrev pub unless_laid : List Bool → (place : ℕ) → Option ℕ → Option ℕ
 unless_laid laid place other = unless (slice_get laid place) place other
 
--- what comes behind a block: where it leads that isn't laid, the true side of a branch first
+-- what comes after a block: where it leads that isn't laid, the true side of a branch first
 abbrev pub onward : List Bool → BlockEnd → Option ℕ
 onward laid (Jump p) = unless_laid laid p None
 onward laid (Branch _ _ _ p q) = unless_laid laid p (unless_laid laid q None)
 onward laid (Fault _) = None
 onward laid (Return _) = None
 
--- behind an order the block at a place, and more as long as it leads to one that isn't laid, so
+-- after an order the block at a place, and more as long as it leads to one that isn't laid, so
 -- many at most
 abbrev pub follow : (most : ℕ) → List Block → Option ℕ → Order → Order
 follow zero blocks next o = o

@@ -73,7 +73,7 @@ module _ (code : Code (List Block)) (size : ℕ → ℕ) (floor room : ℕ) wher
           with_fuel w
           (later (record { whole = whole; place = p; around = e; world = w; temps = temps }))
 
-      -- the blocks that stand from a place on, behind so many of them that are passed by
+      -- the blocks that stand from a place on, after so many of them that are passed by
       abbrev pub run_from : List Block → (place passed : ℕ) → Acts Last
       run_from [] p k = stop Wrong
       run_from (b ∷ bs) p (suc k) = run_from bs (p + 1) k

@@ -36,7 +36,7 @@ plain_cut c = record {
 abbrev pub plain_order : CodeOrder → Order
 plain_order o = record { places = o.places.items; laid = o.laid.items }
 
--- a step, which leaves the marks behind loops as they are
+-- a step, which leaves the marks after loops as they are
 pub record Cuts (old new : CodeCut) (step : CutBlocks → CutBlocks) : Type 0 where
   pub exits : new.exits.items ≡ old.exits.items
   pub cut : plain_cut new ≡ step (plain_cut old)

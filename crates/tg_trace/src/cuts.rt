@@ -20,7 +20,7 @@ pub(crate) struct Cut {
     pub(crate) places: Vec<u32>,
     pub(crate) body: Vec<Ts>,
     pub(crate) end: End,
-    /// The marks behind the loops that are around what is cut, the outermost first.
+    /// The marks after the loops that are around what is cut, the outermost first.
     pub(crate) exits: Vec<u32>,
 }
 

@@ -57,7 +57,7 @@ fn cut(alloc: Global, before: &mut Cut, statement: Ts) -> Result<(), Memory>
     }
 }
 
-/// Cuts a side of a choice, behind which both sides join, and gives its mark.
+/// Cuts a side of a choice, after which both sides join, and gives its mark.
 #[cycle(cutting)]
 fn cut_side(alloc: Global, before: &mut Cut, side: Ts, join: u32) -> Result<u32, Memory>
     ensures mark { IfOk result (λ mark. mark ≡
@@ -128,7 +128,7 @@ fn leaves(statement: &Ts) -> bool
     matches!(statement, Ts::Break(_) | Ts::Fault(_) | Ts::Return(_))
 }
 
-/// Where a break leads, of the marks behind the loops around it.
+/// Where a break leads, of the marks after the loops around it.
 fn exit_of(exits: &[u32], loops: u32) -> u32
     ensures { result ≡ cutting.exit_of exits.now loops }
 {

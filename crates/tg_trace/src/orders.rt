@@ -76,7 +76,7 @@ fn lay(laid: &mut [bool], place: u32)
     }
 }
 
-/// What comes behind the block at a place.
+/// What comes after the block at a place.
 fn onward_at(laid: &[bool], blocks: &[Block], place: u32) -> Option<u32>
     ensures { result ≡
         laying.onward laid.now (laying.block_at (plain_blocks blocks.now) place).end }
@@ -89,7 +89,7 @@ fn onward_at(laid: &[bool], blocks: &[Block], place: u32) -> Option<u32>
     }
 }
 
-/// What comes behind a block: where it leads that isn't laid, the true side of a branch first.
+/// What comes after a block: where it leads that isn't laid, the true side of a branch first.
 fn onward(laid: &[bool], end: &End) -> Option<u32>
     ensures { result ≡ laying.onward laid.now (plain_end end.now) }
 {

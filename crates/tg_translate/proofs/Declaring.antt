@@ -50,7 +50,7 @@ own_is : (hs : List Access) → own_homes hs ≡ drop 1 hs
 own_is [] = refl
 own_is (x ∷ hs) = refl
 
--- parameters, whose homes stand behind the link's
+-- parameters, whose homes stand after the link's
 pub params_begin : (level : ℕ) (ps : List Param) (hs : List Access) (seen : List (ℕ × Home)) →
     parameters level ps (own_homes hs) seen ≡ parameters level (drop 0 ps) (drop (0 + 1) hs) seen
 params_begin level ps hs seen = ap (λ gs. parameters level ps gs seen) (own_is hs)

@@ -217,7 +217,7 @@ arms_return :
     (returning (Compare rel.Less (Temp 1) (Const 3)) (Return (Const 1)) (Return (Const 0)))) ∷ []
 arms_return = refl
 
--- behind a loop it returns at its end alone
+-- after a loop it returns at its end alone
 abbrev looping : Exp → Exp
 looping e = seq (While sp (num 0) (seq []) ∷ e ∷ [])
 

@@ -1,4 +1,4 @@
--- Walks over lists of a tree: each part is translated behind those before it.
+-- Walks over lists of a tree: each part is translated after those before it.
 use Rattle.std.proofs.Common.{◌≡◌, ℕ, ◌+◌, ◌<◌, List, [], ◌∷◌, length, drop, get_or, refl, sym, ap, ◌∙◌, arith, Bool}
 use Rattle.std.proofs.Math.Seq.{drop-length}
 use Rattle.std.proofs.lemmas.List.{drop_more, get_or_default}

@@ -42,7 +42,7 @@ minus_one = 4294967295
 abbrev pub least_int : ℕ
 least_int = 2147483648
 
--- so many bytes behind an address
+-- so many bytes after an address
 abbrev pub plus : Tx → ℕ → Tx
 plus x zero = x
 plus x (suc n) = Binary Add x (Const (suc n))
@@ -102,7 +102,7 @@ frame_out kept zero = FrameAddress
 frame_out kept (suc zero) = own_link kept
 frame_out kept (suc (suc n)) = link_of (frame_out kept (suc n))
 
--- Places: where an l-value's value stands, behind the statements that check it.
+-- Places: where an l-value's value stands, after the statements that check it.
 
 pub data Storage : Type 0 where
   in_temp : ℕ → Storage
@@ -178,7 +178,7 @@ hold_place (at_address before a) = do
   h ← hold_address before a
   give (held_at h.before h.address)
 
--- its value, behind the checks that were made
+-- its value, after the checks that were made
 abbrev pub read_held : HeldPlace → Tx
 read_held (held_in_temp t) = Temp t
 read_held (held_at before a) = Load (held_address a)
@@ -214,7 +214,7 @@ quotient_check left right =
     (Both (Compare rel.Equal right (Const minus_one)) (Compare rel.Equal left (Const least_int)))
     overflow
 
--- Records and arrays: field k is the word 4·k bytes behind the record's address, an array's length
+-- Records and arrays: field k is the word 4·k bytes after the record's address, an array's length
 -- comes first.
 
 abbrev pub field_of : (field : ℕ) → Stms → (record_ : Tx) → Storage

@@ -44,7 +44,7 @@ abbrev pub declare_params : (level : ℕ) → List Param → List Access → Tra
 declare_params level params homes =
     λ s. drawn tt (record s { homes = parameters level params homes s.homes })
 
--- the homes behind the static link's
+-- the homes after the static link's
 abbrev pub own_homes : List Access → List Access
 own_homes [] = []
 own_homes (link ∷ homes) = homes
@@ -67,7 +67,7 @@ with_body f body = record {
   body = body;
 }
 
--- a function stands behind those that were done before it, and before those that are found in it
+-- a function stands after those that were done before it, and before those that are found in it
 abbrev pub finished : List (Function Ts) → (outer : Frame) → (inner : TranslationState) → Ts →
     TranslationState
 finished before outer inner body = record inner {

@@ -78,7 +78,7 @@ abbrev mutual
   test_has_loop (Both c d) = test_has_loop c || test_has_loop d
   test_has_loop (Either c d) = test_has_loop c || test_has_loop d
 
--- one statement behind another
+-- one statement after another
 abbrev pub in_turn : (first second : Ts) → Ts
 in_turn s t = Seq (stm s (stm t no_stms))
 
@@ -86,7 +86,7 @@ in_turn s t = Seq (stm s (stm t no_stms))
 abbrev pub returning : Cond → (this other : Ts) → Ts
 returning c s t = in_turn (when c s) t
 
--- of a value behind a statement: what gives back a temporary that it is, and else the value itself
+-- of a value after a statement: what gives back a temporary that it is, and else the value itself
 abbrev pub returned_behind : (first : Ts) → Tx → (from : ℕ → Ts) → (last : Ts) → Ts
 returned_behind s (Temp i) from last = from i
 returned_behind s _ from last = in_turn s last
@@ -102,7 +102,7 @@ abbrev mutual
   returned (After s x) = returned_behind s x (λ i. returned_from i s) (returned x)
   returned x = Return x
 
-  -- what a temporary holds behind a statement: a statement that puts a value there last gives that
+  -- what a temporary holds after a statement: a statement that puts a value there last gives that
   -- value back
   pub returned_from : (temp : ℕ) → Ts → Ts
   returned_from i (Move j x) =
@@ -116,7 +116,7 @@ abbrev mutual
   all_returned_from i (stm s ss) =
       returned_last s ss (returned_from i s) (all_returned_from i ss)
 
--- Loops use the registers that a return gives back, so behind one a function returns at its end
+-- Loops use the registers that a return gives back, so after one a function returns at its end
 -- alone.
 abbrev pub given_back : Tx → Ts
 given_back x = if value_has_loop x then Return x else returned x

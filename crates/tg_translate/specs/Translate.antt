@@ -262,14 +262,14 @@ module _ (findings : Findings) where
       y ← value_from (expression e want.Value within)
       element_place (assigns_nothing e) (read place) y
 
-    -- arguments, from the left, behind those before them
+    -- arguments, from the left, after those before them
     pub values : Exps → Txs → Within → Translates Txs
     values no_exps before within = give before
     values (exp e rest) before within = do
       x ← value_from (expression e want.Value within)
       values rest (join_txs before (tx x no_txs)) within
 
-    -- fields of a creation, from the left, which are kept behind those before them
+    -- fields of a creation, from the left, which are kept after those before them
     pub fields : Inits → (direct : Bool) → HeldAll → Within → Translates HeldAll
     fields no_inits direct before within = give before
     fields (init _ e rest) direct before within = do

@@ -94,7 +94,7 @@ abbrev pub is_none : Stms → Bool
 is_none no_stms = true
 is_none (stm s ss) = false
 
--- a statement behind others
+-- a statement after others
 abbrev pub followed : Stms → Ts → Stms
 followed ss s = join_stms ss (stm s no_stms)
 
@@ -104,7 +104,7 @@ value_behind ss x = value (After (Seq ss) x)
 abbrev pub done_behind : Want → Stms → Made → Made
 done_behind want ss m = done (Seq (followed ss (as_statement want m)))
 
--- what was made, behind statements
+-- what was made, after statements
 abbrev pub behind_some : Want → Stms → Made → Translates Made
 behind_some (Into t) ss m = give (done_behind (Into t) ss m)
 behind_some Dropped ss m = give (done_behind Dropped ss m)

@@ -33,7 +33,7 @@ fn routine_of(standard: Standard) -> Routine
     }
 }
 
-/// A call, by what it means. Its arguments are handed in behind room for the static link.
+/// A call, by what it means. Its arguments are handed in after room for the static link.
 pub(crate) fn call_by(
     state: &TranslationState,
     within: Within,

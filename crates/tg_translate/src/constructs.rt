@@ -32,7 +32,7 @@ pub(crate) fn bytes_of(words: u32) -> Result<u32, Memory>
     Ok(4 * words)
 }
 
-/// So many bytes behind an address.
+/// So many bytes after an address.
 pub(crate) fn plus(alloc: Global, address: Tx, bytes: u32) -> Result<Tx, Memory>
     ensures { IfOk result (λ x. plain_tx x ≡ constructs.plus (plain_tx address) bytes) }
 {

@@ -507,7 +507,7 @@ fn fields(
     Ok(operands)
 }
 
-// Expressions behind statements: all but the last are dropped, the last is what their place wants.
+// Expressions after statements: all but the last are dropped, the last is what their place wants.
 #[cycle(translation)]
 fn sequence(
     findings: &Findings,

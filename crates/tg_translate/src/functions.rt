@@ -58,7 +58,7 @@ pub(crate) fn begin(
     Ok(state.open(frame))
 }
 
-// The homes of parameters are those behind the static link's.
+// The homes of parameters are those after the static link's.
 fn declare_params(
     table: &mut Table<Home>,
     level: u32,

@@ -13,7 +13,7 @@ use std::alloc::Global;
 use tg_base::{Memory, Temp};
 use tg_tree::{Bin, Ts, Tx, binary, load};
 
-/// An address that is used twice, each time as a tree of its own: so many bytes behind or before
+/// An address that is used twice, each time as a tree of its own: so many bytes after or before
 /// the frame address or an operand, or an operand.
 #[derive(Clone, Copy)]
 pub enum HeldAddress {
@@ -107,7 +107,7 @@ pub(crate) fn hold_place(state: &mut TranslationState, place: Storage) -> Result
     }
 }
 
-/// The value of a place that is kept, behind the checks that were made.
+/// The value of a place that is kept, after the checks that were made.
 pub(crate) fn read_held(alloc: Global, place: &HeldPlace) -> Result<Tx, Memory>
     ensures { IfOk result (λ x. plain_tx x ≡ constructs.read_held (plain_held place.now)) }
 {

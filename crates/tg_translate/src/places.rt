@@ -21,7 +21,7 @@ use tg_frame::{Access, link_path};
 use tg_tree::{Ts, Tx, after, load, sequence};
 use tg_types::Means;
 
-/// Where an l-value's value stands: in a temporary, or at an address behind statements that check
+/// Where an l-value's value stands: in a temporary, or at an address after statements that check
 /// it.
 #[derive(Drop)]
 pub(crate) enum Storage {
@@ -194,7 +194,7 @@ pub(crate) fn field_number(meaning: Option<Means>) -> u32
     }
 }
 
-/// The place of a field of a record: field k is the word 4·k bytes behind its address.
+/// The place of a field of a record: field k is the word 4·k bytes after its address.
 pub(crate) fn field_place(
     state: &mut TranslationState,
     field: u32,

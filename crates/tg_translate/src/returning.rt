@@ -78,7 +78,7 @@ fn one_of(one: bool, other: bool) -> bool
     one || other
 }
 
-/// One statement behind another.
+/// One statement after another.
 pub(crate) fn in_turn(alloc: Global, first: Ts, second: Ts) -> Result<Ts, Memory>
     ensures { IfOk result (λ s. plain_ts s ≡
         returning.in_turn (plain_ts first) (plain_ts second)) }
@@ -115,7 +115,7 @@ fn returned(alloc: Global, value: Tx) -> Result<Ts, Memory>
     }
 }
 
-/// The statement that returns what a temporary holds behind a statement.
+/// The statement that returns what a temporary holds after a statement.
 #[cycle(returns)]
 fn returned_from(alloc: Global, from: Temp, done: Ts) -> Result<Ts, Memory>
     ensures { IfOk result (λ s. plain_ts s ≡

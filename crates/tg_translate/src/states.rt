@@ -103,7 +103,7 @@ impl TranslationState {
         }
     }
 
-    /// A function's text ends: it stands behind those before it, and before those found in it.
+    /// A function's text ends: it stands after those before it, and before those found in it.
     pub(crate) fn close(&mut self, outer: Outer, body: Ts) -> Result<(), Memory>
         ensures { OnOk result (state_of self.new ≡
             functions.finished (map plain_fragment outer.functions.items)

@@ -141,7 +141,7 @@ fn taken_from(alloc: Global, arms: Want, done: Ts) -> Result<Made, Memory>
     }
 }
 
-/// A value behind statements.
+/// A value after statements.
 pub(crate) fn value_behind(alloc: Global, before: Vec<Ts>, value: Tx) -> Result<Made, Memory>
     ensures { IfOk result (λ m. plain_made m ≡
         wants.value_behind (stms_of before.items) (plain_tx value)) }
@@ -157,7 +157,7 @@ pub(crate) fn is_none(statements: &[Ts]) -> bool
     statements.is_empty()
 }
 
-/// A statement behind others.
+/// A statement after others.
 #[tactic(auto, using(crate::proofs::Lists::pushed))]
 pub(crate) fn push(statements: &mut Vec<Ts>, last: Ts) -> Result<(), Memory>
     ensures { OnOk result (stms_of statements.new.items ≡
@@ -167,7 +167,7 @@ pub(crate) fn push(statements: &mut Vec<Ts>, last: Ts) -> Result<(), Memory>
     Ok(())
 }
 
-/// What was made, behind statements.
+/// What was made, after statements.
 pub(crate) fn behind(
     state: &mut TranslationState,
     want: Want,

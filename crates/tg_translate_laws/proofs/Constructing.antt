@@ -301,7 +301,7 @@ module _ {asks : Asks} {c : Where} where
       (λ held t st r' j. given (field_of k held.before (operand held.operand)) r'
       (field_good asks c.loops t k held.before (operand held.operand) j.0 (operand_good asks c.loops t held.operand j.1)))
 
-  -- two values are held, one behind the other
+  -- two values are held, one after the other
   module _ {A : Type 0} (W : TranslationState → A → Type 0) (direct : Bool) (x y : Tx) (next : Held → Held → Translates A)
       (made : (l h : Held) (t : TranslationState) → Ready asks c t → GoodOperand asks t l.operand → HeldWell asks c.loops t h → Yields asks c t W
       (next l h t)) where
@@ -313,7 +313,7 @@ module _ {asks : Asks} {c : Where} where
         bind (hold_yields true l.before y r' j.0 (tx_on st c.loops y k))
         (λ h u st' r'' i. made l h u r'' (operand_on st' l.operand j.1) i))
 
-  -- and something is made of them, behind the statements that keep them
+  -- and something is made of them, after the statements that keep them
   made_of_held : {A : Type 0} {s : TranslationState} (W : TranslationState → A → Type 0) (make : Stms → Tx → Tx → A) →
       ((t : TranslationState) (ss : Stms) (a b : Tx) → GoodStms asks c.loops t ss → GoodTx asks c.loops t a → GoodTx asks c.loops t b → W t (make ss a b)) →
       (direct : Bool) (x y : Tx) → Ready asks c s → GoodTx asks c.loops s x → GoodTx asks c.loops s y →

@@ -221,7 +221,7 @@ module _ (asks : Asks) where
       param_homed level p params slots temps n old (asks.findings.escapes (at_of p.name)) (params_homed level params n) refl
       h
 
-  -- behind the static link
+  -- after the static link
   abbrev homes_in : (kept : Bool) → List Param → List Access
   homes_in kept params = own_homes (homes_of (asked asks.findings.escapes kept params))
 

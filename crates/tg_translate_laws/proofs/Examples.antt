@@ -74,7 +74,7 @@ nested_escaping = refl
 nested_slots : map (λ f. f.slots) (translated nested_findings nested).functions ≡ 1 ∷ 2 ∷ 0 ∷ []
 nested_slots = refl
 
--- x is read and assigned two functions outwards: the frame that it stands in is found once, and kept behind g's own link
+-- x is read and assigned two functions outwards: the frame that it stands in is found once, and kept after g's own link
 nested_temps : map (λ f. f.temps) (translated nested_findings nested).functions ≡ 0 ∷ 0 ∷ 2 ∷ []
 nested_temps = refl
 

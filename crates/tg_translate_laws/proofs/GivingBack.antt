@@ -44,7 +44,7 @@ does_runs k =
 does_keeps : (k : ℕ) → Keeps (DoesSoMuchMore k) OneWorld OneTemps
 does_keeps k = keeps_one (DoesSoMuchMore k) (does_runs k)
 
--- as far as so much fuel, of runs whose calls and heads do as much more as what comes behind them
+-- as far as so much fuel, of runs whose calls and heads do as much more as what comes after them
 module _ (n : ℕ) (stage : Stage) (room : ℕ) (literals : List Literal) (enter : Enter) (later : Point → Run Ran)
     (enters : (k label : ℕ) (vs : List ℕ) (top : ℕ) (back back' : Back) (w w' : World) → OneWorld w w' →
     AlikeBack (DoesSoMuchMore k) OneWorld OneTemps n back back' → DoesSoMuchMore k n w (enter label vs top back w) (enter label vs top back' w'))
@@ -90,7 +90,7 @@ module _ (n : ℕ) (stage : Stage) (room : ℕ) (literals : List Literal) (enter
   same_around : (k : ℕ) (e : Around) → AlikeAround (DoesSoMuchMore k) OneWorld OneTemps n e e
   same_around k e = around e.activation e.out e.out e.back e.back (same_out k e.out) (same_back k e.back)
 
-  -- what comes behind a statement and behind a condition does as much more
+  -- what comes after a statement and after a condition does as much more
   behind_run : (k : ℕ) (s : Ts) (e : Around) (g g' : Next) (w : World) (t : Temps) → ((w1 : World) (t1 : Temps) → More k (g w1 t1) (g' w1 t1)) →
       More k (runs s e g w t) (runs s e g' w t)
   behind_run k s e g g' w t h =
@@ -147,7 +147,7 @@ module _ (n : ℕ) (stage : Stage) (room : ℕ) (literals : List Literal) (enter
       let w = y.work in
       record { output = y.output ∙ x.output; input = y.input ∙ x.input; stop = y.stop ∙ x.stop; work = omega (arith, v, w) }
 
-  -- a value behind a statement
+  -- a value after a statement
   behind : (s : Ts) (x : Tx) (e : Around) (next : Next) (w : World) (t : Temps) →
       ((i : ℕ) → More 16 (runs s e (back_from i e) w t) (runs (returned_from i s) e next w t)) →
       ((next' : Next) (w1 : World) (t1 : Temps) → More 16 (gives x e (back_with e) w1 t1) (runs (returned x) e next' w1 t1)) →
@@ -204,7 +204,7 @@ module _ (n : ℕ) (stage : Stage) (room : ℕ) (literals : List Literal) (enter
       DoesTheSame 1 0 (run stage room literals enter later (Return x) e next w t i) (run stage room literals enter later (given_back x) e next' w t i)
   given_back_does x = either (value_has_loop x) x
 
--- In runs of trees, calls and heads do as much more as what comes behind them.
+-- In runs of trees, calls and heads do as much more as what comes after them.
 module _ (stage : Stage) (code : Code Ts) (size : ℕ → ℕ) (floor room : ℕ) where
   abbrev goes : Point → Run Ran
   goes = going stage code size floor room

@@ -32,7 +32,7 @@ use Rattle.tg_translate_laws.specs.Standing.{ReachesBodies}
 use Rattle.tg_translate_laws.proofs.Fine.{Each}
 use Rattle.tg_translate_laws.proofs.Scoping.{named_cases, named_other, more_contained, first_contained}
 
--- Beginnings stand behind those before them, and differ.
+-- Beginnings stand after those before them, and differ.
 
 pub data Behind (xs : List ℕ) : List ℕ → Type 0 where
   here : Behind xs xs

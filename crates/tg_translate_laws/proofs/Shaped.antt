@@ -160,7 +160,7 @@ module _ (asks : Asks) (e : Exp) where
         (let i = count_of l in let j = contained_counts (λ f. f.label) h.shaped.rest l (h.shaped.called l c) in omega
         (arith, i, j))
 
-    -- With the runtime's functions behind them.
+    -- With the runtime's functions after them.
 
     module _ (routines : List (Function Ts))
         (labels : map (λ f. f.label) routines ≡ 0 ∷ 1 ∷ 2 ∷ 3 ∷ 4 ∷ 5 ∷ 6 ∷ 7 ∷ 8 ∷ 9 ∷ 10 ∷ 11 ∷ 12 ∷ [])

@@ -217,7 +217,7 @@ operation_added op.Times of_strings direct x y s = product_added direct x y s
 operation_added op.Divide of_strings direct x y s = quotient_added direct x y s
 operation_added o of_strings direct x y s = compared o of_strings x y s
 
--- Places, assignments, and what stands behind statements.
+-- Places, assignments, and what stands after statements.
 
 paid_field : (n k : ℕ) (x : Tx) (s : TranslationState) → PaidRead n x → Gives (PaidPlace (1 + n)) (field_place k x s)
 paid_field n k x s h =

@@ -69,7 +69,7 @@ pub record Takes {A : Type 0} (m : Cost) (V : A → Type 0) (s : TranslationStat
   pub texts : texts (left d) ≡ texts s ++ map string_text m.texts
   pub functions : Adds m.counts m.functions s (left d)
 
--- Lists that fit stay so, one behind another.
+-- Lists that fit stay so, one after another.
 
 zip_append : {A B : Type 0} (R : A → B → Type 0) (xs xs' : List A) (ys ys' : List B) → AllZip R xs ys → AllZip R xs' ys' → AllZip R (xs ++ xs') (ys ++ ys')
 zip_append R [] xs' [] ys' h k = k

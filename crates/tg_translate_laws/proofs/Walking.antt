@@ -142,7 +142,7 @@ module _ (asks : Asks) where
     choice_yields true w d r g h = connective_yields c s this then_this And w d r g h
     choice_yields false w d r g h = chosen_yields w d r g h
 
-  -- an assignment, where its value is translated to what is fine, also behind a read that is fine
+  -- an assignment, where its value is translated to what is fine, also after a read that is fine
   assignment_yields : (c : Where) (s : TranslationState) (reads_first : Bool) (p : Storage) (e : Want → Translates Made) (behind : Tx → Want → Translates Made) →
       Ready asks c s → GoodPlace asks c.loops s p → RightYields c s e →
       ((t : TranslationState) (x : Tx) (w : Want) → Ready asks c t → Step asks c.kept s t → GoodTx asks c.loops t x → GoodWant asks t w →

@@ -3,7 +3,7 @@ use Rattle.std.specs.Prelude.{◌++◌}
 use Rattle.tg_tree.specs.Tree.{Ts, Code}
 use Rattle.tg_runtime.specs.Routines.{runtime}
 
--- the functions and literals of a program, and behind them the runtime's
+-- the functions and literals of a program, and after them the runtime's
 abbrev pub with_runtime : Code Ts → Code Ts
 with_runtime program = record {
   functions = program.functions ++ runtime.functions;

@@ -19,7 +19,7 @@ ghost use Rattle.tg_translate_laws.specs.Laws.{
 use tg_runtime::routines_are_closed;
 use tg_types::{checked_has_type, notes_are_found};
 
-/// Laws of the labels of every program, whatever it means: with the runtime behind it, all labels
+/// Laws of the labels of every program, whatever it means: with the runtime after it, all labels
 /// of functions and literals differ, the body's is 32, each function that is called and each
 /// literal whose address is taken stands there, and each fault has a number of at most 20 bits.
 /// The program's own labels are 32 and above.

@@ -1,5 +1,5 @@
 -- What stands at the address of a location is read and assigned: the value there by its word, and
--- the invariant behind a store.
+-- the invariant after a store.
 use Rattle.std.proofs.Common.{◌≡◌, ◌≢◌, ℕ, zero, suc, ◌+◌, ◌-◌, ◌*◌, ◌%◌, ◌^◌, ◌<◌, ◌≤◌, ◌==◌, List, [], ◌∷◌, Option, Some, None, Bool, true, false, refl, sym, ap, ◌∙◌}
 use Rattle.std.proofs.Common.{arith, subst, inl, inr}
 use Rattle.std.specs.Prelude.{slice_get, slice_set, length, if◌then◌else◌}

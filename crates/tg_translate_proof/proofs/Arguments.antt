@@ -1,4 +1,4 @@
--- The arguments of a call, one behind another: what they are made, and what follows of them. Each leaves 46 units.
+-- The arguments of a call, one after another: what they are made, and what follows of them. Each leaves 46 units.
 use Rattle.std.proofs.Common.{◌≡◌, ℕ, suc, ◌+◌, ◌*◌, ◌≤◌, List, [], ◌∷◌, Bool, true, false, refl, sym, ap, ◌∙◌, arith, subst}
 use Rattle.std.specs.Prelude.{if◌then◌else◌}
 use Rattle.tg_syntax.specs.Tree.{Exp, Exps, no_exps, exp}
@@ -44,7 +44,7 @@ pub data AreMade (findings : Findings) (within : Within) : Exps → TranslationS
       AreMade findings within rest t xs u →
       AreMade findings within (exp e rest) s (tx x xs) u
 
--- they stand behind those that were made before them
+-- they stand after those that were made before them
 pub record Joined (findings : Findings) (within : Within) (es : Exps) (before : Txs) (s : TranslationState) (xs : Txs)
     (t : TranslationState) : Type 0 where
   pub own : Txs

@@ -53,14 +53,14 @@ dropped_only want.Dropped t = refl
 dropped_only want.Test e = cc
 
 module _ (P : Program) where
-  -- a statement behind others
+  -- a statement after others
   pub followed_runs : (p : Part) (ss : Stms) (y : Ts) (next : Next) (w : World) (t : Temps) →
       statements_run P p (followed ss y) p.around next w t ≡ statements_run P p ss p.around (λ w1 t1. statement_runs P p y p.around next w1 t1) w t
   followed_runs p ss y next w t =
       ap (λ (m : actions.Acts Next). m p.around next w t)
       (runs_in_turn Trees P.heap P.code.literals (calling P (frames_at P p)) (heads P (frames_at P p)) ss (stm y no_stms))
 
-  -- a store behind checks
+  -- a store after checks
   pub store_runs : (p : Part) (r n : ℕ) (source : Run Source) (before : Stms) (a y : Tx) (next : Next) (w : World) (t : Temps) →
       FollowsHere P r n source (statements_run P p before p.around (λ w1 t1. statement_runs P p (Store a y) p.around next w1 t1) w t) →
       FollowsHere P r n source (statement_runs P p (store_at before a y) p.around next w t)
@@ -138,7 +138,7 @@ module _ (P : Program) (set : Setting P) (premises : Premises P) (grow : StatesG
       holds = x.holds;
     }
 
-    -- what comes next, behind the assignment
+    -- what comes next, after the assignment
     abbrev OnwardHere : Next → Type 0
     OnwardHere next = Onward P {A = ℕ} n (x.r + left_over) x.p x.h x.types (λ g v u. IsLeft g want.Dropped v x.ty u) x.go (λ u w1 t1. next w1 t1)
 

@@ -1,4 +1,4 @@
--- The body of a declared function that is called: its frame is laid, its parameters are bound, and it is followed to behind its return.
+-- The body of a declared function that is called: its frame is laid, its parameters are bound, and it is followed until after its return.
 use Rattle.std.proofs.Common.{◌≡◌, ◌≢◌, ℕ, suc, ◌+◌, ◌<◌, ◌≤◌, ◌==◌, List, ◌∷◌, Some, Bool, true, false}
 use Rattle.std.proofs.Common.{refl, sym, ap, ◌∙◌, arith, subst}
 use Rattle.std.proofs.Common.{eq-eqb, ne_eqb, inl, inr}
@@ -106,7 +106,7 @@ module _ (P : Program) (set : Setting P) (grow : StatesGrow P) (x : Called P) wh
   abbrev pub K : IsSeenFunction P x.p.places x.types x.p.scene x.p.scene.level x.p.env.entries x.name x.at x.sig
   K = x.function
 
-  -- what comes behind the return, on both sides: nothing is said of a value that isn't one
+  -- what comes after the return, on both sides: nothing is said of a value that isn't one
   abbrev pub CallerOnward : (n r : ℕ) → (Value → Rest) → Back → Type 0
   CallerOnward n r go back =
       (g : Holdings) (types1 : List Ty) (v : Value) (u : ℕ) (s2 : SourceWorld) (w2 : World) → GrowsTo h g → Extends types types1 →
@@ -163,7 +163,7 @@ module _ (P : Program) (set : Setting P) (grow : StatesGrow P) (x : Called P) wh
   level_is : K.done.within.level + 1 ≡ suc K.l
   level_is = let e = K.done.inner in omega (arith, e)
 
-  -- The translation of its text: where its parameters are declared, what its body is made, and the state behind that.
+  -- The translation of its text: where its parameters are declared, what its body is made, and the state after that.
   abbrev pub begun : TranslationState
   begun = record (opened_state K.done.before (frame_for label (asked P.findings.escapes kept_link K.ps))) {
     homes = parameters (K.done.within.level + 1) K.ps (own_homes (homes_of (kept_link ∷ bools))) K.done.before.homes;
@@ -444,7 +444,7 @@ module _ (P : Program) (set : Setting P) (grow : StatesGrow P) (x : Called P) wh
           literals = holds.literals;
         }
 
-        -- behind the return: what the caller has again
+        -- after the return: what the caller has again
         caller_holds : (g : Holdings) (types1 : List Ty) (s2 : SourceWorld) (w2 : World) (t2 : Temps) → Holds P part g types1 s2 w2 t2 →
             Holds P p g types1 (drop_weight weight (go_back s2)) (without_slots f top w2) t
         caller_holds g types1 s2 w2 t2 x =
@@ -462,7 +462,7 @@ module _ (P : Program) (set : Setting P) (grow : StatesGrow P) (x : Called P) wh
         abbrev pub goes_on : (Value → Rest) → Value → Rest
         goes_on go v s2 = go v (drop_weight weight (go_back s2))
 
-        -- the body is followed, from its begin to behind its return
+        -- the body is followed, from its begin until after its return
         body_follows : (n r : ℕ) (go : Value → Rest) (next : Next) → Shown P n K.e → CallerOnward n r go back →
             FollowsHere P (r + 20) n (rest_run (evaluates P K.e part.env (goes_on go) (ends stuck)) B.s)
             (statement_runs P part K.done.text around_body next world_in temps_in)
@@ -501,7 +501,7 @@ module _ (P : Program) (set : Setting P) (grow : StatesGrow P) (x : Called P) wh
             (λ g types1 v u s2 w2 t2 gg ee hh st. onward g types1 v u (drop_weight weight (go_back s2)) (without_slots f top w2) gg
             (λ i a e. ee i a (B.extends i a e)) (caller_holds g types1 s2 w2 t2 hh) st)
 
-      -- The function behind the unit of fuel.
+      -- The function after the unit of fuel.
       module _ (back : Back) where
         abbrev pub around_it : Around
         around_it = outermost (record { base = top; size = size }) (λ v w2. back v (without_slots f top w2))

@@ -1,5 +1,5 @@
--- A call of a declared function behind its arguments: its link is right, its frame is within the stack or its weight above the limit,
--- and its body is followed behind a unit of fuel.
+-- A call of a declared function after its arguments: its link is right, its frame is within the stack or its weight above the limit,
+-- and its body is followed after a unit of fuel.
 use Rattle.std.proofs.Common.{[], ◌≡◌, ℕ, suc, ◌+◌, ◌<◌, ◌≤◌, List, ◌∷◌, Some, Bool, true, false}
 use Rattle.std.proofs.Common.{refl, sym, ap, ◌∙◌, arith, subst}
 use Rattle.std.proofs.Common.{inl, inr, ltb-true, lt-ltb}
@@ -144,7 +144,7 @@ module _ (P : Program) (set : Setting P) (grow : StatesGrow P) (x : Called P) wh
     entered_run = entered P.size (floor P) (fuelled
         (run_linked_body Trees P.code P.size (floor P) P.heap P.level (going P) (frames_of c.chain K.l))) (Some f) words top back w
 
-    -- what the source does behind the weight and the depth
+    -- what the source does after the weight and the depth
     abbrev turn_run : (Value → Rest) → Rest → Run Source
     turn_run go out = rest_run (with_turn (behind P.heap P.stack (run_function K.l source_function K.seen vs) go out))
         (go_deeper (add_weight weight s))
@@ -192,7 +192,7 @@ module _ (P : Program) (set : Setting P) (grow : StatesGrow P) (x : Called P) wh
         homes_length true bs = ap suc (homes_many 1 0 bs)
         homes_length false bs = ap suc (homes_many 0 1 bs)
 
-    -- The stack is full, or the function is followed: the call of a declared function, behind its arguments.
+    -- The stack is full, or the function is followed: the call of a declared function, after its arguments.
     pub call_follows : (n r q : ℕ) (go : Value → Rest) (out : Rest) → ((m : ℕ) → m < n → Shown P m K.e) → HaveValues sig.params →
         StandAll h vs sig.params us →
         r + 20 + marked_entry_units (length words) ≤ q → bodies.CallerOnward P set grow x n r go back →

@@ -197,7 +197,7 @@ module _ (P : Program) (set : Setting P) (grow : StatesGrow P) (n : ℕ) where
       abbrev hops : ℕ
       hops = x.p.scene.level - K.l
 
-      -- what the source does behind the levels
+      -- what the source does after the levels
       abbrev calls : List Value → Rest
       calls vs = evaluation.call Passing (passing P.heap P.stack) (behind P.heap P.stack)
           (to_function K.l (record { params = K.ps; body = K.e }) K.seen) vs x.go x.out
@@ -254,7 +254,7 @@ module _ (P : Program) (set : Setting P) (grow : StatesGrow P) (n : ℕ) where
       abbrev known : Arguments P set grow n (Call sp f args) x args sig.params
       known = arguments_known args sig.params shown has_all K.done.params_have_values x.words x.covers.1 x.may_assign
 
-      -- what comes behind the arguments
+      -- what comes after the arguments
       abbrev enters_with : Go ℕ → Go (List ℕ)
       enters_with go' us w2 t2 =
           calling P (frames_at P x.p) callee.label.0 (x.p.scene.chain K.l ∷ us) (x.p.around.activation.base - x.p.around.activation.size)

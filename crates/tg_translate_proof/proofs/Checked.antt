@@ -61,7 +61,7 @@ labelled_there [] f c = absurd (omega (arith, c.1))
 labelled_there (g ∷ fs) f (zero, l, e) = let one : same g.label f.label ≡ 1 = subst (λ h. same g.label h.label ≡ 1) e (same_self g.label) in omega (arith, one)
 labelled_there (g ∷ fs) f (suc i, l, e) = let h = labelled_there fs f (i, omega arith, e) in omega (arith, h)
 
--- a function whose label stands once is found by it, also where more come behind it
+-- a function whose label stands once is found by it, also where more come after it
 pub function_there : (fs gs : List (Function Ts)) (f : Function Ts) → Contains fs f → labelled f.label fs ≤ 1 → function_of f.label (fs ++ gs) ≡ Some f
 function_there [] gs f c few = absurd (omega (arith, c.1))
 function_there (g ∷ fs) gs f (zero, l, e) few =

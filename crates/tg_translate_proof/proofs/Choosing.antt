@@ -201,7 +201,7 @@ module _ (P : Program) (set : Setting P) (grow : StatesGrow P) (n : ℕ) where
     abbrev pub piece_b : Piece P set grow n E_ x b types_.1
     piece_b = record { shown = show_b; typed = types_.4; words = x.words.2; covers = x.covers.2; may_assign = (may_parts x.may_assign).2 }
 
-    -- the run behind the node's own cost
+    -- the run after the node's own cost
     abbrev pub source_ : Run Source
     source_ = rest_run (evaluates P c x.p.env (λ v. chooses P v (λ g o. evaluates P a x.p.env g o) (λ g o. evaluates P b x.p.env g o) x.go x.out) x.out) x.s
 
@@ -271,7 +271,7 @@ module _ (P : Program) (set : Setting P) (grow : StatesGrow P) (n : ℕ) where
         (λ d l. expression_dropped E_ c side_c x piece_c a types_.0 piece_a q.sa σ1 q.τa l q.made_a (later_on q.τa q.τb x.τ lb lx) next onward d)
         (λ d l. expression_dropped E_ c side_c x piece_c b types_.1 piece_b q.sb q.τa q.τb (later_on x.σ σ1 q.τa l la) q.made_b lx next onward d)
 
-    -- the temporary that is drawn behind the test is in no use
+    -- the temporary that is drawn after the test is in no use
     fresh_idle : (cond : Cond) (σ1 : TranslationState) → condition_from (λ s. expression P.findings c want.Test x.p.within s) x.σ ≡ drawn cond σ1 →
         (q : ArmsInto σ1.frame.temps (with_frame (one_temp σ1.frame) σ1) (λ s t. value (tree.After (tree.If cond s t) (Temp σ1.frame.temps)))) →
         x.p.places (temporary x.p.scene.depth σ1.frame.temps) ≡ nowhere

@@ -48,7 +48,7 @@ module _ (P : Program) (set : Setting P) (grow : StatesGrow P) (n : ℕ) (sp : S
     abbrev and_right : Piece P set grow n and_E x b int_type
     and_right = record { shown = show_b; typed = type_b; words = x.words.1; covers = x.covers.1; may_assign = may_right P x.p sp op.And at a b x.may_assign }
 
-    -- the run behind the node's own cost
+    -- the run after the node's own cost
     abbrev and_run : Run Source
     and_run = rest_run (evaluates P a x.p.env (λ v. chooses P v (λ g o. evaluates P b x.p.env g o) (λ g o. g (int 0)) x.go x.out) x.out) x.s
 
@@ -119,7 +119,7 @@ module _ (P : Program) (set : Setting P) (grow : StatesGrow P) (n : ℕ) (sp : S
     abbrev or_right : Piece P set grow n or_E x b int_type
     or_right = record { shown = show_b; typed = type_b; words = x.words.1; covers = x.covers.1; may_assign = may_right P x.p sp op.Or at a b x.may_assign }
 
-    -- the run behind the node's own cost
+    -- the run after the node's own cost
     abbrev or_run : Run Source
     or_run = rest_run (evaluates P a x.p.env (λ v. chooses P v (λ g o. g (int 1)) (λ g o. evaluates P b x.p.env g o) x.go x.out) x.out) x.s
 

@@ -50,7 +50,7 @@ use Rattle.tg_translate_proof.proofs.Whiling.{at_head}
 use Rattle.tg_translate_proof.proofs.Over.{placed}
 use Rattle.tg_translate_proof.proofs.Homes.{HomeAt, temp_home, slot_home, HasWord, CanStore, read_home, write_home, home_begins, home_stays}
 
--- What is the same in all turns of a loop: where it stands, its parts, and what comes behind it.
+-- What is the same in all turns of a loop: where it stands, its parts, and what comes after it.
 pub record Counted (P : Program) (n : ℕ) : Type 0 where
   pub p : Part
   pub x : Ident
@@ -87,7 +87,7 @@ module _ (P : Program) (set : Setting P) (grow : StatesGrow P) (n : ℕ) (c : Co
   abbrev pub looping : Rest
   looping = evaluation.run Passing (passing P.heap P.stack) (behind P.heap P.stack) job c.go c.out
 
-  -- what comes behind a turn's body, by whether the bound is reached
+  -- what comes after a turn's body, by whether the bound is reached
   abbrev stops_here : Passing Value
   stops_here g o = g nothing
 
@@ -126,7 +126,7 @@ module _ (P : Program) (set : Setting P) (grow : StatesGrow P) (n : ℕ) (c : Co
       slice_get s.variables c.place ≡ Some (int z) → slice_get ms c.place ≡ Some int_type → add u 1 ≡ z →
       FollowsHere P (c.r + 70) m (rest_run looping s) (statement_runs P c.p (tree.Loop turn_) c.p.around c.next w t)
 
-  -- What is known of its body, and of what comes behind the loop.
+  -- What is known of its body, and of what comes after the loop.
   pub record Turns : Type 0 where
     pub shown : (m : ℕ) → m ≤ n → Shown P m c.body
     pub typed : Has P.shapes P.notes c.body body_part.scope none_type
@@ -161,7 +161,7 @@ module _ (P : Program) (set : Setting P) (grow : StatesGrow P) (n : ℕ) (c : Co
     abbrev arms_ : Bool → Next
     arms_ b w t = (if b then statement_runs P c.p nothing_done else statement_runs P c.p (tree.Break 0)) inside_loop head_ w t
 
-    -- behind a turn's body: the bound is reached, or the loop goes on
+    -- after a turn's body: the bound is reached, or the loop goes on
     behind_turn : (m : ℕ) → m ≤ n → ((j : ℕ) → j < m → LoopAt j) → (g : Holdings) (ms : List Ty) (v : Value) (s : SourceWorld) (w : World)
         (t : Temps) → GrowsTo c.h g → Extends c.types ms → slice_get ms c.place ≡ Some int_type →
         Holds P body_part g ms s w t →

@@ -1,4 +1,4 @@
--- A new record behind the taken heap: its block has the words of its fields, and it stands there while all that held stays.
+-- A new record after the taken heap: its block has the words of its fields, and it stands there while all that held stays.
 use Rattle.std.proofs.Common.{◌≡◌, ◌≢◌, ℕ, zero, suc, ◌+◌, ◌-◌, ◌*◌, ◌%◌, ◌/◌, ◌^◌, ◌<◌, ◌≤◌, List, [], ◌∷◌, ◌++◌, length, Some, Bool, true, false, refl, sym, ap, ◌∙◌, arith, subst, eqb-true, eq-eqb, ltb-true}
 use Rattle.std.specs.Prelude.{if◌then◌else◌, nat_lt, ◌==◌, All, replicate, slice_get}
 use Rattle.std.proofs.lemmas.Bool.{lt-ltb}
@@ -186,7 +186,7 @@ module _ (P : Program) (set : Setting P) (p : Part) (h : Holdings) (types : List
       let stack = set.stack_small in
       omega (arith, room, stack)
 
-  -- the words of a record's fields, and so many zeros behind them
+  -- the words of a record's fields, and so many zeros after them
   pub record_added : (at : ℕ) (fs : List (ℕ × Ty)) → looked_up at P.shapes ≡ Some (record_shape fs) → (parts : List (ℕ × Value)) (us : List ℕ)
       (z : ℕ) → FieldsStand h parts fs us → z % 4 ≡ 0 → 0 < length us + z →
       length w.memory.heap + length (record_block us z) ≤ P.heap →

@@ -1,4 +1,4 @@
--- A new array behind the taken heap: what its block holds, and that it stands there while all that held stays.
+-- A new array after the taken heap: what its block holds, and that it stands there while all that held stays.
 use Rattle.std.proofs.Common.{◌≡◌, ◌≢◌, ℕ, zero, suc, ◌+◌, ◌-◌, ◌*◌, ◌%◌, ◌/◌, ◌^◌, ◌<◌, ◌≤◌, List, [], ◌∷◌, ◌++◌, length, Some, Bool, true, false, refl, sym, ap, ◌∙◌, arith, subst, eqb-true, eq-eqb, ne_eqb, ltb-true}
 use Rattle.std.specs.Prelude.{if◌then◌else◌, nat_lt, ◌==◌, All, replicate, slice_get}
 use Rattle.std.specs.Int.{to_le_bytes, w32}
@@ -25,7 +25,7 @@ use Rattle.tg_translate_proof.specs.Situations.{Program, Part, Setting, Holds, f
 use Rattle.tg_translate_proof.proofs.Blocks.{AreOwned, Fills, with_objects, with_object, object_grows, objects_more, load_new, in_block, get_last}
 use Rattle.tg_translate_proof.proofs.Standing.{stands_grows, text_grows}
 
--- Words of parts, by offsets: the word of number k is part k, behind a first word in an array.
+-- Words of parts, by offsets: the word of number k is part k, after a first word in an array.
 
 abbrev spot : (inside aligned first : Bool) → (count object index : ℕ) → Stored
 spot inside aligned first n r k =
@@ -150,7 +150,7 @@ stands_small P set p h types s w t x own _ _ _ ne (an_array r at count a e) =
     omega (arith, k, taken, most)
 stands_small P set p h types s w t x own _ _ _ ne (no_value v) = absurd (ne refl)
 
--- A new object, behind the taken heap: it stands there, and all that held does.
+-- A new object, after the taken heap: it stands there, and all that held does.
 pub record HasObject (P : Program) (p : Part) (h : Holdings) (types : List Ty) (s : SourceWorld) (w : World) (t : Temps)
     (block : List ℕ) (made : Made) (object : Object) : Type 0 where
   pub g : Holdings

@@ -1,4 +1,4 @@
--- A variable is declared: its value is put into its home, and what stands behind sees it; and where
+-- A variable is declared: its value is put into its home, and what stands after sees it; and where
 -- its block ends its home is in no use again.
 use Rattle.std.proofs.Common.{◌≡◌, ◌≢◌, ℕ, zero, suc, ◌+◌, ◌-◌, ◌*◌, ◌%◌, ◌<◌, ◌≤◌, ◌==◌, List, [], ◌∷◌, ◌++◌, Option, Some, None, Bool, true, false, refl, sym, ap, ◌∙◌}
 use Rattle.std.proofs.Common.{arith, subst, inl, inr, eq-eqb, append_assoc}
@@ -79,7 +79,7 @@ module _ (P : Program) (set : Setting P) where
     pub apart_slots : (k : ℕ) → σ.frame.slots ≤ k → k < τ.frame.slots → cell (slot p.scene.activation.base k) ≢ key
     pub apart_temps : (i : ℕ) → σ.frame.temps ≤ i → i < τ.frame.temps → temporary p.scene.depth i ≢ key
 
-  -- what stands behind a declaration is ready
+  -- what stands after a declaration is ready
   pub ready_with : (p : Part) (types ms : List Ty) (σ τ u : TranslationState) (x : Ident) (ty : Ty) (loop : Bool) (place : ℕ) (access : Access) (key : Key) → IsReady P p types σ τ → Extends types ms → Later σ u → Later u τ →
       Home_at p u τ x access key → HasValues ty → slice_get ms place ≡ Some ty → IsReady P (with_home p x ty loop place key) ms u τ
   ready_with p types ms σ τ u x ty loop place access key ready ee l1 l2 home values type_is =
@@ -130,7 +130,7 @@ module _ (P : Program) (set : Setting P) where
     abbrev pub new_place : (rest : (place : ℕ) → Rest) → Value → Rest
     new_place rest v w = rest (length w.variables) (add_variable v w)
 
-    -- the moment behind the declaration of its home
+    -- the moment after the declaration of its home
     abbrev at_value : (s : TranslationState) → Later k.σ s → Later s k.τ → Standing P set grow n
     at_value s l1 l2 = record {
       p = k.p;
@@ -151,7 +151,7 @@ module _ (P : Program) (set : Setting P) where
     abbrev asked_there : (s : TranslationState) (l1 : Later k.σ s) (l2 : Later s k.τ) → Asked P set grow n (at_value s l1 l2) e from
     asked_there s l1 l2 = record { shown = shown; typed = typed; words = words; covers = covers; may_assign = may_assign }
 
-    -- What stands behind a declaration.
+    -- What stands after a declaration.
     pub record Declared (u : TranslationState) (place : ℕ) (key : Key) (g : Holdings) (ms : List Ty) (s : SourceWorld) (w : World) (t : Temps) : Type 0 where
       pub grows : GrowsTo k.h g
       pub extends : Extends k.types ms

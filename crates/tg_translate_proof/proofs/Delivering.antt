@@ -1,4 +1,4 @@
--- What is made behind statements, as a place wants it; and sequences of expressions.
+-- What is made after statements, as a place wants it; and sequences of expressions.
 use Rattle.std.proofs.Common.{◌≡◌, ◌≢◌, ℕ, ◌+◌, ◌<◌, ◌≤◌, List, Option, Some, Bool, true, false, refl, sym, ap, ◌∙◌, arith, subst, inl, inr}
 use Rattle.std.specs.Prelude.{◌⊎◌}
 use Rattle.tg_base.specs.declared.ids.Span.{Span}
@@ -33,7 +33,7 @@ use Rattle.tg_translate_proof.proofs.Assigning.{followed_runs}
 use Rattle.tg_translate_proof.proofs.Asking.{Standing}
 use Rattle.tg_translate_proof.proofs.Sequencing.{AllShown, AllMayAssign, SequenceFollows, MadeWithin, AskedAll, MadeInTurn, made_in_turn, sequence_follows, onward_here, evaluates_all}
 
--- states grow where something is put behind statements
+-- states grow where something is put after statements
 pub behind_some_later : (w : Want) (ss : Stms) (m : Made) (s t : TranslationState) (o : Made) → behind_some w ss m s ≡ drawn o t → Later s t
 behind_some_later (want.Into j) ss m s t o e = subst (λ u. Later s u) (ap state_in e) (later_none s)
 behind_some_later want.Dropped ss m s t o e = subst (λ u. Later s u) (ap state_in e) (later_none s)

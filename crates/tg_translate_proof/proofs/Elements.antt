@@ -324,7 +324,7 @@ module _ (P : Program) (set : Setting P) (premises : Premises P) (grow : StatesG
         element_of (join_stms (le_of storage s3) (held_as y (sh_of storage s3) (holding y)).extra) (operand (lo_of storage s3)) (operand (held_as y
         (sh_of storage s3) (holding y)).operand)
 
-    -- what comes next behind the check of the index, by both operands
+    -- what comes next after the check of the index, by both operands
     abbrev pub TailOnward : (j : ℕ) → (Operand → Operand → Next) → Type 0
     TailOnward j tail =
         (g : Holdings) (ms : List Ty) (s4 : SourceWorld) (w4 : World) (t4 : Temps) (l o : Operand) (u z : ℕ) (k : Location) → GrowsTo x.h g → Extends x.types ms →
@@ -387,7 +387,7 @@ module _ (P : Program) (set : Setting P) (premises : Premises P) (grow : StatesG
         worked P (x.r + left_over + 14) (x.r + left_over + j + 40) j n (rest_run (x.go k) s4) (value_runs P x.p (element (operand l) (operand o)) x.p.around go' w4 t4) (omega arith)
         (addressed x.p l o u z (x.r + left_over) n (rest_run (x.go k) s4) go' w4 t4 is_l is_o few fits (onward g ms k (u + 4 + 4 * z) s4 w4 t4 gg ee hh at)))
 
-    -- the index is held behind the array
+    -- the index is held after the array
     abbrev after_hold : Stms → Operand → Tx → Translates Storage
     after_hold before a y s = after (hold true before y s) (λ (h : Held) s2. drawn (element_of h.before (operand a) (operand h.operand)) s2)
 

@@ -1,4 +1,4 @@
--- What both sides have at the entry of a function whose parameters are bound, and behind its return.
+-- What both sides have at the entry of a function whose parameters are bound, and after its return.
 use Rattle.std.proofs.Common.{[], ◌≡◌, ◌≢◌, ℕ, suc, ◌+◌, ◌*◌, ◌<◌, ◌≤◌, ◌==◌, List, ◌∷◌, ◌++◌, Some, Bool, true, false}
 use Rattle.std.proofs.Common.{refl, sym, ap, ◌∙◌, arith, subst}
 use Rattle.std.proofs.Common.{eq-eqb, eqb-true, inl, inr}
@@ -362,7 +362,7 @@ variables_same h types s s1 m ts (cell a) (kept l u) e x = absurd x
 variables_same h types s s1 m ts (temporary d i) (kept l u) e x = (x.0, (x.1.0, x.1.1, ap (λ o. slice_get o l) e ∙ x.1.2, x.1.3, x.1.4))
 variables_same h types s s1 m ts k (fixed u) e x = x
 
--- Behind a return the frame is closed, and the caller has what it had.
+-- After a return the frame is closed, and the caller has what it had.
 module _ (P : Program) (set : Setting P) (p q : Places) (top slots low d : ℕ) (room : HasRoom (floor P) p top slots low d) (c : ℕ) (t0 : Temps)
     (outer : AllTemps) (h : Holdings) where
   same_word : (types : List Ty) (m : Memory) (t : Temps) (k : Key) → p k ≢ nowhere →

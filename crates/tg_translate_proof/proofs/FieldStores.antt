@@ -1,4 +1,4 @@
--- The stores of a record's fields, one behind another: zeros behind the taken heap become the words of the fields.
+-- The stores of a record's fields, one after another: zeros after the taken heap become the words of the fields.
 use Rattle.std.proofs.Common.{◌≡◌, ℕ, zero, suc, ◌+◌, ◌*◌, ◌%◌, ◌^◌, ◌<◌, ◌≤◌, List, [], ◌∷◌, ◌++◌, length, Option, Some, Bool, true, false, refl, sym, ap, ◌∙◌, arith, subst}
 use Rattle.std.specs.Prelude.{replicate}
 use Rattle.std.proofs.lemmas.List.{length-append, append_assoc}

@@ -54,7 +54,7 @@ hold_loaded direct before no_stms a s = refl
 hold_loaded direct before (stm y ys) a s = refl
 
 module _ (P : Program) where
-  -- so many bytes behind the address in a temporary
+  -- so many bytes after the address in a temporary
   pub plus_follows : (p : Part) (i a m q n : ℕ) (c : Run Source) (go' : Go ℕ) (w : World) (t : Temps) → t i ≡ Some a → a + m < 2 ^ 32 →
       FollowsHere P q n c (go' (a + m) w t) → FollowsHere P (q + 3) n c (value_runs P p (plus (Temp i) m) p.around go' w t)
   plus_follows p i a zero q n c go' w t has small f =

@@ -197,7 +197,7 @@ module _ (P : Program) (set : Setting P) (grow : StatesGrow P) (owns : Owns P) (
         whole = j.3;
       }
 
-  -- what the source does behind both
+  -- what the source does after both
   abbrev made_of : List Value → Rest
   made_of (v ∷ y ∷ []) = E.int_of Passing (passing P.heap P.stack) v (λ k. E.make_array Passing (passing P.heap P.stack) k y x.go x.out) x.out
   made_of _ = x.out

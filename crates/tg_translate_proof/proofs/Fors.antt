@@ -85,7 +85,7 @@ module _ (P : Program) (set : Setting P) (grow : StatesGrow P) (n : ℕ) (sp : S
         by (inl f) = cc
         by (inr f) = f
 
-    -- what both bounds are behind, with the loop's body
+    -- what comes after both bounds, with the loop's body
     module _ (escapes : Bool) (s4 s6 : TranslationState) (m : Made) (first : Later x.σ s4)
         (made : expression P.findings a want.Dropped (in_body x.p.within) (home_state escapes x.p i s4) ≡ drawn m s6)
         (bound : ℕ) (behind_body : s6.frame.temps ≤ bound) (bound_drawn : bound < x.τ.frame.temps) (last : Later s6 x.τ)
@@ -172,7 +172,7 @@ module _ (P : Program) (set : Setting P) (grow : StatesGrow P) (n : ℕ) (sp : S
       above_there : (p : Part) (g : Holdings) (ms : List Ty) (s : SourceWorld) (w : World) (t : Temps) → Holds P p g ms s w t → (b : ℕ) → g.at b ≢ unknown → cell b ≢ key
       above_there p g ms s w t hh = no_heap P set p key g ms s w t hh h0.above
 
-      -- behind the bounds, where the variable is new
+      -- after the bounds, where the variable is new
       module _ (g : Holdings) (ms : List Ty) (s : SourceWorld) (z place : ℕ) (grows : GrowsTo x.h g) (extends : Extends x.types ms)
           (old : (k : Key) (l : ℕ) → IsOf l (x.p.places k) → l < place) where
         abbrev counted : Counted P n

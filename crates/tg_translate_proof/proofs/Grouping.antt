@@ -41,7 +41,7 @@ abbrev pub GiveBack : FunDecs → List Signature → Type 0
 GiveBack (function f ps r e rest) (s ∷ ss) = GivesBack (is_some r) s.result × GiveBack rest ss
 GiveBack _ _ = Unit {0}
 
--- the state behind the declaration of one function
+-- the state after the declaration of one function
 abbrev one_declared : (level : ℕ) → Ident → TranslationState → TranslationState
 one_declared level f s = record s { label = s.label + 1; callees = (at_of f, record { level = level; label = record { 0 = s.label } }) ∷ s.callees }
 

@@ -110,7 +110,7 @@ first_word (word b) f u e = (b, refl, e)
 first_word (stops_by s) f u e = cc
 
 module _ (P : Program) where
-  -- an address behind its base, which is kept
+  -- an address after its base, which is kept
   kept_follows : (p : Part) (f : ℕ) (op : Bin) (x : Tx) (m u j r q n : ℕ) (c : Run Source) (go : Go ℕ) (w : World) (t : Temps) → operator_units op (Const m) ≤ 2 →
       IsFlat x → AddressIs P p w t (Binary op x (Const m)) u → r + j + expression_length Trees x + 6 ≤ q →
       ((b : ℕ) → AddressIs P p w (set_temp f b t) (Binary op (Temp f) (Const m)) u → FollowsHere P r n c (go u w (set_temp f b t))) →

@@ -160,7 +160,7 @@ module _ (P : Program) (set : Setting P) (grow : StatesGrow P) where
       worked P r (r + 2) 0 n c (with_word (t i.0) w (λ u. go u w t)) (omega arith) (subst (λ o. FollowsHere P r n c (with_word o w (λ u. go u w t)))
       (sym is) f)
 
-  -- Behind an expression that is held: what comes next is told the operand, which is its word then.
+  -- After an expression that is held: what comes next is told the operand, which is its word then.
   abbrev pub HeldOnward : (n r : ℕ) → Part → Holdings → List Ty → Ty → (Value → Rest) → (Operand → Type 0) → (Operand → Next) → Type 0
   HeldOnward n r p h types ty go Right next =
       (g : Holdings) (ms : List Ty) (v : Value) (z : ℕ) (s : SourceWorld) (w : World) (t : Temps) (o : Operand) → GrowsTo h g → Extends types ms →

@@ -119,7 +119,7 @@ module _ {A B : Type 0} (next : A → Passing B) (s : SourceWorld) (h : (a : A) 
   bound_does (gives a) go out n = (h a).does go out n
   bound_does (costing k o) go out n = ap (λ z. costs k z) (bound_does o go out n)
 
-  -- one behind another
+  -- one after another
   pub idle_then : (m : Passing A) → IsIdle m s → IsIdle (λ go out. m (λ a. next a go out) out) s
   idle_then m x = record { o = bound_to x.o; does = λ go out n. x.does (λ a. next a go out) out n ∙ bound_does x.o go out n }
 

@@ -54,7 +54,7 @@ join_none no_stms b e = (refl, e)
 join_none (stm s ss) b e = absurd (no_statement s (join_stms ss b) e)
 
 module _ (P : Program) where
-  -- statements behind others
+  -- statements after others
   pub joined_runs : (p : Part) (a b : Stms) (next : Next) (w : World) (t : Temps) →
       statements_run P p (join_stms a b) p.around next w t ≡ statements_run P p a p.around (λ w1 t1. statements_run P p b p.around next w1 t1) w t
   joined_runs p a b next w t =

@@ -106,7 +106,7 @@ module _ (P : Program) (set : Setting P) (grow : StatesGrow P) where
   abbrev pub declares : Decs → Env → (Env → Rest) → Rest → Rest
   declares ds env go out = evaluation.declare Passing (passing P.heap P.stack) (behind P.heap P.stack) ds env go out
 
-  -- What stands behind declarations.
+  -- What stands after declarations.
   pub record Opened (n : ℕ) (k : Standing P set grow n) (ds : Decs) (inner : Scope) (u : TranslationState) (env : Env) (places : Places) (g : Holdings) (ms : List Ty) (s : SourceWorld) (w : World) (t : Temps) : Type 0 where
     pub grows : GrowsTo k.h g
     pub extends : Extends k.types ms
@@ -215,7 +215,7 @@ module _ (P : Program) (set : Setting P) (grow : StatesGrow P) where
   with_functions_loop (source.function f ps r e rest) [] scope = refl
   with_functions_loop (source.function f ps r e rest) (s ∷ ss) scope = with_functions_loop rest ss _
 
-  -- what stands behind declarations, from a moment further on
+  -- what stands after declarations, from a moment further on
   pub opened_further : (n : ℕ) (k : Standing P set grow n) (d : Decs) (rest : Decs) (scope inner : Scope) (v u : TranslationState) (env env2 : Env) (places places2 : Places) (g g2 : Holdings) (ms ms2 : List Ty) (s s2 : SourceWorld) (w w2 : World) (t t2 : Temps) →
       (gg : GrowsTo k.h g) (ee : Extends k.types ms) (loop : scope.in_loop ≡ k.p.scope.in_loop) (ready : IsReady P (inside k.p scope env places) ms v k.τ) (holds : Holds P (inside k.p scope env places) g ms s w t)
       (back : (g3 : Holdings) (ms3 : List Ty) (s3 : SourceWorld) (w3 : World) (t3 : Temps) → Holds P (inside k.p scope env places) g3 ms3 s3 w3 t3 → Holds P k.p g3 ms3 s3 w3 t3) →

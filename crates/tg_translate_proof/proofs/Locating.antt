@@ -164,7 +164,7 @@ module _ (P : Program) where
     pub ty : Ty
     pub p : Part
     pub σ : TranslationState  -- before its translation
-    pub τ : TranslationState  -- behind it
+    pub τ : TranslationState  -- after it
     pub storage : Storage  -- what it is made
     pub h : Holdings
     pub types : List Ty
@@ -199,7 +199,7 @@ module _ (P : Program) where
       (g : Holdings) (ms : List Ty) (l : Location) (u : ℕ) (s : SourceWorld) (w : World) (t : Temps) → GrowsTo h g → Extends types ms → Holds P p g ms s w t →
       IsAt P p.places g ms l ty u → AddressIs p w t a u → FollowsHere P r n (rest_run (go l) s) (go' u w t)
 
-  -- what follows of an address behind checks, where what comes next may count on it
+  -- what follows of an address after checks, where what comes next may count on it
   abbrev pub ToldFollows : (n r : ℕ) → Part → Holdings → List Ty → Ty → (Location → Rest) → Run Source → World → Temps → Stms → Tx → Type 0
   ToldFollows n r p h types ty go source w t before a =
       (j : ℕ) (go' : Go ℕ) → ToldOnward n (r + left_over) p h types ty a go go' →
@@ -213,8 +213,8 @@ module _ (P : Program) where
     pub has_values : HasValues ty
     pub pays : (d : Run Ran) → FollowsHere P (r + 256) n (rest_run (go (in_variable place)) s) d → FollowsHere P r n source d
 
-  -- What follows of an l-value's storage: where it has an address, this comes behind its checks, and
-  -- behind so many units as a load or a store charges first.
+  -- What follows of an l-value's storage: where it has an address, this comes after its checks, and
+  -- after so many units as a load or a store charges first.
   abbrev pub StorageFollows : (n r : ℕ) → Part → Holdings → List Ty → Ty → (Location → Rest) → Run Source → SourceWorld → World → Temps → Storage → Type 0
   StorageFollows n r p h types ty go source s w t (in_temp i) = IsOwn n r p types ty go source s i
   StorageFollows n r p h types ty go source s w t (at_address before a) =

@@ -207,7 +207,7 @@ module _ (P : Program) where
   abbrev pub MadeF : (n r : ℕ) → Part → Holdings → List Ty → Want → Ty → (Value → Rest) → Run Source → World → Temps → Made → Type 0
   MadeF = shown.MadeFollows P
 
-  -- with more credit, or behind work
+  -- with more credit, or after work
   pub more : (r q n : ℕ) (c : Run Source) (d : Run Ran) → r ≤ q → Fol r n c d → Fol q n c d
   more r q n c d le f = follows_with_credit P.stack tree_work r q n c d le f
 

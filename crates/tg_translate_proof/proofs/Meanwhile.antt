@@ -49,7 +49,7 @@ held_how direct (Call l xs) = as_kept (Call l xs) (λ b s. refl)
 held_how direct (Service n x) = as_kept (Service n x) (λ b s. refl)
 held_how direct (After y x) = as_kept (After y x) (λ b s. refl)
 
--- what it makes behind other statements
+-- what it makes after other statements
 pub held_is : (direct : Bool) (before : Stms) (x : Tx) (s : TranslationState) (lh : LeftHeld direct x) →
     hold direct before x s ≡
     drawn (record { before = join_stms before (left_extra direct x s lh); operand = left_operand direct x s lh }) (left_state direct x s lh)
@@ -281,7 +281,7 @@ module _ (P : Program) (set : Setting P) (grow : StatesGrow P) (n : ℕ) where
   named_place k e ty q go (done y) s1 s2 i looked_up made = cc
   named_place k e ty q go (test c) s1 s2 i looked_up made = cc
 
-  -- Behind an expression that is held: what comes next is told the operand, and where its word stays meanwhile.
+  -- After an expression that is held: what comes next is told the operand, and where its word stays meanwhile.
   abbrev pub HeldOn : (k : Standing P set grow n) (direct : Bool) (sh : TranslationState) (ty : Ty) → (Value → Rest) → (Operand → Next) → Type 0
   HeldOn k direct sh ty go next =
       (g : Holdings) (ms : List Ty) (v : Value) (u : ℕ) (s : SourceWorld) (w : World) (t : Temps) (l : Operand) → GrowsTo k.h g →

@@ -165,7 +165,7 @@ pub laid_as_array : (h : Holdings) (shapes : List (ℕ × Shape)) (m : Memory) (
 laid_as_array h shapes m r a _ _ _ (laid_array at t values shape few length_is each) =
     record { t = t; values = values; is = refl; counted = refl; shape = shape; few = few; length_is = length_is; each = each }
 
--- The invariant behind a store to a part.
+-- The invariant after a store to a part.
 module _ (shapes : List (ℕ × Shape)) (room floor : ℕ) (p : Places) (h : Holdings) (types : List Ty) (s : SourceWorld) (w w' : World) (ts : AllTemps)
     (inv : Invariant shapes room floor p h types s w ts) (r a u v : ℕ) (made : Made) (y : Object) (k : ℕ) (is_part : h.at u ≡ part r k) (below : heap_base + length w.memory.heap ≤ floor)
     (has : slice_get h.objects r ≡ Some (a, made)) (stored : IsStored w.memory w'.memory u v) (input : w'.input ≡ w.input) (laid : IsLaid h shapes w'.memory r a made y) where

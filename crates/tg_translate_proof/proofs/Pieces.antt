@@ -41,7 +41,7 @@ StatesGrow P =
     (e : Exp) (wanted : Want) (within : _) (m : Made) (s t : TranslationState) →
     expression P.findings e wanted within s ≡ drawn m t → Later s t
 
--- with more credit, or behind work
+-- with more credit, or after work
 pub more : (P : Program) (r q n : ℕ) (c : Run Source) (d : Run Ran) → r ≤ q → FollowsHere P r n c d → FollowsHere P q n c d
 more P r q n c d le f = follows_with_credit P.stack tree_work r q n c d le f
 
@@ -129,7 +129,7 @@ module _ (P : Program) (set : Setting P) (grow : StatesGrow P) (n : ℕ) (E : Ex
     holds = x.holds;
   }
 
-  -- what both sides have behind a part that was evaluated from a moment on
+  -- what both sides have after a part that was evaluated from a moment on
   pub record Behind (k : Moment) : Type 0 where
     pub h : Holdings
     pub types : List Ty

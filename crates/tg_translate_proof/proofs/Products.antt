@@ -208,7 +208,7 @@ module _ (P : Program) (set : Setting P) (grow : StatesGrow P) where
     quotient_small : (u z : ℕ) → exact_quotient u z ≡ Some (quot u z) → quot u z < 2 ^ 32
     quotient_small u z e = within_small (int_div (signed u) (signed z)) (quot u z) e
 
-    -- behind both operands
+    -- after both operands
     abbrev quotient_next : Go ℕ → Operand → Operand → Next
     quotient_next go' l r w t =
         statements_run P x.p (stm (zero_check (operand r)) no_stms) x.p.around

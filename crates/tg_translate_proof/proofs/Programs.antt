@@ -129,7 +129,7 @@ module _ (P : Program) (set : Setting P) (names : List (List ℕ)) (body : Exp) 
   abbrev go : Value → Rest
   go v = ends (ended normal)
 
-  -- what comes of the source behind the weight of the body
+  -- what comes of the source after the weight of the body
   abbrev source : Run Source
   source = rest_run (evaluates P body env go (ends stuck)) (first_source weight input)
 
@@ -192,7 +192,7 @@ module _ (P : Program) (set : Setting P) (names : List (List ℕ)) (body : Exp) 
     never_kept : (i place u : ℕ) → part.places (temporary 0 i) ≢ kept place u
     never_kept i place u e = cc
 
-    -- the body's statement, and the return behind it
+    -- the body's statement, and the return after it
     body_follows : (n : ℕ) → ExpressionFollows P n → FollowsHere P tree_besides n source (statement_runs P part f.body around (λ w t. wrong w) world no_temps)
     body_follows n follows =
         let x : Situation P n body = record {

@@ -58,7 +58,7 @@ module _ (P : Program) (set : Setting P) (premises : Premises P) where
         stands = subst (λ o. Stands h y.2.0 o y.0) (some_same y.2.1 ty (sym y.2.3 ∙ type_is)) y.2.4;
       }
 
-  -- what comes next behind a value, on both sides
+  -- what comes next after a value, on both sides
   abbrev pub ValueOnward : (n r : ℕ) → Part → Holdings → List Ty → Ty → (Value → Rest) → Go ℕ → Type 0
   ValueOnward n r p h types ty go go' = Onward P {A = ℕ} n r p h types (λ g v u. Stands g v ty u) go go'
 

@@ -1,4 +1,4 @@
--- The creation of a record where it stands: the values of its fields are held one behind another, and then it is made.
+-- The creation of a record where it stands: the values of its fields are held one after another, and then it is made.
 use Rattle.std.proofs.Common.{◌≡◌, ◌≢◌, ℕ, suc, ◌+◌, ◌*◌, ◌<◌, ◌≤◌, ◌==◌, List, [], ◌∷◌, ◌++◌, length, Some, Bool, true, false, refl, sym, ap, ◌∙◌, arith, subst, inl, inr, ne_eqb}
 use Rattle.std.specs.Prelude.{◌⊎◌, if◌then◌else◌, ◌&&◌}
 use Rattle.std.proofs.lemmas.List.{append-nil, append_assoc}
@@ -71,7 +71,7 @@ pub data FieldsHeld (findings : Findings) (within : Within) (direct : Bool) :
       FieldsHeld findings within direct rest (left_state direct x s2 lh) u ss os →
       FieldsHeld findings within direct (init f e rest) s u (join_stms (left_extra direct x s2 lh) ss) (left_operand direct x s2 lh ∷ os)
 
--- they stand behind those that were held before them
+-- they stand after those that were held before them
 pub record HeldFields (findings : Findings) (within : Within) (direct : Bool) (inits : Inits) (before : HeldAll) (s : TranslationState)
     (all : HeldAll) (t : TranslationState) : Type 0 where
   pub extra : Stms

@@ -166,7 +166,7 @@ module _ (P : Program) (frames : List ℕ) (e : Around) (n : ℕ) where
       (calls_relate P (Less k) (less_keeps k) n frames) (heads_relate P (Less k) (less_keeps k) n frames) s e e g g' (itself k e)
       (one_next k g g' h) w w t t (one w) (one t)
 
-  -- what comes of a value does at least what a return of it does; what comes behind a statement, of a temporary
+  -- what comes of a value does at least what a return of it does; what comes after a statement, of a temporary
   abbrev GoesBack : Go ℕ → Type 0
   GoesBack go = (v : ℕ) (w : World) (t : Temps) → Less 0 n w (go v w t) (e.back v w)
 
@@ -179,7 +179,7 @@ module _ (P : Program) (frames : List ℕ) (e : Around) (n : ℕ) where
       let back : Go ℕ = λ v w1 t1. e.back v w1 in
       less_second 0 16 16 n w (vals x e go w t) (vals x e back w t) (omega arith) (value_less 0 x go back w t h)
 
-  -- a temporary that is returned behind a statement
+  -- a temporary that is returned after a statement
   at_last : (i : ℕ) (k : Next) (next : Next) (w : World) (t : Temps) → ReadsBack i k → Less 16 n w (k w t) (does (Return (Temp i)) e next w t)
   at_last i k next w t h =
       let back : Run Ran = with_word (t i) w (λ v. e.back v w) in
@@ -214,7 +214,7 @@ module _ (P : Program) (frames : List ℕ) (e : Around) (n : ℕ) where
   by_test Q true x y h k = h refl
   by_test Q false x y h k = k
 
-  -- a temporary that is read behind its own move has what was moved
+  -- a temporary that is read after its own move has what was moved
   set_reads : (i j : ℕ) (k : Next) → (i == j) ≡ true → ReadsBack i k → GoesBack (λ v w1 t1. k w1 (set_temp j v t1))
   set_reads i j k e1 h v w1 t1 =
       subst (λ o. Less 0 n w1 (k w1 (set_temp j v t1)) (with_word o w1 (λ u. e.back u w1))) (ap (λ b. if b then Some v else t1 i) e1)

@@ -38,7 +38,7 @@ pub body_wantable : (b : Bool) (ty result : Ty) → Fits ty result → GivesBack
 body_wantable true ty result fits gives = fitting_values ty result fits gives
 body_wantable false ty result fits gives = tt
 
--- states only grow behind a body
+-- states only grow after a body
 pub closing_later : (b : Bool) (m : Made) (s t : TranslationState) (text : Ts) → closing b m s ≡ drawn text t → Later s t
 closing_later true m s t text e =
     let i = after_inv (value_of m s) _ text t e in
@@ -47,7 +47,7 @@ closing_later false m s t text e = subst (λ o. Later s o) (ap state_in e) (late
 
 module _ (P : Program) (n r : ℕ) (p : Part) (h : Holdings) (types : List Ty) (ty result : Ty)
     (go : Value → Rest) (source : Run Source) (w : World) (t : Temps) where
-  -- what comes behind its return, on both sides: nothing is said of a value that isn't one
+  -- what comes after its return, on both sides: nothing is said of a value that isn't one
   abbrev pub Returned : Type 0
   Returned =
       (g : Holdings) (types1 : List Ty) (v : Value) (u : ℕ) (s1 : SourceWorld) (w1 : World) (t1 : Temps) → GrowsTo h g → Extends types types1 →

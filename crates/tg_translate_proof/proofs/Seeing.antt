@@ -128,7 +128,7 @@ module _ (P : Program) where
         later (not_there n e2) =
             one_of_group f ps (is_some r) body s rest outer.bindings (name_of f == x) d.0 w.0 r refl n e2
 
-  -- what is seen behind one more entry is found where that is another's
+  -- what is seen after one more entry is found where that is another's
   beyond_entry : (places : Places) (types : List Ty) (c : Scene) (level more : ℕ) (es fs : List Entry) (x : ℕ) (b : Binding) → level ≤ more →
       find x fs ≡ find x es → IsSeen places types c level es x b → IsSeen places types c more fs x b
   beyond_entry places types c level more es fs x (variable_at at t loop) le e h = record {

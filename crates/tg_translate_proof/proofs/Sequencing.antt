@@ -108,7 +108,7 @@ in_turn_grows P grow wanted _ _ _ _ _ _ (a_last within e s m t made) = grow e wa
 in_turn_grows P grow wanted _ _ _ _ _ _ (a_dropped within e f rest s one u ss m t made turn) =
     later_on s u t (grow e want.Dropped within one s u made) (in_turn_grows P grow wanted within (exp f rest) u ss m t turn)
 
--- What follows of what is made, with these units before and behind.
+-- What follows of what is made, with these units before and after.
 abbrev pub MadeWithin : (P : Program) (n low high : ℕ) → Part → Holdings → List Ty → Want → Ty → (Value → Rest) → Run Source → World → Temps → Made → Type 0
 MadeWithin P n low high p h types wanted ty go source w t (value x) =
     (go' : Go ℕ) → Onward P n low p h types (λ g v u. IsWanted g wanted v ty u) go go' → FollowsHere P high n source (value_runs P p x p.around go' w t)
@@ -201,7 +201,7 @@ module _ (P : Program) (set : Setting P) (grow : StatesGrow P) where
         (onward_here n k.r (k.r + 56) k (λ g v u. Unit {0}) go (λ u w1 t1. next w1 t1) (omega arith) onward);
   }
 
-  -- the moment behind one that is dropped
+  -- the moment after one that is dropped
   abbrev moved : (n : ℕ) (k : Standing P set grow n) (σ2 : TranslationState) (g : Holdings) (ms : List Ty) (s2 : SourceWorld) (w2 : World) (t2 : Temps) →
       GrowsTo k.h g → Extends k.types ms → Later k.σ σ2 → Later σ2 k.τ → Holds P k.p g ms s2 w2 t2 → Standing P set grow n
   moved n k σ2 g ms s2 w2 t2 gg ee l1 l2 hh = record {

@@ -50,7 +50,7 @@ may_right P p sp o at a b (inr f) = inr f
 
 module _ (P : Program) (set : Setting P) (grow : StatesGrow P) (n : ℕ) (E a b : Exp) (side : LeftSide P n a)
     {made_by : Want → Within → Translates Made} (x : SituationBy P n E made_by) where
-  -- what the sides are made, one behind the other, and what is made of them
+  -- what the sides are made, one after the other, and what is made of them
   pub record Sides (F : Tx → Tx → Translates Made) : Type 0 where
     pub left : Tx
     pub τa : TranslationState

@@ -52,7 +52,7 @@ module _ (P : Program) (n : ℕ) where
   break_typed : (sp : Span) (scope : Scope) (t : Ty) → Has P.shapes P.notes (Break sp) scope t → scope.in_loop ≡ true
   break_typed sp scope t (has.break e) = e
 
-  -- what comes behind a break comes
+  -- what comes after a break comes
   pub break_shown : (sp : Span) → Shown P n (Break sp)
   break_shown sp x =
       by_made P n (Break sp) x (done (tree.Break x.p.within.leave)) x.σ x.is_made tt

@@ -1,5 +1,5 @@
 -- Expressions that begin with a read whose value is known: operators, the left one of the left one and
--- so on, up to that read. Each is shown as it is translated behind the read.
+-- so on, up to that read. Each is shown as it is translated after the read.
 use Rattle.std.proofs.Common.{◌≡◌, ℕ, ◌+◌, ◌≤◌, List, Bool, true, false, refl, sym, ap, ◌∙◌, arith, subst}
 use Rattle.tg_base.specs.declared.ids.Span.{Span}
 use Rattle.tg_syntax.specs.declared.trees.Op.{Op}

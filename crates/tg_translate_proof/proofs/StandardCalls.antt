@@ -221,7 +221,7 @@ module _ (P : Program) (set : Setting P) (grow : StatesGrow P) (owns : Owns P) (
             sym (ap (λ o. after (call x.p.within o i.0 i.1) (λ y. give (value y))) (set.found (at_of f) (means.Standard one) says)) ∙ i.3;
       }
 
-  -- what the source does behind its arguments
+  -- what the source does after its arguments
   abbrev calls_it : List Value → Rest
   calls_it vs = E.runtime Passing (passing P.heap P.stack) (E.call_standard Passing (passing P.heap P.stack) one vs) x.go x.out
 

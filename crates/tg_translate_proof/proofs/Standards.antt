@@ -112,7 +112,7 @@ string_has_no_part : (bytes : List ℕ) (o r i : ℕ) → string_at bytes o ≡ 
 string_has_no_part bytes o r i e =
     where_no_part (nat_lt o (length (string_block bytes))) (o % 4 == 0) (word_at (string_block bytes) o) r i e
 
--- A new string, behind the taken heap: it stands there, and all that held does.
+-- A new string, after the taken heap: it stands there, and all that held does.
 pub record HasString (P : Program) (p : Part) (h : Holdings) (types : List Ty) (s : SourceWorld) (w : World) (t : Temps)
     (bytes : List ℕ) : Type 0 where
   pub g : Holdings
@@ -181,7 +181,7 @@ module _ (P : Program) (set : Setting P) (p : Part) (scene : IsScene (floor P) P
   abbrev pub back : Back
   back v w1 = go' v w1 t
 
-  -- what comes behind the call, which weighs no more
+  -- what comes after the call, which weighs no more
   abbrev pub go_on : Value → Rest
   go_on v s1 = go v (drop_weight runtime_weight s1)
 
@@ -199,7 +199,7 @@ module _ (P : Program) (set : Setting P) (p : Part) (scene : IsScene (floor P) P
   CallFollows one us m =
       FollowsHere P (r + 252) n (rest_run (weighed P set m) s) (calling P (frames_at P p) (label_of one) us (top_of P set p) back w)
 
-  -- the world behind a call that changes nothing
+  -- the world after a call that changes nothing
   pub closed : Holds P p h types (drop_weight runtime_weight opened) w t
   closed =
       let is = x.weight in

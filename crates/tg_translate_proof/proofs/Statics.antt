@@ -94,7 +94,7 @@ pub texts_are_bytes : (ss : List (List ℕ)) → AllBytes ss → AllBytes (map s
 texts_are_bytes [] h = tt
 texts_are_bytes (s ∷ ss) h = (text_is_bytes s h.0, texts_are_bytes ss h.1)
 
--- a string's own bytes, behind its length
+-- a string's own bytes, after its length
 text_bytes : (bytes : List ℕ) → AreBytes (string_text bytes) → AreBytes bytes
 text_bytes bytes h k d lt =
     let long = length-append (to_le_bytes w32 (length bytes)) bytes in

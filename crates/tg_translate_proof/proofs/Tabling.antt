@@ -354,7 +354,7 @@ module _ (table : Table) (weight : (at : ℕ) → ℕ) where
         HaveCallees n label fs → InTable (state_in d) → AreWeighed (declared_functions n seen fs) →
         DeclaresFunctions (HasVariable table) (IsWeighed table weight) n seen fs × AreTied (declared_functions n seen fs) s.functions (state_in d).functions
 
-  -- a group, and what comes behind it
+  -- a group, and what comes after it
   pub group_shows : {A : Type 0} {L : ℕ →
       ℕ} {K : List Measures} {E : Type 0} (n : ℕ) (seen : Levels) (fs : FunDecs) (s : TranslationState) (d : Translated (Unit {0})) (next : Unit {0} → Translates A) →
       ShowsBodies n s.label seen fs d (state_by n fs s) → ((t : TranslationState) → Shows L K E (next tt t) t) →
@@ -420,7 +420,7 @@ module _ (table : Table) (weight : (at : ℕ) → ℕ) where
       Shows N M D d (opened s (frame_for label asks)) → IsOwned M s (state_in (finish s d))
   one_owned_body {d = drawn x u} label asks s h = h.owned
 
-  -- a body, and those behind it
+  -- a body, and those after it
   pub bodies_then : {N : ℕ →
       ℕ} {D : Type 0} {d : Translated Ts} (n label : ℕ) (seen : Levels) (f : Ident) (ps : List Param) (r : Option Ident) (e : Exp) (rest : FunDecs)
       (asks : List Bool)

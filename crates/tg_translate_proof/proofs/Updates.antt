@@ -90,7 +90,7 @@ module _ (findings : Findings) (within : Within) where
       by : (m : Option Means) → variable_place within m s ≡ drawn storage t → variable_place within m t ≡ drawn storage t
       by m e = subst (λ o. variable_place within m o ≡ drawn storage t) (state_stays m e) e
 
-  -- Behind a read of a variable comes what the expression is made, where the variable is read so.
+  -- After a read of a variable comes what the expression is made, where the variable is read so.
   pub behind_is : (e : Exp) (x : Ident) (storage : Storage) (s : TranslationState) (wanted : Want) → begins_with findings.meaning e (Simple x) ≡ true →
       variable_place within (findings.meaning (at_of x)) s ≡ drawn storage s → behind_read findings e (read storage) wanted within s ≡ expression findings e wanted within s
   behind_is (Read _ (Simple y)) x storage s wanted e found =

@@ -217,7 +217,7 @@ module _ (P : Program) (set : Setting P) (premises : Premises P) (grow : StatesG
       able : typed_.u ≢ none_type
       able = fits_has_values typed_.u typed_.t typed_.fits (has_values P set premises grow n sp v e show_v show_e x)
 
-      -- the value, behind the place
+      -- the value, after the place
       value_at : (g : Holdings) (ms : List Ty) (l : Location) (u : ℕ) (s : SourceWorld) (w : World) (t : Temps) → GrowsTo x.h g → Extends x.types ms → Holds P x.p g ms s w t →
           IsAt P x.p.places g ms l typed_.t u → AddressIs P x.p w t (held_address hd.address) u → IsFound P n v leaf_.w leaf_.same x.p.env s l → (go' : Go ℕ) →
           Onward P {A = ℕ} n (x.r + 150 + 56) x.p g ms (λ h2 val z. Stands h2 val typed_.u z) (writes l) go' →

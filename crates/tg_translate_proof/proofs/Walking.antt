@@ -85,7 +85,7 @@ module _ (table : Table) (weight : (at : ℕ) → ℕ) (findings : Findings) whe
       (connective_shows table weight this_shows op.And w c s)
   choice_shows n seen b this other this_shows other_shows false w e c s = chosen_shows table weight this_shows other_shows w c s
 
-  -- from the state behind an action without a value
+  -- from the state after an action without a value
   from_state : {A : Type 0} {N : ℕ → ℕ} {M : List Measures} {D : Type 0} {s : TranslationState} (d : Translated (Unit {0})) (next : Unit {0} → Translates A) →
       Shows table weight N M D (next tt (state_in d)) s → Shows table weight N M D (after d next) s
   from_state (drawn x u) next h = h

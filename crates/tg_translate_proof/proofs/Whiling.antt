@@ -130,7 +130,7 @@ module _ (P : Program) (set : Setting P) (grow : StatesGrow P) where
     abbrev job : evaluation.Job
     job = evaluation.repeat_while c a x.p.env
 
-    -- the source's loop from its head on, and what comes behind its test
+    -- the source's loop from its head on, and what comes after its test
     abbrev head_source : Rest
     head_source = evaluation.run Passing (passing P.heap P.stack) (behind P.heap P.stack) job x.go x.out
 
@@ -162,7 +162,7 @@ module _ (P : Program) (set : Setting P) (grow : StatesGrow P) where
           (g : Holdings) (ms : List Ty) (s : SourceWorld) (w : World) (t : Temps) → GrowsTo x.h g → Extends x.types ms → Holds P x.p g ms s w t →
           FollowsHere P (x.r + 24) m (rest_run head_source s) (statement_runs P x.p (tree.Loop turn_) x.p.around next w t)
 
-      -- behind the loop
+      -- after the loop
       goes_on : (m : ℕ) → m ≤ n → (g : Holdings) (ms : List Ty) (s : SourceWorld) (w : World) (t : Temps) → GrowsTo x.h g → Extends x.types ms → Holds P x.p g ms s w t →
           FollowsHere P (x.r + left_over) m (rest_run (x.go nothing) s) (next w t)
       goes_on m le g ms s w t gg ee hh = follows_less P.stack tree_work (x.r + left_over) m n (rest_run (x.go nothing) s) (next w t) le (onward g ms nothing 0 s w t gg ee hh tt)

@@ -74,8 +74,8 @@ module _ (P : Program) where
   abbrev pub FollowsHere : (r n : ℕ) → Run Source → Run Ran → Type 0
   FollowsHere r n c d = Follows P.stack tree_work r n c d
 
-  -- What comes next on both sides, at every grown heap: behind a value and what stands for it, and
-  -- behind a break.
+  -- What comes next on both sides, at every grown heap: after a value and what stands for it, and
+  -- after a break.
   abbrev pub Onward : {A : Type 0} → (n r : ℕ) → Part → Holdings → List Ty →
       (Holdings → Value → A → Type 0) → (Value → Rest) → Go A → Type 0
   Onward n r p h types stands go go' =
@@ -121,13 +121,13 @@ module _ (P : Program) where
     pub wanted : Want
     pub p : Part
     pub σ : TranslationState  -- before its translation
-    pub τ : TranslationState  -- behind it
+    pub τ : TranslationState  -- after it
     pub m : Made  -- what it is made
     pub h : Holdings  -- what the heap has when it begins
     pub types : List Ty  -- the types of the variables then
     pub r : ℕ  -- units that are left from before
     pub go : Value → Rest  -- what comes next in the source
-    pub out : Rest  -- what comes behind a break
+    pub out : Rest  -- what comes after a break
     pub s : SourceWorld
     pub w : World
     pub t : Temps

@@ -20,7 +20,7 @@ pub record IsSuffix {A : Type 0} (whole rest : List A) : Type 0 where
   pub more : List A
   pub whole_is : whole ≡ more ++ rest
 
--- A state on the way to a finished code: what it has found is behind what comes, and the literals
+-- A state on the way to a finished code: what it has found is after what comes, and the literals
 -- and functions that are done stand in the code.
 pub record IsMoment (table : Table) (code : Code Ts) (s : TranslationState) : Type 0 where
   pub homes : IsSuffix table.homes s.homes

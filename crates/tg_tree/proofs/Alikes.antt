@@ -23,7 +23,7 @@ pub around_is : (e : Around) (out : Out) (back : Back) → ((k : ℕ) (w : World
     ((v : ℕ) (w : World) (n : ℕ) → e.back v w n ≡ back v w n) → e ≡ record e { out = out; back = back }
 around_is e out back h k = λ i. record { activation = e.activation; out = λ j w t n. h j w t n i; back = λ v w n. k v w n i }
 
--- statements that are put together run one behind the other
+-- statements that are put together run one after the other
 module _ (stage : Stage) (room : ℕ) (literals : List Literal) (enter : Enter) (later : Point → Run Ran) where
   pub runs_in_turn : (ss ts : Stms) → run_all stage room literals enter later (join_stms ss ts) ≡
       (run_all stage room literals enter later ss >> run_all stage room literals enter later ts)

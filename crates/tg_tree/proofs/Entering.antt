@@ -18,7 +18,7 @@ module _ (R : Related) (W : RelatedWorlds) (T : RelatedTemps) (n : ℕ) where
       (s : Body) (e e' : Around) (w x : World) (t u : Temps) → AlikeAround R W T n e e' → W w x → T t u → R n w (runner s e w t) (runner' s e' x u)
 
 module _ (R : Related) (W : RelatedWorlds) (T : RelatedTemps) (keeps : Keeps R W T) where
-  -- a call runs the body behind a unit of fuel
+  -- a call runs the body after a unit of fuel
   pub keep_call_in :
       {Body : Type 0} (size : ℕ → ℕ) (floor n : ℕ) (units : ℕ → ℕ) (runner runner' : Runner Body) (functions : List (Function Body)) →
       ((m : ℕ) → m < n → BodiesKeep R W T m runner runner') →

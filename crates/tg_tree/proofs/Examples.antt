@@ -102,7 +102,7 @@ record_made : alone (sequence (Move 0 (Service 9 (Const 7)) ∷ Store (Temp 0) (
     print (Binary Mul (Load (Temp 0)) (Load (Binary Add (Temp 0) (Const 4)))) ∷ Return (Const 0) ∷ [])) ≡ finished (30 ∷ [])
 record_made = refl
 
--- a literal is read byte by byte, behind another one
+-- a literal is read byte by byte, after another one
 literal_read : does (fun 32 [] 0
     (sequence (Do (Service 11 (LoadByte (Address 41))) ∷ Do (Service 11 (LoadByte (Binary Add (Address 41) (Const 1)))) ∷
     Do (Service 4 (Address 40)) ∷ Return (Const 0) ∷ [])) ∷ []) (record { label = 40; text = codes "abc" } ∷

@@ -1,4 +1,4 @@
--- A run of a flat expression is its value, behind exactly the units that it spends until then.
+-- A run of a flat expression is its value, after exactly the units that it spends until then.
 use Rattle.std.proofs.Common.{◌≡◌, ℕ, ◌+◌, ◌≤◌, List, Option, Some, None, refl, sym, ap, ◌∙◌, arith}
 use Rattle.tg_simulation.specs.Runs.{Run}
 use Rattle.tg_simulation.specs.Ran.{Ran, stops, works}

@@ -39,7 +39,7 @@ plain_ts-Seq ss =
     let row = stms_row (Seq ss) in
     ap tree.Seq (plain_stms-items row.0 row.1 ∙ ap stms_of (items_hidden-the_row-Ts-0 ss.items))
 
--- one behind another, and one more at the end
+-- one after another, and one more at the end
 pub txs_of-append : (xs ys : List CodeTx) → txs_of (xs ++ ys) ≡ join_txs (txs_of xs) (txs_of ys)
 txs_of-append [] ys = refl
 txs_of-append (x ∷ xs) ys = ap (tx (plain_tx x)) (txs_of-append xs ys)
@@ -70,12 +70,12 @@ pub join_stms-assoc : (ss ts us : tree.Stms) → join_stms (join_stms ss ts) us 
 join_stms-assoc no_stms ts us = refl
 join_stms-assoc (stm s ss) ts us = ap (stm s) (join_stms-assoc ss ts us)
 
--- a list with one more statement behind
+-- a list with one more statement at the end
 pub stms_of-last : (ss : List CodeTs) (s : CodeTs) → stms_of (ss ++ s ∷ []) ≡ stms (map plain_ts ss ++ plain_ts s ∷ [])
 stms_of-last [] s = refl
 stms_of-last (first ∷ ss) s = ap (tree.stm (plain_ts first)) (stms_of-last ss s)
 
--- what is repeated, once the test stands behind it
+-- what is repeated, once the test stands after it
 pub turn_is :
     (c : tree.Cond) (ss turn : List CodeTs) (test whole : CodeTs) →
     plain_ts test ≡ when c (tree.Break 0) → turn ≡ ss ++ test ∷ [] → plain_ts whole ≡ tree.Seq (stms_of turn) →

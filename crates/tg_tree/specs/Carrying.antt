@@ -7,11 +7,11 @@ use Rattle.tg_tree.specs.Actions.{World, Temps, Activation, Back}
 use Rattle.tg_tree.specs.Meaning.{Enter}
 use Rattle.tg_tree.specs.Running.{Runner, begin_in, call_in, outermost}
 
--- what comes after returns behind a pass does what comes after them before it
+-- what comes after returns in code after a pass does what comes after them in the code before it
 abbrev pub BacksSimulate : (a r n : ℕ) → Back → Back → Type 0
 BacksSimulate a r n back back' = (v : ℕ) (w : World) → Simulates a r n (back v w) (back' v w)
 
--- functions that are entered behind a pass do what they do before it, with e units more, if what
+-- functions that are entered after a pass do what they do before it, with e units more, if what
 -- comes after their returns does
 abbrev pub EntersSimulate : (a e n : ℕ) → Enter → Enter → Type 0
 EntersSimulate a e n enter enter' =

@@ -12,7 +12,7 @@ use Rattle.tg_tree.specs.Actions.{wrong}
 use Rattle.tg_tree.specs.Meaning.{Enter, value, run}
 use Rattle.tg_tree.specs.Running.{Runner, with_fuel, call_in, program}
 
--- what stands behind a mark
+-- what stands after a mark
 abbrev pub behind : (mark : ℕ) → List Linear → Option (List Linear)
 behind m [] = None
 behind m (Mark k ∷ rest) = if k == m then Some rest else behind m rest
@@ -26,7 +26,7 @@ pub record FlatPoint : Type 0 where
   pub world : World
   pub temps : Temps
 
--- nothing comes next behind flat code
+-- nothing comes next after flat code
 abbrev pub Last : Type 0
 Last = Unit {0}
 

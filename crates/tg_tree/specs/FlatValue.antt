@@ -49,7 +49,7 @@ flat_spent g ls base m t (Load x) = expression_units g (Load x) + flat_spent g l
 flat_spent g ls base m t (LoadByte x) = expression_units g (LoadByte x) + flat_spent g ls base m t x
 flat_spent g ls base m t x = expression_units g x
 
--- a run of a flat expression goes on with its value, or stops so, behind exactly what it spends
+-- a run of a flat expression goes on with its value, or stops so, after exactly what it spends
 abbrev pub FlatRunsAsValue : Type 0
 FlatRunsAsValue =
     (g : Stage) (room : ℕ) (ls : List Literal) (enter : Enter) (later : Point → Run Ran)

@@ -23,6 +23,6 @@ nothing = sequence []
 abbrev pub when : Cond → Ts → Ts
 when c s = If c s nothing
 
--- these statements again and again, until a condition holds behind a turn
+-- these statements again and again, until a condition holds after a turn
 abbrev pub repeat_until : Cond → List Ts → Ts
 repeat_until c ss = Loop (sequence (ss ++ when c (Break 0) ∷ []))

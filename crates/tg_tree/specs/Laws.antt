@@ -12,7 +12,7 @@ use Rattle.tg_tree.specs.Holding.{TempsHoldAtLeast, WorldHoldsAtLeast, UnlessWro
 use Rattle.tg_tree.specs.Holding.{AroundReadsNoMore}
 
 -- a run is its own step: what comes of a point is a step from it, and then what comes of the points
--- behind it
+-- after it
 abbrev pub TreesStep : Type 0
 TreesStep =
     (stage : Stage) (code : Code Ts) (size : ℕ → ℕ) (floor room : ℕ) (p : Point) (n : ℕ) →

@@ -17,7 +17,7 @@ stms_of (s ∷ ss) = stm (plain_ts s) (stms_of ss)
 abbrev pub code_of : List CodeLinear → List Linear
 code_of code = map plain_linear code
 
--- one list behind another
+-- one list after another
 abbrev pub join_txs : Txs → Txs → Txs
 join_txs no_txs ys = ys
 join_txs (tx x xs) ys = tx x (join_txs xs ys)

@@ -35,7 +35,7 @@ module _
   enter_function label vs e go w t =
       enter label vs (e.activation.base - e.activation.size) (λ v w1. go v w1 t) w
 
-  -- a turn of a loop, behind which it goes on from its head
+  -- a turn of a loop, after which it goes on from its head
   abbrev pub repeat : (loop : Ts) → (turn : Acts Next) → Acts Next
   repeat loop turn e next w t =
       turn (record e { out = leaving next e.out })

@@ -107,8 +107,8 @@ abbrev pub lay : (base slots : ℕ) → Cell → Memory → Memory
 lay base zero c m = m
 lay base (suc n) c m = put (slot base n) c (lay base n c m)
 
--- Strings: a word of length and the bytes, and where they stand in memory zeros behind, up to a
--- multiple of 4.
+-- Strings: a word of length and the bytes, and where they stand in memory zeros after them, up to
+-- a multiple of 4.
 abbrev pub string_text : List ℕ → List ℕ
 string_text bytes = to_le_bytes w32 (length bytes) ++ bytes
 

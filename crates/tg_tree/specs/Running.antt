@@ -69,7 +69,7 @@ abbrev pub begin_in :
 begin_in size floor runner functions label vs top back w =
     entered size floor runner (function_of label functions) vs top back w
 
--- a call pays for the entry, by the number of its arguments, and runs the body behind a unit of
+-- a call pays for the entry, by the number of its arguments, and runs the body after a unit of
 -- fuel
 abbrev pub fuelled : {Body : Type 0} → Runner Body → Runner Body
 fuelled body s e w temps = with_fuel w (body s e w temps)

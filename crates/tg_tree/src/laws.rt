@@ -37,7 +37,7 @@ pub fn flat_code_runs()
     ensures on { FlatCodeOnlyGoesOn }
 {}
 
-/// The laws that a run of a flat expression is its value, behind exactly the units of work that it
+/// The laws that a run of a flat expression is its value, after exactly the units of work that it
 /// spends: at most its length, and all of it where it has a word.
 pub fn flat_expressions_run()
     ensures runs { FlatRunsAsValue }

@@ -120,7 +120,7 @@ pub fn repeat(alloc: Global, turn: Ts) -> Result<Ts, Memory>
     Ok(Ts::Loop(turn))
 }
 
-/// Statements again and again, until a condition holds behind a turn.
+/// Statements again and again, until a condition holds after a turn.
 pub fn repeat_until(alloc: Global, done: Cond, mut turn: Vec<Ts>) -> Result<Ts, Memory>
     ensures { IfOk result (λ s. plain_ts s ≡
         forms.repeat_until (plain_cond done) (map plain_ts turn.items)) }

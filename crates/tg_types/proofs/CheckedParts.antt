@@ -1,4 +1,4 @@
--- The checks of a part that all came out fine, as a relation: its type, and what is gathered before it and behind it. It is the
+-- The checks of a part that all came out fine, as a relation: its type, and what is gathered before it and after it. It is the
 -- relation of typed parts with what is gathered threaded through, so that what checks come to is shown by cases on it.
 use Rattle.std.proofs.Common.{◌≡◌, ℕ, List, [], ◌∷◌, length, Option, Some, Bool, true, false}
 use Rattle.std.specs.Prelude.{is_some}

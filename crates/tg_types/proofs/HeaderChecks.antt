@@ -134,7 +134,7 @@ kind_below n [] k p h l i = absurd (omega (arith, l))
 kind_below n (x ∷ ps) zero p h l i = subst (λ y. NameIsWithin n y.kind) (sym i) h.1
 kind_below n (x ∷ ps) (suc k) p h l i = kind_below n ps k p h.2 (omega (arith, l)) i
 
--- a header, and those behind it
+-- a header, and those after it
 after_result : {B C D : Type 0} (y : CheckResult B) (f : B → C) (g : C → Check D) → on_fine y (λ b. g (f b)) ≡ on_fine (on_fine y (λ b. give (f b))) g
 unfolding give
 after_result (fine b n) f g = refl

@@ -177,11 +177,11 @@ module _ (group : List TypeDec) (scope : Scope) (vs : NameValues scope.types) (k
       group_values ds (record inner { types = (name_of d.name, t) ∷ inner.types }) (fewer d ds of) ends.1
       (one_more (name_of d.name) t inner.types (declared_values d ds of ends.0) is)
 
-  -- the names behind a group's declarations
+  -- the names after a group's declarations
   pub names_of_group : DoEnd group group → NameValues (with_group group group scope scope).types
   names_of_group ends = group_values group scope (λ x e. e) ends vs
 
-  -- a name of the group, or of what was known before it, is known behind it
+  -- a name of the group, or of what was known before it, is known after it
   known_inside : (ds : List TypeDec) (inner : Scope) (y : ℕ) → (stands_in y (names_of ds) || is_some (looked_up y inner.types)) ≡ true →
       is_some (looked_up y (with_group group ds scope inner).types) ≡ true
   known_inside [] inner y e = e

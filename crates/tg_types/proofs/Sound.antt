@@ -71,7 +71,7 @@ module _ (shapes : List (ℕ × Shape)) (notes : List Note) where
   location_on v w _ _ g (at_field at fs e n p) = at_field at fs (g.objs _ _ e) n p
   location_on v w _ _ g (at_element at n e p lt) = at_element at n (g.objs _ _ e) p lt
 
-  -- what stands behind a unit of fuel, with the type of its value, and whether it may break out of a loop
+  -- what stands after a unit of fuel, with the type of its value, and whether it may break out of a loop
   pub data IsJob (s : Worlds.Stores) : Job → Ty → Bool → Type 0 where
     a_function : {level : ℕ} {f : SourceFunction} {seen : List Entry} {args : List Value} {sig : Signature} {b : Bool} (scope : Scope) →
         Worlds.IsTyped shapes notes f sig (in_no_loop scope) → Worlds.Each (Worlds.IsValue s.objs) args sig.params →

@@ -22,7 +22,7 @@ use Rattle.tg_types.proofs.CheckedParts.{block, seq, CheckedPlace, simple, field
 use Rattle.tg_types.proofs.CheckedParts.{an_init, CheckedLast, end_lasts, a_last, CheckedDecs, end_decs, type_names, variables, group, CheckedBodies}
 use Rattle.tg_types.proofs.CheckedParts.{end_bodies, a_body}
 
--- a part, once its type and the state behind it are known to be these; the same of the state before it
+-- a part, once its type and the state after it are known to be these; the same of the state before it
 to : {e : Exp} {scope : Scope} {t u : Ty} {g h k : Noted} → t ≡ u → h ≡ k → Checked e scope t g h → Checked e scope u g k
 to {e = e} {scope = scope} {u = u} {g = g} {h = h} i j c = subst (λ y. Checked e scope u g y) j (subst (λ y. Checked e scope y g h) i c)
 

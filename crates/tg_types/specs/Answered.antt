@@ -9,7 +9,7 @@ use Rattle.tg_types.specs.declared.notes.Note.{Note}
 use Rattle.tg_types.specs.declared.notes.Means.{Means}
 use Rattle.tg_types.specs.Accepted.{Finding, accepted, at_fault}
 
--- each note stands behind those before it
+-- each note stands after those before it
 abbrev pub AreRising : List Note → Type 0
 AreRising notes = AllPairs (λ a b. a.at < b.at) notes
 

@@ -255,7 +255,7 @@ module _ (shapes : List (ℕ × Shape)) (notes : List Note) where
           HasLast u rest scope t →
           HasLast v (exp e rest) scope t
 
-    -- declarations, from the scope before them to that behind them
+    -- declarations, from the scope before them to that after them
     pub data HasDecs : Decs → Scope → Scope → Type 0 where
       end_decs : {scope : Scope} → HasDecs no_decs scope scope
       type_names :

@@ -25,7 +25,7 @@ fitting e wanted scope = typed e scope >>= λ t. expect wanted t (start_of e)
 abbrev pub without_value : Exp → Scope → Check (Unit {0})
 without_value e scope = typed e scope >>= λ t. expect_none t (start_of e)
 
--- what stands before an operator, and what stands behind it: the type of the whole
+-- what stands before an operator, and what stands after it: the type of the whole
 abbrev pub left_operand : Op → (at : ℕ) → Exp → Scope → Check Ty
 left_operand op at a scope = typed a scope >>= λ t. left_side op t at (start_of a)
 

@@ -276,7 +276,7 @@ abbrev mutual
     u ← typed e scope
     typed_last u rest scope
 
-  -- the scope behind declarations
+  -- the scope after declarations
   pub declare : Decs → Scope → Check Scope
   declare no_decs scope = give scope
   declare (types ds rest) scope = do

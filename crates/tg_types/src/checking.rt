@@ -35,7 +35,7 @@ impl Model for Notes {
 }
 
 impl Notes {
-    /// The notes of a vector, in which each stands behind those before it. It takes no memory.
+    /// The notes of a vector, in which each stands after those before it. It takes no memory.
     pub fn from_vec(notes: Vec<Note>) -> Notes
         requires { AreRising notes.items }
         ensures { result ≡ notes.items }

@@ -36,7 +36,7 @@ impl CheckingState {
         }
     }
 
-    /// A note behind the others.
+    /// A note after the others.
     pub(crate) fn note(&mut self, at: u32, means: Means) -> Result<(), TypeFault>
         ensures given { AnswersCheck result (λ _. tt) (noted_of self.new)
             (note at means (noted_of self.old)) }

@@ -289,7 +289,7 @@ fn left_operand(
     left_side(state, op, ty, at, a.span.from)
 }
 
-// What stands behind an operator, whose left side is of a type: the type of the whole.
+// What stands after an operator, whose left side is of a type: the type of the whole.
 #[cycle(typing)]
 fn right_operand(
     names: &Names,

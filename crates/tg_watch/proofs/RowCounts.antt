@@ -245,7 +245,7 @@ few_lines_of_report s code =
     let few = few_lines counted_names s in
     omega (arith, few, names_size)
 
--- lines behind the first
+-- lines after the first
 pub get-behind : {A : Type 0} (x : A) (xs : List A) (at : ℕ) → at ≢ 0 → slice_get (x ∷ xs) at ≡ slice_get xs (at - 1)
 get-behind x xs zero h = absurd (h refl)
 get-behind x xs (suc at) h = ap (slice_get xs) (omega arith)

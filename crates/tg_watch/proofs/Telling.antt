@@ -64,7 +64,7 @@ module _ {S : Type 0} (taken : S → Option (List ℕ)) (faults : S → ℕ) whe
       longer (Ok t) s = tt
       longer (Err e) s = let size = length-append a b in omega (arith, size, s)
 
-  -- a text of which a write failed, and what would have come behind it
+  -- a text of which a write failed, and what would have come after it
   pub told_failed : {T U E F : Type 0} (x y : S) (q : Result T E) (r : Result U F) (a b : List ℕ) → IsErr q → IsErr r →
       HasTold taken faults x y q a → HasTold taken faults x y r (a ++ b)
   told_failed {U = U} {F = F} x y (Ok t) r a b bad worse h = absurd (no_truth bad)

@@ -15,7 +15,7 @@ abbrev pub report_text : (lines : List (List ℕ)) → List ℕ
 report_text [] = []
 report_text (line ∷ lines) = (line ++ 10 ∷ []) ++ report_text lines
 
--- the reports of these fetches over a code of so many words, one behind another
+-- the reports of these fetches over a code of so many words, one after another
 abbrev pub reports_text : List Report → List Seen → (code : ℕ) → List ℕ
 reports_text [] seen code = []
 reports_text (report ∷ reports) seen code =

@@ -28,7 +28,7 @@ pub fn word_in_hex(word: u32) -> [u8; 10]
     ]
 }
 
-/// Puts bytes behind the first `size` of a line, and answers how many there are then.
+/// Puts bytes after the first `size` of a line, and answers how many there are then.
 pub(crate) fn put(into: &mut [u8; 64], size: usize, text: &[u8]) -> usize
     requires { size + length text.now ≤ 64 }
     ensures size { result ≡ size + length text.now }
@@ -39,7 +39,7 @@ pub(crate) fn put(into: &mut [u8; 64], size: usize, text: &[u8]) -> usize
     end
 }
 
-/// Puts a number behind the first `size` bytes of a line, and answers how many there are then.
+/// Puts a number after the first `size` bytes of a line, and answers how many there are then.
 pub(crate) fn put_decimal(into: &mut [u8; 64], size: usize, number: u64) -> usize
     requires { size ≤ 40 }
     ensures size { result ≤ size + 20 }

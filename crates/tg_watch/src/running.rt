@@ -9,7 +9,7 @@ use crate::watchers::Watcher;
 use tg_base::{Memory, Sink, Source};
 use tg_machine::{Machine, RunEnd, Seen, Status};
 
-/// Begins each watcher anew, over a code of so many words. Behind `Memory` some may have begun.
+/// Begins each watcher anew, over a code of so many words. After `Memory` some may have begun.
 pub fn begin_all(watchers: &mut Vec<Box<dyn Watcher>>, code: u32) -> Result<(), Memory>
     ensures begun { OnOk result (All (λ w. stands w [] code) watchers.new.items) }
     ensures same { map (λ w. report w) watchers.new.items

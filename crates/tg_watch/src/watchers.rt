@@ -13,7 +13,7 @@ pub trait Watcher: Drop {
 
     ghost report: { Self → Report };
 
-    /// Begins anew, over a code of so many words. It takes the memory that it needs; behind
+    /// Begins anew, over a code of so many words. It takes the memory that it needs; after
     /// `Memory` it stands for nothing, and may be begun again.
     fn begin(&mut self, code: u32) -> Result<(), Memory>
         ensures begun { OnOk result (stands self.new [] code) }

@@ -64,7 +64,7 @@ fn run_words(rt: &impl Abort, alloc: Global, words: &[u32]) -> Result<(RunEnd, R
 }
 
 // The words of a code, how it ends, and what the watchers tell. A word outside the table counts
-// behind all rows of it.
+// after all rows of it.
 static OUTSIDE: [(&[u32], RunEnd, &[u8]); 3] = [
     (
         &[0xffff_ffff],

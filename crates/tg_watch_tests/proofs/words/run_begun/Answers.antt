@@ -1,4 +1,4 @@
--- What the watchers stand for behind a run is what the run says that they saw.
+-- What the watchers stand for after a run is what the run says that they saw.
 use Rattle.tg_watch_tests.proofs.words.run_begun.Goals as goal
 
 pub returns : goal.returns
