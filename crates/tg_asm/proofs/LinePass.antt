@@ -146,7 +146,7 @@ laid_bad text rest line more es es' l n r i s e f =
     line_told text rest line more es l n i s ∙ ap (λ q. told (first_again [] (es ++ lined_of_line n l line)) (behind n q more)) e
     ∙ ap (λ k. told (first_again [] k) (Err (record { rule = r; line = n }))) (sym f)
 
--- where memory is wanting within a line, a label that stands again before that is the fault
+-- where memory runs out within a line, a label that stands again before that is the fault
 again_first : (es fs : List Lined) (m : ℕ) → AreFirst es fs → first_again [] es ≡ Some m → first_again [] fs ≡ Some m
 again_first es fs m f e = ap (first_again []) (sym f.same) ∙ first_again-append [] es f.rest ∙ ap (λ o. or_later o (first_again (unlined es) f.rest)) e
 

@@ -82,14 +82,14 @@ item_of (Data align c) = items.Data' (bytes_of align) (data_of c)
 abbrev pub meant_by : (escaped : Bool) → ℕ → Option ℕ
 meant_by escaped c = if escaped then escape c else plain c
 
--- A call gives what the definition does, or its fault; or memory was wanting.
+-- A call gives what the definition does, or its fault; or it was out of memory.
 abbrev pub GivesMeant : {S T : Type 0} → (S → T) → Result T AsmRule → Result S Refused → Type 0
 GivesMeant view meant (Ok x) = meant ≡ Ok (view x)
 GivesMeant view meant (Err (refused.Rule r)) = meant ≡ Err r
 GivesMeant view meant (Err refused.Memory) = ⊤
 
--- A call that changes a value leaves what the definition gives, or tells its fault; or memory was
--- wanting.
+-- A call that changes a value leaves what the definition gives, or tells its fault; or it was out
+-- of memory.
 abbrev pub Leaves : {S T : Type 0} → Result T AsmRule → Result S Refused → T → Type 0
 Leaves meant (Ok done) new = meant ≡ Ok new
 Leaves meant (Err (refused.Rule r)) new = meant ≡ Err r

@@ -50,7 +50,7 @@ fn last_line(text: &[u8]) -> u64
 /// A fault is the text's first one: of the lines with a fault of A1, A2, A3, A7, A4 or A8 the
 /// first, where there are none of the lines with a fault of A5 or A6 the first, and then A9, with
 /// the number of the last line. A text has one image or one such fault, since the definition is a
-/// function of the text. `Memory` comes where memory is wanting, and may come in place of any other
+/// function of the text. `Memory` comes where memory runs out, and may come in place of any other
 /// answer. The time is linear in the sizes of the text and of the image, and for labels n log n in
 /// their number.
 pub fn assemble(alloc: Global, text: &[u8]) -> Result<Image, AsmFault>

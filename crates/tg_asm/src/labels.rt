@@ -115,7 +115,7 @@ fn first_line_again(entries: &[Entry<'_>]) -> Option<u64>
     first
 }
 
-/// The names of the first labels of all stretches, or of some where memory is wanting.
+/// The names of the first labels of all stretches, or of some where memory runs out.
 fn marks_of<'a>(alloc: Global, entries: &[Entry<'a>]) -> Vec<(u64, &'a [u8])> {
     let mut marks = Vec::new(alloc);
     for entry in entries.iter().step_by(STRETCH) {
@@ -126,7 +126,7 @@ fn marks_of<'a>(alloc: Global, entries: &[Entry<'a>]) -> Vec<(u64, &'a [u8])> {
     marks
 }
 
-/// The first marks of all stretches, or of some where memory is wanting.
+/// The first marks of all stretches, or of some where memory runs out.
 fn signposts_of<'a>(alloc: Global, marks: &[(u64, &'a [u8])]) -> Vec<(u64, &'a [u8])> {
     let mut signposts = Vec::new(alloc);
     for mark in marks.iter().step_by(STRETCH) {

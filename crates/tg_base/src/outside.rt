@@ -44,7 +44,7 @@ pub trait Sink {
 pub enum ShelfFault {
     /// It isn't there, or it can't be read.
     Failed,
-    /// Want of memory.
+    /// Out of memory.
     Memory,
 }
 

@@ -33,7 +33,7 @@ pub record IsAnswered (before after status : ℕ) : Type 0 where
   pub answers : AnswersWords reporters words 0 0 0 before files reads writes after status
 
 -- With the status of the top call on some words, or with that of words that can't be read: memory
--- is wanting, or one isn't UTF-8. The counts of faults begin at 0.
+-- runs out, or one isn't UTF-8. The counts of faults begin at 0.
 pub data IsStatus (status : ℕ) : Type 0 where
   answered : (errors : ℕ) → IsAnswered 0 errors status → IsStatus status
   no_memory : (errors : ℕ) → EndsWith 70 0 errors status → IsStatus status

@@ -73,7 +73,7 @@ fn ask<W: Write>(
 
 const OUT_OF_MEMORY: &str = "tiger: out of memory\n";
 
-/// Ends a program whose words can't be read: for want of memory, or since one isn't UTF-8.
+/// Ends a program whose words can't be read: out of memory, or one isn't UTF-8.
 fn without_words<E: Sink>(err: &mut E, error: io::Error) -> u8
     ensures memory { error_kind error ≡ ErrorKind.OutOfMemory
         → EndsWith 70 (E.faults err.old) (E.faults err.new) result }

@@ -81,7 +81,7 @@ pub data IsUsageFault (words : List (List ℕ)) : Type 0 where
       flags_fit m (flags_of words) ≡ false →
       IsUsageFault words
 
--- what a fault says of the words; want of memory says nothing
+-- what a fault says of the words; out of memory says nothing
 abbrev pub Blames : CommandFault → List (List ℕ) → Type 0
 Blames Usage words = IsUsageFault words
 Blames Memory words = Unit {0}

@@ -47,7 +47,7 @@ pub struct Command {
 pub enum CommandFault {
     /// The words are no command.
     Usage,
-    /// Want of memory. It says nothing of the words.
+    /// Out of memory. It says nothing of the words.
     Memory,
 }
 

@@ -136,7 +136,7 @@ sums_up_meant out functions text assembly image heap stack steps OutOfMemory b i
 sums_up_meant out functions text assembly image heap stack steps _ b is h =
     record { end = h.end; ends = record { assembly = assembly; meant = b; ran = record { image = image; assembles = is; run = h.sums_up } } }
 
--- what holds of an answer holds of it unless memory is wanting
+-- what holds of an answer holds of it unless it is out of memory
 pub or_memory : (due : Answer → Type 0) (answer : Answer) → due answer → OrMemory (Unit {0}) due answer
 or_memory due OutOfMemory h = tt
 or_memory due _ h = h

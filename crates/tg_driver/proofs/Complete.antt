@@ -1,4 +1,4 @@
--- Good words for a file that is there, with no fault of a count, are answered as text and input settle, or by want of memory.
+-- Good words for a file that is there, with no fault of a count, are answered as text and input settle, or as out of memory.
 use Rattle.std.proofs.Common.{ℕ, ◌≡◌, ◌≤◌, ◌⊎◌, inl, inr, List, [], ◌++◌, Option, Some, None, take, append-nil, refl, sym, subst, arith}
 use Rattle.std.specs.Io.KnownBytes.{Appends}
 use Rattle.tg_base.specs.Causes.{Rose}
@@ -196,7 +196,7 @@ given c status a file h good =
     let t = took c.err (h.reports ++ line_of h.answer) (status_of h.answer) status good.all_told h.told in
     record { status_is = t.0; text_is = t.1; before_end = h.before_end; unasked = h.unasked }
 
--- want of memory was told
+-- out of memory was told
 pub given_memory : {H I O E : Type 0} (c : Call H I O E) (status : ℕ) (reports : List ℕ) (answer : Answer) → answer ≡ OutOfMemory →
     Gives c status reports answer → Gives c status [] OutOfMemory
 given_memory c status reports answer is g =
@@ -205,7 +205,7 @@ given_memory c status reports answer is g =
     let m = subst P is g in
     subst Q m.before_end m
 
--- what a good call answers is due in its mode, or memory was wanting
+-- what a good call answers is due in its mode, or memory ran out
 pub in_its_mode : {H I O E : Type 0} (c : Call H I O E) (status : ℕ) (a : Asked) (file : List ℕ) (h : Answers c status) → IsGood c a file →
     InMode c.rule (told_runs c h.reports a) a.mode c.shelf c.streams a h.answer ⊎ Gives c status [] OutOfMemory
 in_its_mode c status a file h good = by h.due

@@ -1,4 +1,4 @@
--- Good words for a file that is there, with no fault of a count, are answered by the meaning of the source, or by want of memory.
+-- Good words for a file that is there, with no fault of a count, are answered by the meaning of the source, or as out of memory.
 use Rattle.std.proofs.Common.{ℕ, ◌≡◌, ◌⊎◌, inl, inr, List, [], Option, Some, None, take, refl, sym, subst, arith}
 use Rattle.std.specs.Io.KnownBytes.{Appends}
 use Rattle.tg_state.specs.declared.ends.RunEnd.TheVariants.{WriteFault}

@@ -16,7 +16,7 @@ abbrev pub StaysInGen : {H : Type 0} → (words : List (List ℕ)) → Shelved H
 StaysInGen words shelf =
     (a : Asked) → Ask words a → a.mode ≡ Gen → shelf.after ≡ shelf.before
 
--- The answer is due: the words are no command; memory was wanting, before anything was read from
+-- The answer is due: the words are no command; memory ran out, before anything was read from
 -- the input or written, and in `gen` no file was asked for; or the mode that the words ask for
 -- gives it, by what is said of runs where they ask for this.
 pub data IsDue {H I O : Type 0} (rule : SpillRule) (runs : Asked → RunRelation)

@@ -31,7 +31,7 @@ InMode rule runs Alloc shelf s asked answer = ByAlloc rule shelf s asked answer
 InMode rule runs Gen shelf s asked answer = ByGen shelf s asked answer
 InMode rule runs Format shelf s asked answer = ByFormat shelf s asked answer
 
--- what a mode left alone where memory was wanting: the streams, and in `gen` the shelf
+-- what a mode left alone where memory ran out: the streams, and in `gen` the shelf
 abbrev pub LeavesAlone : {H I O : Type 0} → Mode → Shelved H → Streams I O → Type 0
 LeavesAlone mode shelf s = (mode ≡ Gen → shelf.after ≡ shelf.before) × Untouched s
 

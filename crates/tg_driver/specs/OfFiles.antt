@@ -24,7 +24,7 @@ abbrev pub unread_answer : ShelfFault → Answer
 unread_answer Failed = Unreadable
 unread_answer Memory = OutOfMemory
 
--- the answer is due; or memory was wanting, of which this is said
+-- the answer is due; or memory ran out, of which this is said
 abbrev pub OrMemory : (wanting : Type 0) (due : Answer → Type 0) → Answer → Type 0
 OrMemory wanting due OutOfMemory = wanting
 OrMemory wanting due answer = due answer

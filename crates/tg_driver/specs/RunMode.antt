@@ -10,7 +10,7 @@ use Rattle.tg_driver.specs.Faults.{IsFaultOf}
 use Rattle.tg_driver.specs.MeantRuns.{RunsAssembled, EndsAsMeant}
 use Rattle.tg_driver.specs.Runs.{RunRelation}
 
--- the answer is the end of such a run, or memory was wanting for it
+-- the answer is the end of such a run, or that memory ran out for it
 abbrev pub EndsAssembled :
     (runs : RunRelation) (assembly : List ℕ) (heap stack steps : ℕ) → Answer → Type 0
 EndsAssembled runs assembly heap stack steps (Finished end) =

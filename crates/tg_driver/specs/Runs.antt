@@ -25,7 +25,7 @@ pub record HasRun {I O : Type 0} (s : Streams I O)
       (loaded image heap stack) after
       s.input.before s.input.after s.out.before s.out.after end
 
--- the answer is the end of such a run; or memory was wanting for it, and nothing was touched
+-- the answer is the end of such a run; or that memory ran out for it, and nothing was touched
 abbrev pub IsRunOrMemory :
     {I O : Type 0} → RunRelation → Streams I O → Image → (heap stack steps : ℕ) → Answer → Type 0
 IsRunOrMemory runs s image heap stack steps (Finished end) = runs image heap stack steps end

@@ -27,7 +27,7 @@ abbrev pub IsTold :
 IsTold err reports answer status =
     Takes err (reports ++ line_of answer) (status_of answer) 74 status
 
--- the answer is told as it is, or, before anything was read or written, as want of memory
+-- the answer is told as it is, or, before anything was read or written, as out of memory
 pub data IsReported {E : Type 0} (err : Stream E) (reports : List ℕ)
     (answer : Answer) (status : ℕ) : Type 0 where
   itself : IsTold err reports answer status → IsReported err reports answer status

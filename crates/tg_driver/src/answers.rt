@@ -22,7 +22,7 @@ pub(crate) enum Answer {
     TooLong,
     /// The file can't be read.
     Unreadable,
-    /// Want of memory.
+    /// Out of memory.
     OutOfMemory,
     /// The source has no fault.
     Accepted,

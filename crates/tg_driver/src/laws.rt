@@ -23,8 +23,8 @@ use tg_compile_proof::{ends_are_as_meant, exits_are_words};
 
 /// The law that a command has at most one answer for a text, but where the streams were touched: an
 /// end of a run, which the input decides too, or whether the output took what was written. So each
-/// refusal comes exactly where its cause stands, whatever the policies, or want of memory. It does
-/// nothing.
+/// refusal comes exactly where its cause stands, whatever the policies, or it is out of memory. It
+/// does nothing.
 pub fn one_answer<I, O>()
     ensures { (s : Streams I O) (reporters others : List Report) (reports told : List ℕ)
         (asked : Asked) (text : List ℕ) (a b : Answer)
@@ -57,7 +57,7 @@ pub fn reports_are_exact<I, O>()
 {}
 
 /// The law that two calls that run one assembly text have one answer where their inputs tell the
-/// same bytes and no read or write ended a run, besides want of memory. It does nothing.
+/// same bytes and no read or write ended a run, out of memory aside. It does nothing.
 pub fn answers_are_exact<I, O, J, P>()
     ensures { (s : Streams I O) (t : Streams J P) (reporters others : List Report)
         (reports told : List ℕ) (asked : Asked) (text bytes : List ℕ) (a b : Answer)
@@ -77,7 +77,7 @@ pub fn answers_are_safe<H, I, O, E>()
 {}
 
 /// The law that a call with good words for a file that is there, in which no count of faults rose,
-/// is answered as its text and its input settle, or by want of memory. It does nothing.
+/// is answered as its text and its input settle, or as out of memory. It does nothing.
 pub fn answers_are_complete<H, I, O, E>()
     ensures { (c : Call H I O E) (status : ℕ) (asked : Asked) (file : List ℕ)
         → Answers c status → IsGood c asked file
@@ -105,7 +105,7 @@ pub fn runs_are_as_meant<I, O>()
 
 /// The headline of commands: with good words for a file that is there, and where no count of faults
 /// rose, `build` writes an assembly text that does what its source means, and `run` and `gen` end by
-/// the meaning of theirs; a source with a fault is answered by its first; or memory was wanting. It
+/// the meaning of theirs; a source with a fault is answered by its first; or memory ran out. It
 /// does nothing.
 pub fn commands_are_as_meant<H, I, O, E>()
     ensures { (c : Call H I O E) (status : ℕ) (asked : Asked) (file : List ℕ)

@@ -38,7 +38,7 @@ pub(crate) fn report<E: Sink>(
     }
 }
 
-/// Reports a fault of a source, or want of memory where the fault's line finds none.
+/// Reports a fault of a source, or out of memory where the fault's line finds none.
 fn report_fault<E: Sink>(alloc: Global, err: &mut E, fault: Fault) -> u8
     ensures reports { IsReported (stream_of E.taken E.faults err.old err.new) []
         (Answer.Faulty fault) result }
@@ -50,7 +50,7 @@ fn report_fault<E: Sink>(alloc: Global, err: &mut E, fault: Fault) -> u8
     }
 }
 
-/// Reports a fault of assembly text, or want of memory where its line finds none.
+/// Reports a fault of assembly text, or out of memory where its line finds none.
 fn report_line<E: Sink>(alloc: Global, err: &mut E, rule: AsmRule, at: u64) -> u8
     ensures reports { IsReported (stream_of E.taken E.faults err.old err.new) []
         (Answer.BadLine rule at) result }

@@ -12,7 +12,7 @@ use tg_types::Checked;
 
 /// The variables of a program that escape. A use of a name takes a bounded number of look-ups in
 /// hash maps for each function that it lies in, however many names are declared where it stands.
-/// It fails for want of memory alone.
+/// It fails only where memory runs out.
 pub fn escapes(alloc: Global, checked: &Checked) -> Result<Escapes, Memory>
     ensures { IfOk result (λ e. e ≡ from_list (escapes_of (plain checked.now.program.body))) }
 {
@@ -21,7 +21,7 @@ pub fn escapes(alloc: Global, checked: &Checked) -> Result<Escapes, Memory>
 
 /// The functions of a program through whose static links functions nested in them go. A use of a
 /// name takes a bounded number of look-ups in hash maps for each function that it lies in. It
-/// fails for want of memory alone.
+/// fails only where memory runs out.
 pub fn links(alloc: Global, checked: &Checked) -> Result<Links, Memory>
     ensures { IfOk result (λ l. l ≡ from_list (links_of (plain checked.now.program.body))) }
 {

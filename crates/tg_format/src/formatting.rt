@@ -9,7 +9,7 @@ use tg_base::{Memory, Names};
 use tg_syntax::Spanned;
 
 /// The canonical text of tokens, which end with the end of their text, as those that the lexer
-/// answers. The spans don't matter, and comments aren't there. The only error is want of memory.
+/// answers. The spans don't matter, and comments aren't there. The only error is out of memory.
 pub fn format(alloc: Global, tokens: &[Spanned], names: &Names) -> Result<Vec<u8>, Memory>
     requires { AreWritable names.now (tokens_of tokens.now) }
     ensures { IfOk result (λ text. text.items ≡ canonical names.now (tokens_of tokens.now)) }

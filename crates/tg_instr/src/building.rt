@@ -4,7 +4,7 @@ use crate::instr::{Instr, Test};
 use crate::operands::Opnd;
 use tg_base::Memory;
 
-/// Puts an instruction at the end of a list. After want of memory the list is as before.
+/// Puts an instruction at the end of a list. Out of memory, the list is as before.
 pub fn push_instr(list: &mut Vec<Instr>, one: Instr) -> Result<(), Memory>
     ensures ok { OnOk result (list.new.items ≡ list.old.items ++ one ∷ []) }
     ensures err { OnErr result (list.new.items ≡ list.old.items) }

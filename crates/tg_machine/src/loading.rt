@@ -31,7 +31,7 @@ use tg_state::STACK_TOP;
 /// of the run.
 ///
 /// Memory of the heap and of the stack is reserved and not written to, so their sizes cost no time.
-/// `Memory` comes where any of it is wanting; a step or a run takes none.
+/// `Memory` comes where memory runs out; a step or a run takes none.
 pub fn load(alloc: Global, image: &Image, heap: u32, stack: u32) -> Result<Machine, Memory>
     requires code { length image.now.code ≤ most_words }
     requires statics { length image.now.statics ≤ most_bytes }

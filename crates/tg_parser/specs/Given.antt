@@ -6,7 +6,7 @@ use Rattle.tg_parser.specs.declared.faults.Stop.TheVariants.{Wrong, More, Memory
 use Rattle.tg_syntax_laws.specs.Steps.{Job, Of, Steps, Got, Bad, Out}
 use Rattle.tg_syntax_laws.specs.Reading.{Does}
 
--- a program refuses a token, whose first byte is named, or wants more tokens; want of memory says
+-- a program refuses a token, whose first byte is named, or wants more tokens; out of memory says
 -- nothing
 pub data Refuses : Stop → (j : Job) → Steps (Of j) → List Spanned → Type 0 where
   refuses :

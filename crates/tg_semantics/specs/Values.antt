@@ -33,8 +33,8 @@ pub record Env : Type 0 where
   pub entries : List Entry
 
 -- how a program ends: at its end; where something isn't there, as nil's fields and an index outside
--- its array, which the book leaves open; for want of heap; where an int has no word; by `exit`
--- (appendix A.4)
+-- its array, which the book leaves open; where the heap is full; where an int has no word; by
+-- `exit` (appendix A.4)
 pub data Ending : Type 0 where
   normal by_nil by_index by_division by_chr by_substring by_size by_heap by_overflow : Ending
   by_exit : ℕ → Ending

@@ -81,7 +81,7 @@ impl<V: Drop> Table<V> {
         }
     }
 
-    /// A name's entry before the others. It fails for want of memory, for which 2^32 - 1 open
+    /// A name's entry before the others. It fails where memory runs out, for which 2^32 - 1 open
     /// entries stand too.
     pub fn push(&mut self, name: u32, value: V) -> Result<(), Memory>
         ensures ok { OnOk result (self.new ≡ (name, value) ∷ self.old) }

@@ -64,7 +64,7 @@ pub(crate) fn draw(cut: &mut Cut, place: u32) -> Result<u32, Memory>
     Ok(mark)
 }
 
-/// A length as a number of 32 bits. Longer lists are wanting memory.
+/// A length as a number of 32 bits. Longer lists are out of memory.
 pub(crate) fn number(length: usize) -> Result<u32, Memory>
     ensures { IfOk result (λ n. n ≡ length) }
 {

@@ -13,7 +13,7 @@ use std::alloc::Global;
 use tg_base::Memory;
 use tg_tree::{Stms, Ts};
 
-/// Cuts canonical statements into basic blocks. It fails for want of memory alone.
+/// Cuts canonical statements into basic blocks. It fails only where memory runs out.
 pub fn blocks(alloc: Global, stms: Vec<Ts>) -> Result<Blocks, Memory>
     ensures { IfOk result (λ b. plain_blocks b ≡ cutting.blocks_of (stms_of stms.items)) }
 {

@@ -12,7 +12,7 @@ use std::mem;
 use tg_base::Memory;
 use tg_tree::{Linear, Stms};
 
-/// Orders blocks in traces, as flat code. It fails for want of memory alone.
+/// Orders blocks in traces, as flat code. It fails only where memory runs out.
 pub fn trace(alloc: Global, blocks: Blocks) -> Result<Vec<Linear>, Memory>
     ensures { IfOk result (λ code. code_of code.items ≡ laying.traced (plain_blocks blocks)) }
 {

@@ -25,7 +25,7 @@ const BODY: u32 = 32;
 
 /// The trees of a checked program (Appel, chapter 7): its body first, with the label 32, and then
 /// its functions in the order of the source; and its literals, one for each string of the text. It
-/// fails for want of memory alone.
+/// fails only where memory runs out.
 pub fn translate(alloc: Global, checked: &Checked, escapes: &Escapes) -> Result<Fragments, Memory>
     ensures { IfOk result (λ code. plain_fragments code ≡
         translation.translated
