@@ -1,4 +1,4 @@
--- A function in canonical form is no longer, and what is drawn for it has room in its tree: where the induction over trees is at rest.
+-- A function in canonical form is no longer, and what is drawn for it is within its tree's needs: where the induction over trees is at rest.
 use Rattle.std.proofs.Common.{ℕ, ◌+◌, ◌≤◌, [], arith}
 use Rattle.tg_simulation.specs.Ran.{Wrong}
 use Rattle.tg_simulation.proofs.Simulations.{simulates_stopping}

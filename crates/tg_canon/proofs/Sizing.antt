@@ -1,4 +1,4 @@
--- Lengths and rooms of parts that are put together, and what room an expression has left for being held.
+-- Lengths and needs of parts that are put together, and what is left of an expression's needs for holding it.
 use Rattle.std.proofs.Common.{◌≡◌, ℕ, ◌+◌, ◌<◌, ◌≤◌, Bool, true, false, if◌then◌else◌, nat_lt, refl, ap, arith}
 use Rattle.std.proofs.lemmas.Bool.{lt-ltb, le-ltb}
 use Rattle.tg_tree.specs.Tree.{Tx, Const, Address, Temp, FrameAddress, Binary, Load, LoadByte, Call, Service, After, Ts, Seq, no_stms, stm, Move}

@@ -77,8 +77,8 @@ CanonIsCorrect =
     (tree_run Trees code size floor room body input)
     (canonical_run (canonical_code code) size floor room body input)
 
--- Lengths and rooms. A function in canonical form is no longer, and what it draws is counted in the
--- trees' room.
+-- Lengths and needs. A function in canonical form is no longer, and what it draws is counted in the
+-- trees' needs.
 abbrev pub added_length : ℕ
 added_length = 0
 

@@ -36,7 +36,7 @@ pub fn canon_is_correct()
     ensures programs { CanonIsCorrect }
 {}
 
-/// The laws of sizes: a function in canonical form is no longer than its tree, and has no more room
+/// The laws of sizes: a function in canonical form is no longer than its tree, and needs no more
 /// with what is drawn for it.
 pub fn canon_is_bounded()
     ensures length { LengthStays }

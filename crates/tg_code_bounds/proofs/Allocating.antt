@@ -36,7 +36,7 @@ outs_short : (code : List Linear) → outs code ≤ code_length code
 outs_short [] = omega arith
 outs_short (e ∷ rest) = let h = element_out_short e in let k = outs_short rest in omega (arith, h, k)
 
--- the frame of a function's flat code, within its room and its length
+-- the frame of a function's flat code, within its needs and its length
 frame_in_needs : (g : Function (List Linear)) → g.slots + g.temps ≤ flat_needs g
 frame_in_needs g = omega arith
 

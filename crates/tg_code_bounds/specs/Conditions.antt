@@ -13,7 +13,7 @@ use Rattle.tg_canon.specs.Meaning.{canonical}
 use Rattle.tg_flatten_proof.specs.Flattened.{flattened, MayBeFlattened}
 use Rattle.tg_munch.specs.Bodies.{munched}
 
--- the most of length and of room that a pass takes, before instructions are chosen
+-- the most of length and of needs that a pass takes, before instructions are chosen
 abbrev pub most_length : ℕ
 most_length = 100000000
 

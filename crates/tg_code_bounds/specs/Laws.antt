@@ -62,7 +62,7 @@ LinesAreShort =
     (turned : Bool) (f : Allocated) →
     words (function_lines turned f) ≤ instr.words f.code.list + entry_words
 
--- A function that is allocated, by the length and the room of its tree: the words of its code,
+-- A function that is allocated, by the length and the needs of its tree: the words of its code,
 -- whichever way its branches are written, and the bytes of its frame, with the slots of its
 -- temporaries. Besides, its flat code may be a little longer than its tree, and it keeps nine
 -- registers, each by a move, which counts thirteen.

@@ -31,7 +31,7 @@ pub fn emit_is_bounded()
 
 /// Laws of an allocation of a function, by any policy. Its code is at most 12 words for each unit
 /// of the length of the function's tree, and 145 more; its frame has at most as many words as the
-/// tree's room and twice its length, and 13 more. So where functions are nested 32 deep at most,
+/// tree's needs and twice its length, and 13 more. So where functions are nested 32 deep at most,
 /// the code is at most 1,740 words for each node of the function's body, 72 for each of its
 /// parameters, and 361 more, and the frame 1,992 bytes, 84 and 212.
 pub fn functions_are_bounded()
@@ -61,9 +61,9 @@ pub fn programs_are_bounded()
     routines_are_closed();
 }
 
-/// A function whose tree has a length of at most 800,000 and a room of at most 1,200,000 meets the
+/// A function whose tree has a length of at most 800,000 and needs of at most 1,200,000 meets the
 /// conditions of all passes on sizes: as a tree, as canonical statements and as flat code it has a
-/// length of at most 100,000,000 and a room of at most 4,000,000, and the temporaries of its
+/// length of at most 100,000,000 and needs of at most 4,000,000, and the temporaries of its
 /// instructions, with four for each of these, are fewer than 2^24.
 pub fn small_is_enough()
     ensures enough { SmallIsEnough }

@@ -21,7 +21,7 @@ added_work = canon.added_work + (cutting.added_work + laying.laying_work)
 abbrev pub added_length : ℕ
 added_length = canon.added_length + lengths.added_length
 
--- words of room that a function has besides its tree's; and what all passes may add together, of
+-- words that a function needs besides its tree's needs; and what all passes may add together, of
 -- which this is a part
 abbrev pub added_needs : ℕ
 added_needs = canon.added_needs
@@ -39,7 +39,7 @@ FlattenIsCorrect =
     (tree_run Trees code size floor room body input)
     (flat_run (flattened_code code) size floor room body input)
 
--- Lengths and rooms of its functions.
+-- Lengths and needs of its functions.
 abbrev pub LengthStays : Type 0
 LengthStays =
     (f : Function Ts) →

@@ -22,7 +22,7 @@ pub fn flatten_is_correct()
 }
 
 /// The laws of sizes: the flat code of a function is at most two units longer than its tree, and
-/// has no more room, of the 256 words that all passes may add.
+/// needs no more, of the 256 words that all passes may add.
 pub fn flatten_is_bounded()
     ensures length { LengthStays }
     ensures needs { NeedsStay }

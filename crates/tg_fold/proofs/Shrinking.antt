@@ -1,4 +1,4 @@
--- What is folded is no longer, has no more room, and is flat if it was.
+-- What is folded is no longer, needs no more, and is flat if it was.
 use Rattle.std.proofs.Common.{◌≡◌, ◌≤◌, ℕ, Bool, true, false, refl, sym, subst, arith}
 use Rattle.std.specs.Prelude.{◌&&◌, if◌then◌else◌, Option, Some, None}
 use Rattle.tg_tree.specs.declared.operators.Bin.{Bin}

@@ -27,7 +27,7 @@ pub fn shapes_stay()
     ensures words { WordsStay }
 {}
 
-/// The laws of sizes: a folded function is no longer and has no more room, part by part, and what
+/// The laws of sizes: a folded function is no longer and needs no more, part by part, and what
 /// was flat is flat.
 pub fn fold_is_bounded()
     ensures expressions { ExpressionsShrink }

@@ -225,7 +225,7 @@ apart : checked (Do' (tree.Move 3 (Binary bin.Mul (t 1) (t 2))) ∷ Mark 4 ∷ c
 unfolding ◌>>=◌
 apart = refl
 
--- The room of flat code alone isn't enough for its temporaries: a shift by a word draws six, of which it counts three.
+-- The needs of flat code alone aren't enough for its temporaries: a shift by a word draws six, of which they count three.
 abbrev shifting : Function (List Linear)
 shifting = record {
   label = 33;

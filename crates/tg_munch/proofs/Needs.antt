@@ -1,4 +1,4 @@
--- How many temporaries a choice draws at most, which go into the room of a function: tiles, comparisons and single choices.
+-- How many temporaries a choice draws at most, which go into the needs of a function: tiles, comparisons and single choices.
 use Rattle.std.proofs.Common.{◌≡◌, ◌≤◌, ◌+◌, ◌*◌, ℕ, Bool, true, false, Option, Some, None, List, [], ◌∷◌, refl, arith}
 use Rattle.std.specs.Prelude.{◌%◌, ◌==◌, ◌&&◌, not, nat_lt, is_some, if◌then◌else◌}
 use Rattle.tg_tree.specs.declared.operators.Bin.{Bin}

@@ -1,4 +1,4 @@
--- The temporaries that are drawn for the flat code of a function, and the words for the arguments of its calls, are at most its room.
+-- The temporaries that are drawn for the flat code of a function, and the words for the arguments of its calls, are at most its needs.
 use Rattle.std.proofs.Common.{◌≡◌, ◌≤◌, ◌+◌, ◌*◌, ℕ, Bool, true, false, Option, Some, None, List, [], ◌∷◌, length, refl, arith}
 use Rattle.std.specs.Prelude.{not, nat_lt, max, if◌then◌else◌}
 use Rattle.tg_frame.specs.declared.accesses.Access.{Access}

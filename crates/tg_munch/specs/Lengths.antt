@@ -82,7 +82,7 @@ abbrev pub code_shifts : List Linear → ℕ
 code_shifts [] = 0
 code_shifts (e ∷ rest) = element_shifts e + code_shifts rest
 
--- Slots, temporaries and words for arguments are at most the room of the flat code, three for each
+-- Slots, temporaries and words for arguments are at most the needs of the flat code, three for each
 -- shift by a word, and one for each register that is kept.
 abbrev pub TemporariesAreFew : Type 0
 TemporariesAreFew =
@@ -90,8 +90,8 @@ TemporariesAreFew =
     f.slots + (munched f).drawn.temp + outs f.body ≤
     flat_needs f + 3 * code_shifts f.body + kept_count
 
--- A shift by a word counts 21 in the length: so where it isn't known that there are none, the room
--- that they take is a seventh of the length.
+-- A shift by a word counts 21 in the length: so where it isn't known that there are none, what
+-- they need is a seventh of the length.
 abbrev pub ShiftsAreLong : Type 0
 ShiftsAreLong =
     (f : Function (List Linear)) → 21 * code_shifts f.body + 6 * length f.params ≤ flat_length f

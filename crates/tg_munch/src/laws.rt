@@ -51,7 +51,7 @@ pub fn munch_is_bounded()
 {}
 
 /// Laws of the temporaries that are drawn and of the words for the arguments of calls: with the
-/// slots they are at most the room of the flat code, three for each shift by a word, and nine for
+/// slots they are at most the needs of the flat code, three for each shift by a word, and nine for
 /// the registers that are kept; and a shift by a word counts 21 in the length of the flat code.
 pub fn temporaries_are_few()
     ensures few { TemporariesAreFew }

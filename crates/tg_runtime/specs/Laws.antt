@@ -32,7 +32,7 @@ is_own temps (fault n) = nat_lt n 1048576
 is_own temps (temporary i) = nat_lt i temps
 is_own temps (constant n) = nat_lt n (2 ^ 32)
 
--- the most of length and of room that a function has
+-- the most of length and of needs that a function has
 abbrev pub most_length : ℕ
 most_length = 300
 

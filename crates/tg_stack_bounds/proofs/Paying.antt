@@ -1,4 +1,4 @@
--- What each part of a text pays for: each node 90 of length and 44 of room, and each level that is
+-- What each part of a text pays for: each node 90 of length and 44 of needs, and each level that is
 -- crossed 4 and 6. What a node pays more than its own is left for what its place adds.
 use Rattle.std.proofs.Common.{◌≡◌, ◌≤◌, ◌+◌, ◌*◌, ◌==◌, ℕ, zero, suc, Bool, true, false, Option, Some, None, List, [], ◌∷◌, ◌++◌, arith}
 use Rattle.std.proofs.Common.{length-append, append-nil, refl, sym, ap, ◌∙◌, subst}
@@ -116,7 +116,7 @@ PaidBegun n before b =
 module _ (table : LevelTable) where
   -- Values.
 
-  -- at most as long, and of as much room, as what it is made of
+  -- at most as long as what it is made of, and with no more needs
   abbrev AsMade : Made → Tx → Type 0
   AsMade m x = Most (tx_length x) (tx_needs x) (made_length m) (made_needs m)
 

@@ -18,8 +18,8 @@ use Rattle.tg_emit.specs.Lines.{size_of}
 use Rattle.tg_code_bounds.specs.Allocating.{IsAllocationOf}
 use Rattle.tg_code_bounds.specs.Laws.{AreAllocationsOf}
 
--- A tree that takes 64 words a node and 16 a level that is crossed, of room and of a seventh of its
--- length together, and for each parameter of the frame a little.
+-- A tree that takes 64 words a node and 16 a level that is crossed, of needs and of a seventh of
+-- its length together, and for each parameter of the frame a little.
 pub record IsLight (m : Measures) (f : Function Ts) : Type 0 where
   pub light :
       7 * tree_needs f + tree_length f + 8 * length f.params

@@ -11,8 +11,8 @@ use tg_regalloc::allocations_are_short;
 use tg_runtime::routines_are_closed;
 use tg_translate_laws::{bodies_are_closed, temporaries_are_drawn, translate_is_bounded};
 
-/// Law of the trees of an accepted program: each takes as much room and length as its nodes and the
-/// levels that it crosses pay for.
+/// Law of the trees of an accepted program: the needs and the length of each are at most what its
+/// nodes and the levels that it crosses pay for.
 pub fn trees_are_light()
     ensures { AcceptedTreesAreLight }
 {

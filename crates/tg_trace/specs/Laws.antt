@@ -27,7 +27,7 @@ CodeIsFlat = (bs : List Block) → AreFlatBlocks bs → IsFlatCode (traced bs)
 abbrev pub CodeIsWellMarked : Type 0
 CodeIsWellMarked = (bs : List Block) → AreWhole bs → IsWellMarked (traced bs)
 
--- Cut and laid, they are at most so much longer, and ask for no more room.
+-- Cut and laid, they are at most so much longer, and need no more.
 abbrev pub added_length : ℕ
 added_length = 2
 

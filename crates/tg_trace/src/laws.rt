@@ -33,8 +33,8 @@ pub fn code_is_well_formed()
     ensures marks { CodeIsWellMarked }
 {}
 
-/// Laws of both together: the code is at most two units longer than the statements, and has no more
-/// room than they have.
+/// Laws of both together: the code is at most two units longer than the statements, and needs no
+/// more than they do.
 pub fn trace_is_bounded()
     ensures length { LengthStays }
     ensures needs { NeedsStay }

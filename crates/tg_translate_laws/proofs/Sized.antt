@@ -1,5 +1,5 @@
--- The walk over a program's text for length, room and depth of its trees: in a function of 32 levels at most each node of the
--- text pays 145 of length, 201 of room and 8 of depth. What it pays more than its own is left for what its place adds.
+-- The walk over a program's text for length, needs and depth of its trees: in a function of 32 levels at most each node of the
+-- text pays 145 of length, 201 of needs and 8 of depth. What it pays more than its own is left for what its place adds.
 use Rattle.std.proofs.Common.{◌≤◌, ◌+◌, ◌*◌, ℕ, Bool, true, false, Option, Some, None, [], ◌∷◌, ◌++◌, arith, length-append}
 use Rattle.std.specs.Prelude.{◌==◌, ◌||◌, if◌then◌else◌, max}
 use Rattle.tg_frame.specs.declared.accesses.Access.{Access}
@@ -119,7 +119,7 @@ PaidBegun n before b =
 
 -- Values.
 
--- at most as long, and of as much room, as what it is made of
+-- at most as long as what it is made of, and with no more needs
 abbrev AsMade : Made → Tx → Type 0
 AsMade m x = Most (tx_length x) (tx_needs x) (tx_depth x) (made_length m) (made_needs m) (made_depth m)
 

@@ -1,4 +1,4 @@
--- Length, room and depth, as trees, of what each construct becomes, by those of its parts.
+-- Length, needs and depth, as trees, of what each construct becomes, by those of its parts.
 use Rattle.std.proofs.Common.{◌≡◌, ◌≤◌, ◌+◌, ◌*◌, ℕ, zero, suc, Bool, true, false, Option, Some, None, List, [], ◌∷◌, length, arith}
 use Rattle.std.specs.Prelude.{◌-◌, ◌==◌, if◌then◌else◌, max}
 use Rattle.tg_base.specs.Words.{sub}

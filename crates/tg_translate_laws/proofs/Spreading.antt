@@ -1,4 +1,4 @@
--- Lengths, rooms and depths of trees in which each choice counts as much more as it takes to return from its arms. So what gives
+-- Lengths, needs and depths of trees in which each choice counts as much more as it takes to return from its arms. So what gives
 -- a value back is no longer, and no deeper, than a return of it counts here.
 use Rattle.std.proofs.Common.{◌==◌, ◌≤◌, ◌+◌, ℕ, Bool, true, false, arith}
 use Rattle.std.specs.Prelude.{if◌then◌else◌}
@@ -166,7 +166,7 @@ mutual
   less_stms no_stms = (omega arith, omega arith, omega arith)
   less_stms (stm s ss) = let h = less_ts s in let k = less_stms ss in (omega (arith, h.0, k.0), omega (arith, h.1, k.1), omega (arith, h.2, k.2))
 
--- What gives back: a return counts 16, and one of a temporary a word of room.
+-- What gives back: a return counts 16, and one of a temporary a word of needs.
 
 abbrev AtMost : (length room depth : ℕ) → Ts → Type 0
 AtMost l r d s = (statement_length Trees s ≤ 16 + l) × (statement_needs in_trees s ≤ r) × (statement_depth 1 s ≤ d)

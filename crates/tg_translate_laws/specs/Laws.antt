@@ -105,7 +105,7 @@ SlotsAreFew =
     AllZip (λ n f. f.slots ≤ n + 1) (program_escaping findings.escapes e)
     (translated findings e).functions
 
--- The length, the room and the depth that a node of a function's text pays for at most, where
+-- The length, the needs and the depth that a node of a function's text pays for at most, where
 -- functions are nested 32 deep at most, what a parameter of its own pays for, and what each
 -- function has besides. The dearest node is a call without arguments over 32 levels.
 abbrev pub node_length : ℕ
@@ -139,7 +139,7 @@ paid node parameter function m = node * m.size + parameter * (m.nodes - m.size) 
 -- What the frame of a function has, and how far its body goes, by the nodes and the level of the
 -- text: at most six temporaries a node, and one more; and for a variable or a callee of a function
 -- further out at most one static link a level, so at most as many accesses of memory stand one
--- within another, and one more, for the variable itself. So its length, its room and its depth are
+-- within another, and one more, for the variable itself. So its length, its needs and its depth are
 -- at most what its nodes and its parameters pay for.
 pub record FunctionIsWithin (m : Measures) (f : Function Ts) : Type 0 where
   pub slots : f.slots ≤ m.nodes + 1

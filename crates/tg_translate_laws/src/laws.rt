@@ -63,10 +63,10 @@ pub fn literals_are_strings()
 /// temporaries for each node of its function, and one more; and its body follows at most one static
 /// link for each level on the way to a variable or a callee. Where functions are nested 32 deep at
 /// most, its length is at most 145 for each node of the body, 6 for each of its parameters, and 18
-/// more, its room 208, 9 and 4, and it is nested at most 8 deep for each node of the body, and 62
+/// more, its needs 208, 9 and 4, and it is nested at most 8 deep for each node of the body, and 62
 /// more. So in a program that the checker accepts it has at most 32,769 slots and 196,609
-/// temporaries, at most 33 accesses of memory one within another, a length of at most 800,000, a
-/// room of at most 1,200,000 and a depth of at most 33,000.
+/// temporaries, at most 33 accesses of memory one within another, a length of at most 800,000,
+/// needs of at most 1,200,000 and a depth of at most 33,000.
 pub fn translate_is_bounded()
     ensures slots { SlotsAreFew }
     ensures within { FunctionsAreWithin }

@@ -1,4 +1,4 @@
--- What texts name, their lengths and rooms, and sizes of frames, each computed by the definition itself.
+-- What texts name, their lengths and needs, and sizes of frames, each computed by the definition itself.
 use Rattle.std.proofs.Common.{◌≡◌, ℕ, zero, suc, ◌+◌, ◌^◌, List, [], ◌∷◌, map, refl, arith}
 use Rattle.tg_frame.specs.declared.accesses.Access.TheVariants.{InFrame}
 use Rattle.tg_tree.specs.declared.operators.Bin.TheVariants.{Add, Sub, Mul, Div, And, Or, Xor, ShiftLeft, ShiftRight, ShiftSigned, AddTrap, SubTrap, MulHigh}

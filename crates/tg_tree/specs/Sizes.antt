@@ -1,5 +1,5 @@
 -- Two numbers of a function's text with its frame, at each stage before instructions are chosen:
--- its length, in units, and its room, the words of its frame and the temporaries that its code has
+-- its length, in units, and its needs, the words of its frame and the temporaries that its code has
 -- then. Both count in advance what later passes may write and draw, part by part, so that a pass
 -- adds no more than a constant.
 use Rattle.std.specs.Prelude.{ℕ, ◌+◌, ◌*◌, List, [], ◌∷◌, length}
@@ -171,7 +171,7 @@ parameters_length f = parameter_units * length f.params
 abbrev pub parameters_needs : {Body : Type 0} → Needs → Function Body → ℕ
 parameters_needs w f = w.parameter * length f.params
 
--- length and room of a function as a tree, as canonical statements, and as flat code
+-- length and needs of a function as a tree, as canonical statements, and as flat code
 abbrev pub tree_length : Function Ts → ℕ
 tree_length f = parameters_length f + statement_length Trees f.body
 
