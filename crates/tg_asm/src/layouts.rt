@@ -291,7 +291,7 @@ impl<'a> Draft<'a> {
     }
 
     /// Adds all lines of a text, up to the first that has a fault of A1, A2, A3, A7 and A8, which is
-    /// told with its number. Where memory runs out, the labels so far are a front of all.
+    /// told with its number. Where memory runs out, the labels so far are a prefix of all.
     #[tactic(auto, using(crate::proofs::LinePass::laid_first, crate::proofs::LinePass::laid_more, crate::proofs::LinePass::laid_last, crate::proofs::LinePass::laid_bad, crate::proofs::LinePass::laid_rises))]
     fn add_lines(&mut self, alloc: Global, text: &'a [u8]) -> Result<Option<(AsmRule, u64)>, Memory>
         requires laid { laid_of self.old ≡ assembly.blank }

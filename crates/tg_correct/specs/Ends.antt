@@ -21,7 +21,7 @@ pub record EndsSo (means : (turns : ℕ) → Outcome Ending) (end : RunEnd)
 
 -- With so many steps the run came to this end, and to this world. It ends by an exit, a `break`, a
 -- full heap or an overflow only where evaluation does; by a full stack only where the weight of
--- what was open had passed the stack, and then what was written is a front of what evaluation
+-- what was open had passed the stack, and then what was written is a prefix of what evaluation
 -- writes, that has all that was written before; at the limit of steps only where every evaluation
 -- that ends costs so much that more steps are allowed for it. It ends in no other way.
 abbrev pub EndIsMeant :

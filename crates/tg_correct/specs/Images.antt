@@ -43,7 +43,7 @@ IsRunning o (Running w) = DoesAll o w
 IsRunning o (Ended e w) = ⊥
 
 -- A full stack ended it: the weight of what was open was above the stack, by then all was written
--- that had been before, and what was written is a front of the program's output.
+-- that had been before, and what was written is a prefix of the program's output.
 abbrev pub IsCutShort : Outcome Ending → Progress → Type 0
 IsCutShort o (Ended StackFull w) =
     (past : List ℕ) × (o.output_past_limit ≡ Some past)

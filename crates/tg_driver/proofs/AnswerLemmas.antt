@@ -40,7 +40,7 @@ use Rattle.tg_driver.specs.Answered.{IsDue, StaysInGen, NoneUnasked, told_runs, 
 use Rattle.tg_driver.specs.Watching.{NoneBeforeEnd}
 use Rattle.tg_driver.specs.Answered as answered
 
--- the answer is due to the front of a file, or the file wasn't read
+-- the answer is due to the prefix of a file, or the file wasn't read
 pub of_text : {H : Type 0} (shelf : Shelved H) (name : List ℕ) (most : ℕ) (due : List ℕ → Answer → Type 0) (text : List ℕ) (answer : Answer) →
     IsFilePrefix (shelf.files shelf.before) name most text → OrMemory (Unit {0}) (due text) answer → OrMemory (Unit {0}) (OfFile shelf name most due) answer
 of_text shelf name most due text OutOfMemory front h = tt

@@ -34,7 +34,7 @@ use Rattle.tg_driver.proofs.Watched.{run_more, exec_more}
 use Rattle.tg_driver.proofs.SourcesOnce.{meant_source, listed_source}
 use Rattle.tg_driver.proofs.CanonicalTexts.{of_formatted}
 
--- the front of a file that the shelf holds
+-- the prefix of a file that the shelf holds
 front_is : (files : Files) (name : List ℕ) (most : ℕ) (text file : List ℕ) (at : List ℕ → Option (List ℕ)) → files ≡ Some at →
     at name ≡ Some file → IsFilePrefix files name most text → text ≡ take most file
 front_is files name most text file at tells holds front =

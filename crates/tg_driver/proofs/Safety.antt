@@ -46,7 +46,7 @@ use Rattle.tg_driver.proofs.Watched.{due_more}
 use Rattle.tg_driver.proofs.Complete.{none_taken, rose_later, no_read, Summed, cut, summed, summed_by}
 use Rattle.tg_watch.proofs.Pieces.{front_later}
 
--- a sink that took a text took a front of it
+-- a sink that took a text took a prefix of it
 takes_front : {T A : Type 0} (sink : Stream T) (due : List ℕ) (whole failed result : A) → Takes sink due whole failed result →
     TakesPrefix (sink.told sink.before) (sink.told sink.after) due
 takes_front sink due whole failed result (nothing none is stays) = ([], due, refl, none_taken sink [] refl stays)

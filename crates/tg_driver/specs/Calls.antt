@@ -76,7 +76,7 @@ call_of rule reporters words shelf input out err = record {
 }
 
 -- Nothing was due, the sink is as it was, and this is the result; or it took the text that is due,
--- whole, with the same result; or a write failed, it took a front, and that is the result.
+-- whole, with the same result; or a write failed, it took a prefix, and that is the result.
 pub data Takes {T A : Type 0}
     (sink : Stream T) (due : List ℕ) (whole failed result : A) : Type 0 where
   nothing : due ≡ [] → result ≡ whole → Stays sink → Takes sink due whole failed result

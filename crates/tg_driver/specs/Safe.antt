@@ -85,8 +85,8 @@ HasToWrite rule told Alloc asked text written = Lists rule text written
 HasToWrite rule told Gen asked text written = IsSummed asked text written
 HasToWrite rule told Format asked text written = Formats text written
 
--- The output took a front of what the mode has to write, of the front of its file that it reads, or
--- of what `gen` generates.
+-- The output took a prefix of what the mode has to write, of the prefix of its file that it reads,
+-- or of what `gen` generates.
 pub record WritesFront {H I O E : Type 0} (c : Call H I O E) : Type 0 where
   pub asked : Asked
   pub ask : Ask c.words asked
@@ -129,9 +129,9 @@ SomeFailed c = HasFailed c.streams.input ⊎ HasFailed c.streams.out ⊎ HasFail
 
 -- What a call with this answer and this status leaves. A refusal touches no stream. Each mode
 -- leaves alone what it doesn't read. A file is unreadable where its count rose. What was written is
--- a front of what was to be written. A failed read or write has its count as its cause. The error
+-- a prefix of what was to be written. A failed read or write has its count as its cause. The error
 -- sink took the reports and the line of the answer whole, and the status is its own; or its count
--- rose, it took a front, and the status is 74.
+-- rose, it took a prefix, and the status is 74.
 pub record IsSafe {H I O E : Type 0} (c : Call H I O E)
     (status : ℕ) (reports : List ℕ) (answer : Answer) : Type 0 where
   pub refused : IsBeforeStart answer → Untouched c.streams

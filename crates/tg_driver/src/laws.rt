@@ -69,7 +69,7 @@ pub fn answers_are_exact<I, O, J, P>()
 {}
 
 /// The law of what a call leaves, whatever it is given: a refusal touches no stream, what a mode
-/// doesn't read is as it was, what the output took is a front of what was to be written, and each
+/// doesn't read is as it was, what the output took is a prefix of what was to be written, and each
 /// failed read or write has a count as its cause. It does nothing.
 pub fn answers_are_safe<H, I, O, E>()
     ensures { (c : Call H I O E) (status : ℕ) (given : Answers c status)

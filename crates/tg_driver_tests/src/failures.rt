@@ -36,7 +36,7 @@ fn failing(text: &[u8], object: Object, at: u64) -> Outside {
 }
 
 /// Where this call on an object fails, the status is its own and its count alone rose, nothing is
-/// called on it again, and the output and what was read are a front of what they are undisturbed.
+/// called on it again, and the output and what was read are a prefix of what they are undisturbed.
 fn fails_at(
     rt: &impl Abort,
     alloc: Global,

@@ -268,7 +268,7 @@ fn a_watcher_without_memory_ends_the_call(rt: HostRuntime) -> Result<(), Fail> {
     Ok(())
 }
 
-/// Where call number `at` of the error sink fails, it has taken a front of the whole.
+/// Where call number `at` of the error sink fails, it has taken a prefix of the whole.
 fn is_cut_off(
     rt: &impl Abort,
     alloc: Global,

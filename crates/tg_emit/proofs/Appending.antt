@@ -10,7 +10,7 @@ use Rattle.tg_emit.specs.Lines.{instruction_lines, code_lines, function_lines, f
 use Rattle.tg_emit.specs.Text.{further_numbers}
 use Rattle.std.specs.Fmt.{decimal}
 
--- a list that was made for a front of the parts, and then for one part more
+-- a list that was made for a prefix of the parts, and then for one part more
 pub one_more : {A B : Type 0} (f : List A → List B) (g : A → List B) → ((xs : List A) (x : A) → f (xs ++ x ∷ []) ≡ f xs ++ g x) →
     (xs : List A) (i : ℕ) (d : A) → i < length xs → (old list new : List B) → list ≡ old ++ f (take i xs) → new ≡ list ++ g (get_or xs i d) →
     new ≡ old ++ f (take (i + 1) xs)
@@ -51,7 +51,7 @@ pub words_more : (xs : List Line) (x : Line) → words (xs ++ x ∷ []) ≡ word
 words_more [] x = let e : words_of x + 0 ≡ 0 + words_of x = omega arith in e
 words_more (y ∷ xs) x = ap (λ n. words_of y + n) (words_more xs x) ∙ sym (add_assoc (words_of y) (words xs) (words_of x))
 
--- a front of lines is no more words
+-- a prefix of lines is no more words
 pub words_front : (xs ys : List Line) → words xs ≤ words (xs ++ ys)
 words_front [] ys = omega arith
 words_front (x ∷ xs) ys = let h = words_front xs ys in omega arith

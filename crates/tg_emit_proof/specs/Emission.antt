@@ -105,7 +105,7 @@ pub record RunsAgree (a b : ℕ) (c d : Run Ran) : Type 0 where
   pub only :
       (m : ℕ) (e : RunEnd) → (d m).stop ≡ Ended e →
       ((c m).stop ≡ Ended e) × ((c m).output ≡ (d m).output) × ((c m).input ≡ (d m).input)
-  -- and what the second has written by any moment is a front of what the first writes
+  -- and what the second has written by any moment is a prefix of what the first writes
   pub front : (m : ℕ) → IsPrefix (d m).output (c m).output
 
 -- The machine's run of the image of the text, where no run of the functions goes wrong: with as

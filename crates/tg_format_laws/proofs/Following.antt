@@ -122,7 +122,7 @@ spelled names (Int n) h = let d = decimal_is_IsNumeral n (omega arith) in (d.0, 
 spelled names (Text bytes) h = (quoted_text bytes, refl, text_quoted bytes h)
 spelled names End h = absurd h
 
--- no longer front is a token: after a bracket that opens, a dot and a minus whatever follows, else before one of these bytes
+-- no longer prefix is a token: after a bracket that opens, a dot and a minus whatever follows, else before one of these bytes
 abbrev pub is_alone : Token → Bool
 is_alone one = is_close_behind one || is_minus one
 

@@ -1,4 +1,4 @@
--- Which signs, words and strings are the longest fronts of a text, by the byte that follows.
+-- Which signs, words and strings are the longest prefixes of a text, by the byte that follows.
 use Rattle.std.proofs.Common.{ℕ, ◌≡◌, ◌≢◌, List, [], ◌∷◌, ◌++◌, drop, get_or, Bool, true, false, refl, sym, ap, ◌∙◌, arith}
 use Rattle.std.specs.Prelude.{codes, ◌||◌, ◌&&◌, ◌==◌}
 use Rattle.std.specs.Str.{bytes_eq}

@@ -1,4 +1,4 @@
--- The two strings of generated programs are the longest fronts of any text.
+-- The two strings of generated programs are the longest prefixes of any text.
 use Rattle.std.proofs.Common.{ℕ, ◌≡◌, List, [], ◌∷◌, ◌++◌, true, false, refl, sym, ap, subst, ◌∙◌, arith, append_assoc}
 use Rattle.std.specs.Prelude.{codes, ◌==◌}
 use Rattle.std.specs.Str.Parse.{IsNumeral}

@@ -1,4 +1,4 @@
--- Fronts of lists, and runs of bytes of a class.
+-- Prefixes of lists, and runs of bytes of a class.
 use Rattle.std.proofs.Common.{ℕ, zero, suc, ◌+◌, ◌≡◌, ◌≤◌, ◌<◌, ◌⊎◌, inl, inr, List, [], ◌∷◌, ◌++◌, length, Bool, true, false, take, drop, get_or}
 use Rattle.std.proofs.Common.{refl, sym, ap, subst, ◌∙◌, arith}
 use Rattle.std.specs.Prelude.{◌==◌}
@@ -38,7 +38,7 @@ pub AllAre_right : (class : ℕ → Bool) (xs ys : List ℕ) → AllAre class (x
 AllAre_right class [] ys a = a
 AllAre_right class (x ∷ xs) ys a = AllAre_right class xs ys a.1
 
--- Two fronts of one list: one of them goes on.
+-- Two prefixes of one list: one of them goes on.
 pub record GoesOn (short long rest after : List ℕ) : Type 0 where
   pub more : List ℕ
   pub long_is : long ≡ short ++ more

@@ -167,7 +167,7 @@ whole piece more other ys rest after same e w =
     append_cancel_right (piece ++ more) ys after (append_assoc piece more after ∙ ap (λ l. piece ++ (l ++ after)) same
     ∙ ap (λ l. piece ++ l) (sym e) ∙ sym (append_assoc piece more rest) ∙ w)
 
--- two fronts that close as many comments are one
+-- two prefixes that close as many comments are one
 pub closes_once : {depth : ℕ} {xs : List ℕ} → Closes depth xs → {ys : List ℕ} → Closes depth ys → (rest after : List ℕ) → xs ++ rest ≡ ys ++ after → xs ≡ ys
 closes_once {depth = zero} c c' rest after e = by c c'
   where

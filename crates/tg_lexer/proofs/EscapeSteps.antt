@@ -46,7 +46,7 @@ three_first (x ∷ []) a b c e f g = cc
 three_first (x ∷ y ∷ []) a b c e f g = cc
 three_first (x ∷ y ∷ z ∷ text) a b c e f g = cc
 
--- the front of a text, of so many bytes
+-- the prefix of a text, of so many bytes
 pub escape_whole : (text front rest meant : List ℕ) → text ≡ front ++ rest → Escape front meant → (length front ≤ length text) ×
     Escape (take (length front) text) meant
 escape_whole text front rest meant e h = rw e (by front rest h)

@@ -1,4 +1,4 @@
--- Escapes: one front of a text alone is one, and means one thing.
+-- Escapes: one prefix of a text alone is one, and means one thing.
 use Rattle.std.proofs.Common.{ℕ, ◌≡◌, ◌⊎◌, inl, inr, ◌%◌, List, [], ◌∷◌, ◌++◌, Bool, true, false, cond, refl, sym, ap, subst, ◌∙◌, arith}
 use Rattle.std.proofs.Common.{append_assoc, append-nil}
 use Rattle.std.specs.Prelude.{◌==◌, IsTrue}
@@ -156,7 +156,7 @@ escape_ends (blanks b more h) rest = going_is (b == 94) (is_digit b) (is_white_s
 pub begun_no_escape : {begun escape meant : List ℕ} → IsBegun begun → Escape escape meant → (rest : List ℕ) → begun ≡ escape ++ rest → ⊥
 begun_no_escape b h rest e = clash (escape_ends h rest) (sym (ap goes_on e) ∙ begun_goes_on b)
 
--- a front of an escape was begun
+-- a prefix of an escape was begun
 blanks_front : (b : ℕ) (more p : List ℕ) (d : ℕ) (q : List ℕ) → AllAre is_white_space (b ∷ more) → more ++ 92 ∷ [] ≡ p ++ d ∷ q → IsBegun (b ∷ p)
 blanks_front b more p d q h e = IsBegun.blanks b p (h.0, front more p h.1 e)
   where

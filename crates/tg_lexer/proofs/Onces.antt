@@ -106,7 +106,7 @@ spells_form names bytes (token.Int n) h = digits bytes h.0
 spells_form names bytes (token.Text t) h = subst HasTokenForm (sym h.1) (quoted h.2)
 spells_form names bytes token.End h = absurd h
 
--- two longest fronts are one
+-- two longest prefixes are one
 no_more : (a c b d : List ℕ) → IsLongest a b → HasTokenForm c → GoesOn a c b d → c ≡ a
 no_more a c b d l s h = by_more h.more h.long_is h.rest_is
   where

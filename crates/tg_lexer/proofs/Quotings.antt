@@ -1,4 +1,4 @@
--- Strings: one front of a text alone is one, and a fault in it leaves none.
+-- Strings: one prefix of a text alone is one, and a fault in it leaves none.
 use Rattle.std.proofs.Common.{ℕ, ◌≡◌, List, [], ◌∷◌, ◌++◌, true, false, refl, sym, ap, ◌∙◌, arith, append_assoc, append-nil}
 use Rattle.std.proofs.lemmas.Bool.Decides.{nat_tests}
 use Rattle.tg_syntax.specs.declared.faults.LexRule.{LexRule}

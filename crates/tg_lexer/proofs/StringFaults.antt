@@ -19,7 +19,7 @@ pub record Same (rule other : LexRule) (place there : ℕ) : Type 0 where
 pub the_same : {rule : LexRule} {place : ℕ} → Same rule rule place place
 the_same = record { rule_is = refl; place_is = refl }
 
--- a front of what was begun was begun
+-- a prefix of what was begun was begun
 none_left : (p : List ℕ) (d : ℕ) (q : List ℕ) → [] ≡ p ++ d ∷ q → ⊥
 none_left [] d q e = not_cons e
 none_left (x ∷ p) d q e = not_cons e
@@ -123,7 +123,7 @@ fault_escape (end_in_escape begun k) h rest e = begun_no_escape k h rest (tail_i
 fault_escape (line_in_escape begun after m) h rest e = misfit_no_escape 10 m h after rest (tail_is e)
 fault_escape (bad_escape begun c after m n) h rest e = misfit_no_escape c m h after rest (tail_is e)
 
--- after two fronts of one string stands one fault
+-- after two prefixes of one string stands one fault
 pub quoted_fault_once : {quote at to : ℕ} {short meant long meaning rest after : List ℕ} {rule other : LexRule} {place there : ℕ} →
     IsQuoted short meant → IsQuoted long meaning → (from : ℕ) → at ≡ from + length short → to ≡ from + length long →
     FaultInString quote at rest rule place → FaultInString quote to after other there → short ++ rest ≡ long ++ after → Same rule other place there

@@ -28,7 +28,7 @@ pub no_rest : {C : Type 0} (a : List Spanned) (t : Spanned) (s : List Spanned) �
 no_rest [] t s h = cc
 no_rest (x ∷ a) t s h = cc
 
--- the front of a shallow list
+-- the prefix of a shallow list
 pub shallow_front : (counts : List ℕ) (a b : List Spanned) → NestsWithin 256 counts (a ++ b) → NestsWithin 256 counts a
 shallow_front counts [] b h = tt
 shallow_front counts (t ∷ a) b h = (h.0, shallow_front (after_token t.token counts) a b h.1)

@@ -18,7 +18,7 @@ Fits out_of_fuel WantsFuel = Unit {0}
 Fits _ _ = ⊥
 
 -- The code writes and stops as the program does, within the stack and with work within a times its
--- cost and r units more; or the stack, passed by the weight, cuts it after a front of what the
+-- cost and r units more; or the stack, passed by the weight, cuts it after a prefix of what the
 -- program writes. Of a program that is stuck nothing is said.
 pub data Matches (stack a r : ℕ) (o : Source) (p : Ran) : Type 0 where
   same :

@@ -1,4 +1,4 @@
--- Which fronts of a text are the longest with the form of a token, by the byte that follows.
+-- Which prefixes of a text are the longest with the form of a token, by the byte that follows.
 use Rattle.std.proofs.Common.{ℕ, ◌≡◌, List, [], ◌∷◌, ◌++◌, Bool, true, false, refl, sym, ap, subst, ◌∙◌, arith}
 use Rattle.std.specs.Prelude.{not, ◌||◌, ◌&&◌, ◌==◌}
 use Rattle.std.proofs.lemmas.Bool.{eq-eqb}

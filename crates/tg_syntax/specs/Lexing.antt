@@ -33,7 +33,7 @@ pub data Closes : ℕ → List ℕ → Type 0 where
 abbrev pub spanned : Token → ℕ → ℕ → Spanned
 spanned token from to = record { token = token; span = record { from = from; to = to } }
 
--- a token is as long as possible: no longer front of the text has the form of one
+-- a token is as long as possible: no longer prefix of the text has the form of one
 abbrev pub IsLongest : List ℕ → List ℕ → Type 0
 IsLongest bytes rest =
     (more after : List ℕ) → rest ≡ more ++ after → more ≢ [] → HasTokenForm (bytes ++ more) → ⊥

@@ -110,7 +110,7 @@ LinksOfCallsAreRight =
     LinksAreRight Trees (trees_of p) size (stack_top - stack) heap (level_in p) 32 input
 
 -- With other sizes of frames a run ends in the same way, with the same output and input left; or
--- the stack is full, and what was written is a front of that output.
+-- the stack is full, and what was written is a prefix of that output.
 pub record EndsAlike (p : Ran) (other : Ran) : Type 0 where
   pub stops : other.stop ≡ p.stop
   pub output : other.output ≡ p.output

@@ -38,7 +38,7 @@ use Rattle.tg_types.specs.States.{Fails, bad, AnswersCheck, Keeps, Opens, scope_
 use Rattle.tg_types.proofs.Steps.{step, fails_first, fails_then, last_fails, kept_true, kept_false, keeps_both, same_scope, given_is, opens_keep, opens_both}
 use Rattle.tg_types.proofs.TreeSteps.{from_here, none_left}
 
--- ---- fronts of lists
+-- ---- prefixes of lists
 
 pub front_more : {A : Type 0} (xs : List A) (k : ℕ) (x : A) → k < length xs → x ≡ get_or xs k x → take (k + 1) xs ≡ take k xs ++ x ∷ []
 front_more xs k x l j =

@@ -27,7 +27,7 @@ unfolding ◌>>=◌
 grouped (fine a n) f g = refl
 grouped (fault rule at) f g = refl
 
--- the same where the check is the front of a longer one
+-- the same where the check is the first part of a longer one
 pub two_steps : {A : Type 0} {B : Type 0} {C : Type 0} (m : Check A) (f : A → Check B) (g : B → Check C) (n : Noted) {n' : Noted} {b : B} {c : CheckResult C} →
     (m >>= f) n ≡ fine b n' → g b n' ≡ c → (m >>= λ a. f a >>= g) n ≡ c
 unfolding ◌>>=◌

@@ -6,11 +6,11 @@ use Rattle.tg_base.specs.Causes.{Rose, HasCause}
 use Rattle.tg_base.specs.Writes.{TakesPrefix, TakesAll}
 use Rattle.tg_base.proofs.KnownLemmas.{appends_then}
 
--- a front of a piece is one of a longer piece
+-- a prefix of a piece is one of a longer piece
 pub front_longer : (x y : Option (List ℕ)) (a b : List ℕ) → TakesPrefix x y a → TakesPrefix x y (a ++ b)
 front_longer x y a b (front, rest, is, kept) = (front, rest ++ b, ap (λ z. z ++ b) is ∙ append_assoc front rest b, kept)
 
--- a whole piece, and a front of the next
+-- a whole piece, and a prefix of the next
 pub front_later : (x y z : Option (List ℕ)) (a b : List ℕ) → Appends x y a → TakesPrefix y z b → TakesPrefix x z (a ++ b)
 front_later x y z a b whole (front, rest, is, kept) = (
   a ++ front,

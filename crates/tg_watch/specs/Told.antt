@@ -21,8 +21,8 @@ reports_text [] seen code = []
 reports_text (report ∷ reports) seen code =
     report_text (report seen code) ++ reports_text reports seen code
 
--- A text was told: the sink took it whole, or a write failed, and it took a front. Where the text is
--- empty no write failed, and the sink is as it was.
+-- A text was told: the sink took it whole, or a write failed, and it took a prefix. Where the text
+-- is empty no write failed, and the sink is as it was.
 pub record HasTold {S T E : Type 0} (taken : S → Option (List ℕ)) (faults : S → ℕ) (old new : S)
     (result : Result T E) (text : List ℕ) : Type 0 where
   pub bytes : TakesAll (taken old) (taken new) result text

@@ -7,7 +7,7 @@ use crate::watchers::Watcher;
 use tg_base::{Failed, Sink, write_all};
 
 /// Writes the report of each watcher in turn, line by line, each with a newline. It takes no
-/// memory. After `Failed` the sink has taken a front of them.
+/// memory. After `Failed` the sink has taken a prefix of them.
 pub fn write_reports<E: Sink>(watchers: &[Box<dyn Watcher>], err: &mut E) -> Result<(), Failed>
     requires { StandForOne (λ w. stands w) watchers.now }
     ensures { (seen : List Seen) (code : ℕ) → All (λ w. stands w seen code) watchers.now

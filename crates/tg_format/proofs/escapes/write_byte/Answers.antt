@@ -18,11 +18,11 @@ four xs at a b c d h =
 front : (xs e rest : List ℕ) (k : ℕ) → k ≤ length e → take (length xs + k) ((xs ++ e) ++ rest) ≡ xs ++ take k e
 front xs e rest k h = take-append-le (length xs + k) (xs ++ e) rest (omega (arith, length-append xs e)) ∙ take-append-add xs e k
 
--- a front of four bytes has at most four
+-- a prefix of four bytes has at most four
 short : (e q : List ℕ) → length e ≡ 4 → take (length q) e ≡ q → length q ≤ 4
 short e q four is = omega (arith, ap length is, length-take (length q) e)
 
--- a front of four bytes, written at a place
+-- a prefix of four bytes, written at a place
 written : (xs e q : List ℕ) (at : ℕ) → length e ≡ 4 → take (length q) e ≡ q → at + 4 ≤ length xs
     → take (at + length q) (set (set (set (set xs at (get_or e 0 0)) (at + 1) (get_or e 1 0)) (at + 2) (get_or e 2 0)) (at + 3) (get_or e 3 0)) ≡ take at xs ++ q
 written xs (a ∷ b ∷ c ∷ d ∷ []) q at long is h =
