@@ -1,4 +1,4 @@
--- Right sides after the pass, and words that are held or stay.
+-- Right sides after the pass, and words that are held or commute.
 use Rattle.std.proofs.Common.{◌≡◌, ◌⊎◌, ⊎_elim, inl, inr, ℕ, zero, suc, ◌+◌, ◌-◌, ◌<◌, ◌≤◌, min, max, Bool, true, false, not, ◌&&◌, nat_le, refl, sym}
 use Rattle.std.proofs.Common.{ap, ◌∙◌, subst, arith}
 use Rattle.std.proofs.lemmas.Bool.{le-leb, lt-leb}
@@ -64,7 +64,7 @@ both_true : (a b : Bool) → (a && b) ≡ true → (a ≡ true) × (b ≡ true)
 both_true true b e = (refl, e)
 both_true false b e = cc
 
--- what stays after a part
+-- what commutes with a part
 commutes_steady : (p : Part) (x : Tx) → commutes p x ≡ true → IsSteady x
 commutes_steady p (Const _) e = tt
 commutes_steady p (Address _) e = tt
@@ -101,7 +101,7 @@ commutes_apart p (Call _ _) e i o le = cc
 commutes_apart p (Service _ _) e i o le = cc
 commutes_apart p (After _ _) e i o le = cc
 
--- what doesn't stay is no temporary that is drawn
+-- what doesn't commute is no temporary that is drawn
 held_once : (own : ℕ) (p : Part) → IsOwned own p.least p.greatest → (x : Tx) → commutes p x ≡ false → holdable own x ≡ 1
 held_once own p h (Const _) e = refl
 held_once own p h (Address _) e = refl

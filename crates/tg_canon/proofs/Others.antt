@@ -1,4 +1,4 @@
--- What isn't a sum is held unless it stays.
+-- What isn't a sum is held unless it commutes.
 use Rattle.std.proofs.Common.{◌≡◌, ℕ, refl, Box, Global, ap, ◌∙◌}
 use Rattle.tg_tree.specs.declared.operators.Bin.{Bin}
 use Rattle.tg_tree.specs.declared.trees.Tx.{Tx as CodeTx, Const, Address, Temp, FrameAddress, Binary, Binary', Load', LoadByte', Call', Service', After'}

@@ -1,4 +1,4 @@
--- What an expression that may stay after a statement comes to: one word whatever world and temporaries there are, if those that occur in
+-- What an expression that commutes with a statement comes to: one word whatever world and temporaries there are, if those that occur in
 -- it are the same. And what one that only gives a word comes to.
 use Rattle.std.proofs.Common.{◌≡◌, ◌⊎◌, inl, inr, ℕ, ◌+◌, Bool, true, false, ◌||◌, Option, Some, None, refl, sym, ap, ◌∙◌}
 use Rattle.std.specs.Prelude.{◌==◌, if◌then◌else◌}
@@ -24,7 +24,7 @@ Occurs i (Load x) = Occurs i x
 Occurs i (LoadByte x) = Occurs i x
 Occurs i _ = ⊥
 
--- one that may stay
+-- one that may commute
 abbrev pub IsSteady : Tx → Type 0
 IsSteady (Const _) = Unit {0}
 IsSteady (Address _) = Unit {0}

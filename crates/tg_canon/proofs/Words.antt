@@ -260,7 +260,7 @@ module _ (z : Scene) {B : Type 0} (out : ℕ → ℕ) (x : Tx) (entire rest : Ac
         grows = let g = word.grows in omega arith;
       }
 
-    -- where something is, the word is held unless it stays
+    -- where something is, the word is held unless it commutes
     module _ (e : is_nothing part.statement ≡ false) (enough : v + 2 ≤ u) (d : Drawn Hoisted) (h : IsHeld z part a.rest from to d.it d.next) where
       -- its temporaries are as they were
       abbrev Then : Known → Temps → Known

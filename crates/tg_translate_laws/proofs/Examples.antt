@@ -174,7 +174,7 @@ nested_length : last_of 0 (lengths nested_findings nested) ≡ 6 + (2 + (1 + (1 
 nested_length = refl
 
 -- The dearest node, a call over 32 levels: itself, its link, which is stored, and 4 for each level. It pays for 2 more, which the
--- link would have where something of the arguments is lifted.
+-- link would have where something of the arguments is hoisted.
 far_length : last_of 0 (lengths far_findings (far 32)) ≡ 6 + (4 + 4 + (1 + 4 * 32)) + (16 + 2)
 far_length = refl
 

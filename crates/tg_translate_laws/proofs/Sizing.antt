@@ -36,7 +36,7 @@ use Rattle.tg_translate.specs.Scopes.{frame_at, home_place, call_declared}
 use Rattle.tg_translate_laws.proofs.Spreading.{tx_length, txs_length, cond_length, ts_length, stms_length, tx_needs, txs_needs, cond_needs, ts_needs}
 use Rattle.tg_translate_laws.proofs.Spreading.{stms_needs, tx_depth, txs_depth, cond_depth, ts_depth, stms_depth}
 
--- arguments, each with what it may have to be lifted
+-- arguments, each with what it may have to be hoisted
 abbrev pub most_arguments : Txs → ℕ
 most_arguments no_txs = 0
 most_arguments (tx x xs) = 6 + (tx_length x + most_arguments xs)
