@@ -41,7 +41,7 @@ one_fits n f Spill = omega arith
 one_fits n f Stacked = omega arith
 one_fits n f Merged = omega arith
 
--- the lists that the neighbours make are those that they are known to be
+-- the lists that the chains make are those that they are known to be
 pub settled : (n : ℕ) (next prev : List ℕ) (places : List Worklist) (f : Worklist → List ℕ) →
     AreLinked n next prev places f → list_from n next ≡ f
 settled n next prev places f k =
@@ -57,7 +57,7 @@ pub settled_linked : (n : ℕ) (next prev : List ℕ) (places : List Worklist) (
 settled_linked n next prev places f k =
     subst (λ (g : Worklist → List ℕ). AreLinked n next prev places g) (sym (settled n next prev places f k)) k
 
--- the same neighbours and places
+-- the same chains and places
 pub linked_at : (n : ℕ) (xs ys us vs : List ℕ) (ps qs : List Worklist) → xs ≡ ys → us ≡ vs → ps ≡ qs →
     AreLinked n xs us ps (list_from n xs) →
     AreLinked n ys vs qs (list_from n ys)

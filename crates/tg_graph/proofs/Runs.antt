@@ -196,7 +196,7 @@ joined_more end a k xs e =
       | false ↦ append-nil (xs ++ [])
     ]
 
--- What is found by following neighbours.
+-- What is found by following chains.
 
 pub follows : (next : ℕ → ℕ) (n end : ℕ) → n ≤ end → (xs : List ℕ) (k y : ℕ) → length xs ≤ k → LeadsAlong next n y xs end →
     follow next n k y ≡ xs

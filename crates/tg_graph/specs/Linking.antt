@@ -15,7 +15,7 @@ total lists =
     length lists.fixed + length lists.simplify + length lists.freeze + length lists.spill
     + length lists.stacked + length lists.merged
 
--- these are the lists of the neighbours, and each node's place tells the list in which it is
+-- these are the lists of the chains, and each node's place tells the list in which it is
 pub record AreLinked
     (n : ℕ) (next prev : List ℕ) (places : List Worklist) (lists : Worklist → List ℕ) : Type 0 where
   pub some : colours ≤ n

@@ -3,7 +3,7 @@ ghost use Rattle.std.specs.List.{range_with_len};
 ghost use Rattle.tg_graph.specs.Chains.{AreAlone, AreInverse, Relinks, joined_to};
 ghost use Rattle.tg_graph.specs.Lists.{without};
 
-/// Takes a node out of its list and neighbours it to itself.
+/// Takes a node out of its list and links it to itself.
 pub(crate) fn unlink(next: &mut [u32], prev: &mut [u32], node: u32)
     requires inverse { AreInverse next.old prev.old }
     requires within { node < length next.old }

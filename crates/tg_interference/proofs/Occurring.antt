@@ -92,7 +92,7 @@ room_for x list i one l short =
     let whole = sum_by-le (λ (one : Instr). 48) 48 list (each_few list) in
     omega (arith, part, whole)
 
--- the one of a node by the counts
+-- the facts of a node by the counts
 pub mark_same : (all : List Instr) (temps originals : ℕ) (counts : List ℕ) (n : ℕ) → AreCounts all temps counts →
     n < 25 + temps → facts_by (slice_index counts) originals n ≡ facts_of all originals n
 mark_same all temps originals counts n c l = ⊎_elim low high (cases_lt n 25)

@@ -13,7 +13,7 @@ module _ (c : After-link_last) where
   nodes : c.args.node < c.self.inside.nodes
   nodes = omega (arith, ap (λ (v : Lists). v.nodes) c.self.view_is, c.requires)
 
-  -- the neighbours after each place, when the node is taken out and when it is put last
+  -- what is chained after each place, when the node is taken out and when it is put last
   unlinked_size : length c.unlink.new.next ≡ length c.self.inside.next.items
   unlinked_size = c.unlink.auto.next ∙ ap length c.deref_mut.ensures.value
 

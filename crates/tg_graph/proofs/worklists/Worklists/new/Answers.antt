@@ -70,7 +70,7 @@ module _ (c : After-link_range-2) where
   long =
       c.in_ok-next.next.ok.0 ∙ (ap length c.in_ok-next.ensures ∙ length-range_with_len 0 (c.args.nodes + 6))
 
-  -- the neighbours after each place, when the registers are put into their list and when all nodes are
+  -- what is chained after each place, when the registers are put into their list and when all nodes are
   second_size : length c.link_range.new.next ≡ c.in_ok-next.next.len
   second_size = c.link_range.auto.next ∙ (ap length c.deref_mut.ensures.value ∙ sym c.in_ok-next.next.ok.0)
 
