@@ -48,7 +48,7 @@ pub(crate) fn label_at(text: &[u8]) -> Option<(&[u8], &[u8])>
     }
 }
 
-/// What stands between quotes, from after the first one, and what follows the second.
+/// What stands between quotes, after the first one, and what follows the second.
 fn quoted(text: &[u8]) -> Option<(&[u8], &[u8])>
     ensures { pair_of result ≡ lines.quoted false text.now }
 {

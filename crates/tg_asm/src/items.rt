@@ -274,7 +274,7 @@ fn values<'a>(
     Ok(Item::Data(align, Contents::Operands(keyword, operands)))
 }
 
-/// The byte of an escape, from after its `\`.
+/// The byte of an escape, after its `\`.
 fn escape(byte: u8) -> Option<u8>
     ensures { result ≡ strings.escape byte }
 {
