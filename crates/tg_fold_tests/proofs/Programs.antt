@@ -35,7 +35,7 @@ Seen = List ℕ × Stop
 abbrev ran : Code Ts → (fuel : ℕ) → Ran
 ran code fuel = tree_run Trees code (λ label. 64) (stack_top - 1024) 64 32 [] fuel
 
--- what a program does before the pass and behind it, and whether it does no more work and is no larger
+-- what a program does before the pass and after it, and whether it does no more work and is no larger
 abbrev compared : Code Ts → (fuel : ℕ) → Seen × Seen × Bool × Bool
 compared code fuel =
     let before = ran code fuel in
@@ -50,7 +50,7 @@ does_with escaping links e fuel =
 abbrev does : Exp → (fuel : ℕ) → Seen × Seen × Bool × Bool
 does e fuel = does_with [] [] e fuel
 
--- the same before and behind, by no more work of functions that are no larger
+-- the same before and after, by no more work of functions that are no larger
 abbrev alike : Seen → Seen × Seen × Bool × Bool
 alike seen = (seen, seen, true, true)
 

@@ -39,7 +39,7 @@ IsMark text mark.Opens = OpensComment text
 IsMark text mark.Closes = ClosesComment text
 IsMark text mark.Byte = (OpensComment text → ⊥) × (ClosesComment text → ⊥)
 
--- no front of the text closes a comment
+-- no prefix of the text closes a comment
 abbrev pub NeverCloses : List ℕ → Type 0
 NeverCloses text = (inside rest : List ℕ) → text ≡ inside ++ rest → Closes 1 inside → ⊥
 
@@ -105,7 +105,7 @@ pub data IsGap : List ℕ → ℕ → Type 0 where
       Closes 1 inside →
       IsGap (47 ∷ 42 ∷ inside ++ rest) (2 + length inside)
 
--- the text's longest front that is a token is this one, of so many bytes
+-- the text's longest prefix that is a token is this one, of so many bytes
 pub record IsToken (names : List (List ℕ)) (text : List ℕ) (one : Token) (size : ℕ) : Type 0 where
   pub bytes : List ℕ
   pub rest : List ℕ

@@ -52,7 +52,7 @@ Judges names state result value check =
     (scope : Scope) (in_loop : Bool) → scope ≡ scope_of names state in_loop →
     (n : Noted) → AnswersCheck result value n (check scope n)
 
--- a call declares what stands before the rest of a list of declarations, which goes on behind it
+-- a call declares what stands before the rest of a list of declarations, which goes on after it
 abbrev pub Declares : {X : Type 0} → (names : List (List ℕ)) → (old new : CheckingState) →
     (in_loop : Bool) → Result X (Faulty TypeRule ℕ) → (Decs → Decs) → Type 0
 Declares names old new in_loop result declared =
@@ -65,7 +65,7 @@ pub record Keeps (old new : CheckingState) : Type 0 where
   pub bindings : new.bindings ≡ old.bindings
   pub types : new.types ≡ old.types
 
--- more names are open, and those of before behind them
+-- more names are open, and those of before after them
 pub record Opens (old new : CheckingState) : Type 0 where
   pub more_bindings : List (ℕ × Binding)
   pub bindings : new.bindings ≡ more_bindings ++ old.bindings
