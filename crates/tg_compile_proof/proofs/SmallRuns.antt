@@ -19,7 +19,7 @@ use Rattle.tg_semantics.specs.Evaluation as E
 use Rattle.tg_semantics.specs.Evaluation.{Location, in_variable, in_field, in_element, Job, run_function, repeat_while, repeat_for, with_variable}
 use Rattle.tg_translate_laws.specs.Strings.{strings, place_strings, exps_strings, inits_strings, decs_strings, bodies_strings}
 use Rattle.tg_translate_laws.proofs.Fine.{Each, each_append}
-use Rattle.tg_translate_proof.proofs.Arithmetic.{within_small}
+use Rattle.tg_translate_proof.proofs.expressions.BinaryPlusMinus.{within_small}
 use Rattle.tg_compile_proof.proofs.SmallValues.{each_of_all, each_front, each_back, each_take, each_drop, each_replicate}
 use Rattle.tg_compile_proof.proofs.SmallValues.{IsByte, HasShortLength, IsShortString, IsSmallValue, IsSmallPart, IsSmallObject, truth_small, below_is}
 use Rattle.tg_compile_proof.proofs.SmallValues.{field_small, element_small, field_put, element_put, IsFitExp, IsFitPlace, AreFitExps, AreFitInits, AreFitDecs}

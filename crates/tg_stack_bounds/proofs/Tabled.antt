@@ -19,11 +19,11 @@ use Rattle.tg_translate.specs.Functions as functions
 use Rattle.tg_translate_laws.specs.Laws.{findings_in}
 use Rattle.tg_translate_proof.specs.Tables.{Table, IsSuffix}
 use Rattle.tg_translate_proof.specs.Laws.{findings_of}
-use Rattle.tg_translate_proof.proofs.Programs.{first_state}
-use Rattle.tg_translate_proof.proofs.Covering.{Declares, HasVariable, HasFunction, IsWeighed}
-use Rattle.tg_translate_proof.proofs.Tabling.{Once, InTable}
-use Rattle.tg_translate_proof.proofs.Walking.{shows}
-use Rattle.tg_translate_proof.proofs.Accepted.{last, weights, homes_once, callees_once, weighed}
+use Rattle.tg_translate_proof.proofs.program.Program.{first_state}
+use Rattle.tg_translate_proof.proofs.invariant.Covered.{Declares, HasVariable, HasFunction, IsWeighed}
+use Rattle.tg_translate_proof.proofs.state.Tables.{Once, InTable}
+use Rattle.tg_translate_proof.proofs.state.TableWalk.{shows}
+use Rattle.tg_translate_proof.proofs.program.Accepted.{last, weights, homes_once, callees_once, weighed}
 use Rattle.tg_stack_bounds.proofs.Leading.{LevelTable, Leads}
 use Rattle.tg_stack_bounds.proofs.Following.{leads, first_agrees}
 

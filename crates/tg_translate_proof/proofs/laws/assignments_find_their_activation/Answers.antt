@@ -1,4 +1,4 @@
-use Rattle.tg_translate_proof.proofs.Activations as activations
+use Rattle.tg_translate_proof.proofs.invariant.Activations as activations
 use Rattle.tg_translate_proof.proofs.laws.assignments_find_their_activation.Goals as goal
 
 pub returns : goal.returns

@@ -1,4 +1,4 @@
-use Rattle.tg_translate_proof.proofs.Sizing.{links_are_right, sizes_tell_nothing}
+use Rattle.tg_translate_proof.proofs.program.Consequences.{links_are_right, sizes_tell_nothing}
 use Rattle.tg_translate_proof.proofs.laws.runs_are_alike.Goals as goal
 
 pub returns : goal.returns

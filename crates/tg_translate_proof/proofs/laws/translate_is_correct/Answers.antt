@@ -1,5 +1,5 @@
-use Rattle.tg_translate_proof.proofs.Expressions.{expressions_follow}
-use Rattle.tg_translate_proof.proofs.Whole as whole
+use Rattle.tg_translate_proof.proofs.expressions.EveryExpression.{expressions_follow}
+use Rattle.tg_translate_proof.proofs.program.Theorem as whole
 use Rattle.tg_translate_proof.proofs.laws.translate_is_correct.Goals as goal
 
 pub returns : goal.returns

@@ -1,0 +1,20 @@
+-- Memory, temporaries, objects, scopes and the states of a translation, and how each of them changes.
+pub mod DeclaredBytes
+pub mod Frames
+pub mod HeapBlocks
+pub mod HomeWrites
+pub mod Keys
+pub mod NamesInSight
+pub mod NewArrays
+pub mod NewFrames
+pub mod NewRecords
+pub mod NothingDeclared
+pub mod ObjectStores
+pub mod OneKey
+pub mod StatesGrow
+pub mod StaticLinks
+pub mod Statics
+pub mod TableWalk
+pub mod Tables
+pub mod TranslationStates
+pub mod ValueWords
