@@ -9,7 +9,7 @@ use Rattle.tg_asm_text.specs.Items as items
 use Rattle.tg_asm_text.specs.Assembly.{Layout, LabelTarget, InCode, InStatics, Reading, Made, target_address, label_address, spot_of, jump_to, branch_to, upper}
 use Rattle.tg_asm_text.specs.Assembly.{lower, word, place_bytes, datum_bytes, make_words, make_data, pad, make_item, make_reading, make_line, make, reading}
 use Rattle.tg_asm_text.specs.Assembly.{entry_point, entry_at}
-use Rattle.tg_asm.specs.Layouts.{IsAlike}
+use Rattle.tg_asm.specs.glue.Layouts.{IsAlike}
 
 same_address : (m l : Layout) → IsAlike m l → (s : LabelTarget) → target_address m s ≡ target_address l s
 same_address m l a (InCode i) = refl

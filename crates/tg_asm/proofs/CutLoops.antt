@@ -8,8 +8,8 @@ use Rattle.std.proofs.lemmas.Bool.{ne_eqb}
 use Rattle.tg_asm_text.specs.Lines as lines
 use Rattle.tg_asm_text.specs.Lines.{front, back, quoted, before_quoted, Labelled, before_labelled, unlabelled, labelled, label_at, before_colon, skip}
 use Rattle.tg_asm_text.specs.Lines.{Over, Next, Misshapen, first_gap, gap, before_operands, begins_label, is_past_label, is_end, is_solid}
-use Rattle.tg_asm.specs.Cuts.{operand_of}
 use Rattle.tg_asm.specs.declared.cuts.Operand.{Operand}
+use Rattle.tg_asm.specs.glue.Cuts.{operand_of}
 
 -- a split takes nothing more than the text
 pub length-back : (class : ℕ → Bool) (text : List ℕ) → length (back class text) ≤ length text

@@ -8,9 +8,9 @@ use Rattle.tg_asm_text.specs.declared.keywords.AsmRule.TheVariants.{A3, A7}
 use Rattle.tg_asm_text.specs.Items as items
 use Rattle.tg_asm_text.specs.Lines as lines
 use Rattle.tg_asm_text.specs.Operands.{string, before_string}
-use Rattle.tg_asm.specs.Cuts.{operand_of}
-use Rattle.tg_asm.specs.Means.{all_values, datum_stored, is_value, meant_by}
 use Rattle.tg_asm.specs.declared.cuts.Operand.{Operand}
+use Rattle.tg_asm.specs.glue.Cuts.{operand_of}
+use Rattle.tg_asm.specs.glue.Means.{all_values, datum_stored, is_value, meant_by}
 
 -- operands that are of their kind
 pub record AllValues (k : Keyword) (os : List Operand) (at : ℕ) : Type 0 where

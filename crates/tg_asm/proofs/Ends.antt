@@ -6,7 +6,7 @@ use Rattle.tg_asm_text.specs.declared.keywords.AsmRule.{AsmRule}
 use Rattle.tg_asm_text.specs.declared.keywords.AsmRule.TheVariants.{A9}
 use Rattle.tg_asm_text.specs.Lines.{lines}
 use Rattle.tg_asm_text.specs.Assembly.{Layout, Made, blank, unmade, layout, make, entry_point, last_line_number, assembled}
-use Rattle.tg_asm.specs.Layouts.{GivesLayout, IsLaidOut, IsSmall}
+use Rattle.tg_asm.specs.glue.Layouts.{GivesLayout, IsLaidOut, IsSmall}
 use Rattle.tg_asm.specs.Images.{GivesMade, GivesImage}
 use Rattle.tg_asm.proofs.Alike.{make_alike, entry_alike}
 use Rattle.tg_asm.proofs.Sizes.{made_even}

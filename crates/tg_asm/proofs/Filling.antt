@@ -4,8 +4,8 @@ use Rattle.std.proofs.lemmas.List.{length-map}
 use Rattle.tg_asm_text.specs.declared.keywords.Slot.{Slot}
 use Rattle.tg_asm_text.specs.Lines as lines
 use Rattle.tg_asm_text.specs.Operands.{Fields, fill, fill_all, unfilled}
-use Rattle.tg_asm.specs.Cuts.{operand_of}
 use Rattle.tg_asm.specs.declared.cuts.Operand.{Operand}
+use Rattle.tg_asm.specs.glue.Cuts.{operand_of}
 
 pub record Filled (slots : List Slot) (os : List Operand) (f : Fields) (at : ℕ) : Type 0 where
   pub same : fill_all slots (map operand_of os) unfilled ≡ fill_all (drop at slots) (map operand_of (drop at os)) f

@@ -7,14 +7,14 @@ use Rattle.tg_asm_text.specs.declared.keywords.AsmRule.{AsmRule}
 use Rattle.tg_asm_text.specs.declared.keywords.AsmRule.TheVariants.{A4}
 use Rattle.tg_asm_text.specs.Items as items
 use Rattle.tg_asm_text.specs.Assembly.{Layout, LabelTarget, spot_of, spot_among, add_label, add_new, add_labels}
-use Rattle.tg_asm.specs.Entries.{Lined, unlined, first_again}
-use Rattle.tg_asm.specs.Layouts.{IsSmall, lined_at, put_labels}
+use Rattle.tg_asm.specs.glue.Entries.{Lined, unlined, first_again}
+use Rattle.tg_asm.specs.glue.Layouts.{IsSmall, lined_at, put_labels}
 use Rattle.tg_asm_text.specs.declared.keywords.Keyword.{Keyword}
 use Rattle.tg_asm_text.specs.Lines.{labelled, label_at, skip, is_solid}
-use Rattle.tg_asm.specs.Cuts.{labels_of, operand_of}
+use Rattle.tg_asm.specs.glue.Cuts.{labels_of, operand_of}
 use Rattle.tg_asm.proofs.CutLoops.{label_taken, labelled_none, length-back}
-use Rattle.tg_asm.specs.Means.{datum_stored}
 use Rattle.tg_asm.specs.declared.cuts.Operand.{Operand}
+use Rattle.tg_asm.specs.glue.Means.{datum_stored}
 
 abbrev pub or_later : Option ℕ → Option ℕ → Option ℕ
 or_later None o = o

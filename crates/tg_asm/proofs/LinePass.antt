@@ -8,8 +8,8 @@ use Rattle.tg_asm_text.specs.declared.keywords.AsmRule.TheVariants.{A4, A8}
 use Rattle.tg_asm_text.specs.Lines.{lines}
 use Rattle.tg_asm_text.specs.Items.{Item, Nothing, Section, Words, Data'}
 use Rattle.tg_asm_text.specs.Assembly.{Layout, Reading, spot_among, Fault, blank, reading, add_label, add_item, add_reading, add_line, layout}
-use Rattle.tg_asm.specs.Entries.{AreFirst, Finds, Lined, Rises, unlined, first_again}
-use Rattle.tg_asm.specs.Layouts.{IsLaidOut, IsSmall, TellsAgain, lined_at, lined_of_reading, lined_of_line, put_labels, put_reading, put_line, told}
+use Rattle.tg_asm.specs.glue.Entries.{AreFirst, Finds, Lined, Rises, unlined, first_again}
+use Rattle.tg_asm.specs.glue.Layouts.{IsLaidOut, IsSmall, TellsAgain, lined_at, lined_of_reading, lined_of_line, put_labels, put_reading, put_line, told}
 use Rattle.tg_asm.proofs.LayoutLoops.{or_later, labels_by, first_again-append, labels_told, again_here}
 
 -- what is left to lay out after a line

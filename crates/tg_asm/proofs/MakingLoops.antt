@@ -6,8 +6,8 @@ use Rattle.tg_asm_text.specs.declared.keywords.AsmRule.{AsmRule}
 use Rattle.tg_asm_text.specs.Items as items
 use Rattle.tg_asm_text.specs.Assembly.{Layout, Made, make_words, make_data, word, datum_bytes, round_up}
 use Rattle.tg_asm_text.specs.declared.keywords.Keyword.{Keyword}
-use Rattle.tg_asm.specs.Cuts.{operand_of}
-use Rattle.tg_asm.specs.Means.{Leaves, datum_stored}
+use Rattle.tg_asm.specs.glue.Cuts.{operand_of}
+use Rattle.tg_asm.specs.glue.Means.{Leaves, datum_stored}
 use Rattle.tg_asm.specs.declared.faults.Refused.{Refused}
 use Rattle.tg_asm.specs.declared.faults.Refused.TheVariants as refused
 use Rattle.tg_asm.specs.declared.cuts.Operand.{Operand}

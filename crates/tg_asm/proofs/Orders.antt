@@ -18,8 +18,9 @@ use Rattle.std.proofs.lemmas.Slice.Eq.{bytes_eq-Decides}
 use Rattle.std.proofs.lemmas.Bool.Decides.{nat_tests}
 use Rattle.tg_asm_text.specs.Assembly.{spot_among}
 use Rattle.tg_asm.specs.declared.entries.Entry.{Entry}
-use Rattle.tg_asm.specs.Fronts.{front_number}
-use Rattle.tg_asm.specs.Entries.{Key, key_of, by_key, by_entry, label_of, lined_of, next_again, sooner, again_behind, again_among, unlined, first_again, Rises, Finds}
+use Rattle.tg_asm.specs.glue.Fronts.{front_number}
+use Rattle.tg_asm.specs.glue.Entries.{Key, key_of, by_key, by_entry, label_of, lined_of, next_again, sooner, again_behind, again_among, unlined, first_again}
+use Rattle.tg_asm.specs.glue.Entries.{Rises, Finds}
 use Rattle.tg_asm.proofs.Tallies.{weight, tally, and_false, weight_other, weight_late, weight_one, weight_most, IsFirstAgain, Once, tally-permutation, same_again, text_again, same_spots}
 
 pub by_key_total : IsTotalOrder by_key

@@ -15,9 +15,9 @@ use Rattle.std.proofs.lemmas.Bool.Decides.{nat_tests}
 use Rattle.std.proofs.lemmas.Slice.Eq.{bytes_eq-Decides}
 use Rattle.tg_asm_text.specs.Assembly.{spot_among}
 use Rattle.tg_asm.specs.declared.entries.Entry.{Entry}
-use Rattle.tg_asm.specs.Fronts.{front_number}
-use Rattle.tg_asm.specs.Spots.{spot_of}
-use Rattle.tg_asm.specs.Entries.{Key, key_of, by_key, label_of}
+use Rattle.tg_asm.specs.glue.Fronts.{front_number}
+use Rattle.tg_asm.specs.glue.Spots.{spot_of}
+use Rattle.tg_asm.specs.glue.Entries.{Key, key_of, by_key, label_of}
 use Rattle.tg_asm.proofs.Orders.{by_key_total, same_key, tied}
 
 abbrev pub AreStrict : List Entry → Type 0

@@ -11,7 +11,7 @@ use Rattle.std.proofs.lemmas.List.Sorted.{IsPermutation-sym, All-permutation, Co
 use Rattle.std.proofs.lemmas.Slice.Eq.{bytes_eq-Decides}
 use Rattle.std.proofs.lemmas.Bool.Decides.{nat_tests}
 use Rattle.tg_asm_text.specs.Assembly.{LabelTarget, spot_among}
-use Rattle.tg_asm.specs.Entries.{Lined, Rises, unlined, first_again}
+use Rattle.tg_asm.specs.glue.Entries.{Lined, Rises, unlined, first_again}
 
 -- what a label adds to the count of a name below a line
 abbrev pub weight : List ℕ → ℕ → Lined → ℕ

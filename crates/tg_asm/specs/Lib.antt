@@ -1,11 +1,2 @@
-pub mod Classes
-pub mod Cuts
-pub mod Numbers
-pub mod Registers
-pub mod Means
-pub mod Spots
-pub mod Fronts
-pub mod Entries
-pub mod Readings
-pub mod Layouts
 pub mod Images
+pub mod glue

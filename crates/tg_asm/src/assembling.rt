@@ -2,7 +2,7 @@ ghost use Rattle.std.specs.Prelude.{◌≡◌, ◌≤◌, ◌==◌, IfOk, count_
 ghost use Rattle.tg_state.specs.State.{most_bytes, most_words};
 ghost use Rattle.tg_asm_text.specs.Assembly as assembly;
 ghost use Rattle.tg_asm.specs.Images.{GivesImage};
-ghost use Rattle.tg_asm.specs.Layouts.{layout_of};
+ghost use Rattle.tg_asm.specs.glue.Layouts.{layout_of};
 
 use crate::faults::AsmFault;
 use crate::layouts::{Layout, lay_out};

@@ -1,7 +1,7 @@
 ghost use Rattle.std.specs.Prelude.{◌≡◌, ◌<◌, IfSome, MatchOption, ◌∷◌, [], length};
 ghost use Rattle.tg_asm_text.specs.Lines as lines;
 ghost use Rattle.tg_asm_text.specs.Lines.{front, back};
-ghost use Rattle.tg_asm.specs.Classes.{in_class};
+ghost use Rattle.tg_asm.specs.glue.Classes.{in_class};
 
 /// A class of bytes at which a text is split.
 #[derive(Clone, Copy)]

@@ -1,6 +1,6 @@
 ghost use Rattle.std.specs.Prelude.{◌≡◌, false, map, MatchOption, Some, None, IfOk, length};
 ghost use Rattle.tg_asm_text.specs.Lines as lines;
-ghost use Rattle.tg_asm.specs.Cuts.{found_cut, found_operand, gap_of, operand_of, pair_of};
+ghost use Rattle.tg_asm.specs.glue.Cuts.{found_cut, found_operand, gap_of, operand_of, pair_of};
 
 use crate::bytes::{Class, begins_label, is_blank, skip, split};
 use std::alloc::Global;

@@ -1,5 +1,5 @@
 ghost use Rattle.std.specs.Prelude.{◌≡◌, slice_index_or};
-ghost use Rattle.tg_asm.specs.Fronts.{front_number};
+ghost use Rattle.tg_asm.specs.glue.Fronts.{front_number};
 
 use crate::spots::LabelTarget;
 

@@ -1,8 +1,8 @@
 ghost use Rattle.std.specs.Prelude.{◌≡◌, map};
 ghost use Rattle.tg_asm_text.specs.Operands as spec;
-ghost use Rattle.tg_asm.specs.Cuts.{operand_of};
-ghost use Rattle.tg_asm.specs.Numbers.{found_number};
-ghost use Rattle.tg_asm.specs.Registers.{fields_of, found_address, found_fields};
+ghost use Rattle.tg_asm.specs.glue.Cuts.{operand_of};
+ghost use Rattle.tg_asm.specs.glue.Numbers.{found_number};
+ghost use Rattle.tg_asm.specs.glue.Registers.{fields_of, found_address, found_fields};
 
 use crate::bytes::{Class, begins_label, split};
 use crate::cuts::Operand;

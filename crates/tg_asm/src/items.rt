@@ -19,8 +19,8 @@ ghost use Rattle.std.specs.Prelude.{
 ghost use Rattle.tg_asm_text.specs.Items as items;
 ghost use Rattle.tg_asm_text.specs.declared.keywords.Keyword.{Keyword};
 ghost use Rattle.tg_asm_text.specs.Operands as strings;
-ghost use Rattle.tg_asm.specs.Cuts.{operand_of};
-ghost use Rattle.tg_asm.specs.Means.{
+ghost use Rattle.tg_asm.specs.glue.Cuts.{operand_of};
+ghost use Rattle.tg_asm.specs.glue.Means.{
   GivesMeant,
   all_values,
   bytes_of,
@@ -31,8 +31,8 @@ ghost use Rattle.tg_asm.specs.Means.{
   datum_stored,
   words_of,
 };
-ghost use Rattle.tg_asm.specs.Numbers.{signed_of};
-ghost use Rattle.tg_asm.specs.Registers.{fields_of};
+ghost use Rattle.tg_asm.specs.glue.Numbers.{signed_of};
+ghost use Rattle.tg_asm.specs.glue.Registers.{fields_of};
 
 use crate::cuts::Operand;
 use crate::faults::Refused;

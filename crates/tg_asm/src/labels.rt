@@ -1,6 +1,6 @@
 ghost use Rattle.std.specs.Prelude.{◌≡◌, [], IfSome, Some, MatchResult, map};
 ghost use Rattle.tg_asm_text.specs.Assembly.{spot_among};
-ghost use Rattle.tg_asm.specs.Entries.{
+ghost use Rattle.tg_asm.specs.glue.Entries.{
   Finds,
   Rises,
   again_among,
@@ -12,8 +12,8 @@ ghost use Rattle.tg_asm.specs.Entries.{
   next_again,
   sooner,
 };
-ghost use Rattle.tg_asm.specs.Fronts.{front_number};
-ghost use Rattle.tg_asm.specs.Spots.{found_spot, spot_of};
+ghost use Rattle.tg_asm.specs.glue.Fronts.{front_number};
+ghost use Rattle.tg_asm.specs.glue.Spots.{found_spot, spot_of};
 
 use crate::entries::{Entry, front};
 use crate::spots::LabelTarget;
@@ -41,7 +41,7 @@ impl<'a> Model for Labels<'a> {
     ghost use Rattle.std.specs.Prelude.{ℕ, List, map};
     ghost use Rattle.std.specs.List.Sorted.{IsStrictlySortedBy};
     ghost use Rattle.tg_asm_text.specs.Assembly as assembly;
-    ghost use Rattle.tg_asm.specs.Entries.{by_key, key_of, label_of};
+    ghost use Rattle.tg_asm.specs.glue.Entries.{by_key, key_of, label_of};
 
     ghost Value = { List (List ℕ × assembly.LabelTarget) };
 

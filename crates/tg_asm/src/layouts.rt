@@ -16,9 +16,9 @@ ghost use Rattle.std.specs.Prelude.{
 ghost use Rattle.tg_state.specs.State.{most_bytes};
 ghost use Rattle.tg_asm_text.specs.Assembly as assembly;
 ghost use Rattle.tg_asm_text.specs.Items as items;
-ghost use Rattle.tg_asm.specs.Cuts.{labels_of, operand_of};
-ghost use Rattle.tg_asm.specs.Entries.{AreFirst, Rises, first_again};
-ghost use Rattle.tg_asm.specs.Layouts.{
+ghost use Rattle.tg_asm.specs.glue.Cuts.{labels_of, operand_of};
+ghost use Rattle.tg_asm.specs.glue.Entries.{AreFirst, Rises, first_again};
+ghost use Rattle.tg_asm.specs.glue.Layouts.{
   GivesLayout,
   IsSmall,
   TellsAgain,
@@ -35,9 +35,9 @@ ghost use Rattle.tg_asm.specs.Layouts.{
   put_reading,
   told,
 };
-ghost use Rattle.tg_asm.specs.Readings.{reading_of};
+ghost use Rattle.tg_asm.specs.glue.Readings.{reading_of};
 ghost use Rattle.tg_asm_text.specs.Lines.{lines};
-ghost use Rattle.tg_asm.specs.Means.{
+ghost use Rattle.tg_asm.specs.glue.Means.{
   Leaves,
   bytes_of,
   data_of,
@@ -46,7 +46,7 @@ ghost use Rattle.tg_asm.specs.Means.{
   item_of,
   words_of,
 };
-ghost use Rattle.tg_asm.specs.Spots.{spot_of};
+ghost use Rattle.tg_asm.specs.glue.Spots.{spot_of};
 
 use crate::bytes::{skip, split_line};
 use crate::cuts::{Operand, label_at};

@@ -1,9 +1,9 @@
 ghost use Rattle.std.specs.Prelude.{◌≡◌, ◌<◌, ◌^◌};
 ghost use Rattle.tg_asm_text.specs.Assembly as assembly;
 ghost use Rattle.tg_asm_text.specs.Items as items;
-ghost use Rattle.tg_asm.specs.Layouts.{IsSmall, layout_of};
-ghost use Rattle.tg_asm.specs.Means.{coded_of};
-ghost use Rattle.tg_asm.specs.Spots.{found_spot, spot_of};
+ghost use Rattle.tg_asm.specs.glue.Layouts.{IsSmall, layout_of};
+ghost use Rattle.tg_asm.specs.glue.Means.{coded_of};
+ghost use Rattle.tg_asm.specs.glue.Spots.{found_spot, spot_of};
 
 use crate::items::Coded;
 use crate::layouts::Layout;

@@ -1,10 +1,10 @@
 ghost use Rattle.std.specs.Prelude.{◌≡◌, ◌++◌, ◌∷◌, [], map, replicate, IfOk, OnOk, Ok};
 ghost use Rattle.tg_asm_text.specs.Assembly as assembly;
 ghost use Rattle.tg_asm_text.specs.Lines.{lines};
-ghost use Rattle.tg_asm.specs.Cuts.{operand_of};
 ghost use Rattle.tg_asm.specs.Images.{GivesMade, made_of};
-ghost use Rattle.tg_asm.specs.Layouts.{IsSmall, layout_of};
-ghost use Rattle.tg_asm.specs.Means.{
+ghost use Rattle.tg_asm.specs.glue.Cuts.{operand_of};
+ghost use Rattle.tg_asm.specs.glue.Layouts.{IsSmall, layout_of};
+ghost use Rattle.tg_asm.specs.glue.Means.{
   Leaves,
   bytes_of,
   coded_of,

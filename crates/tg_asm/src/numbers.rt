@@ -1,6 +1,6 @@
 ghost use Rattle.std.specs.Prelude.{◌≡◌, ◌≤◌, ◌<◌, ◌^◌, ◌-◌, ◌%◌, if◌then◌else◌};
 ghost use Rattle.tg_asm_text.specs.Operands as operands;
-ghost use Rattle.tg_asm.specs.Numbers.{found_number, signed_of};
+ghost use Rattle.tg_asm.specs.glue.Numbers.{found_number, signed_of};
 
 use tg_isa::Bits;
 

@@ -1,8 +1,8 @@
 ghost use Rattle.std.specs.Prelude.{◌≡◌, Some};
 ghost use Rattle.tg_asm_text.specs.Assembly as assembly;
-ghost use Rattle.tg_asm.specs.Cuts.{cut_of};
-ghost use Rattle.tg_asm.specs.Means.{GivesMeant};
-ghost use Rattle.tg_asm.specs.Readings.{reading_of};
+ghost use Rattle.tg_asm.specs.glue.Cuts.{cut_of};
+ghost use Rattle.tg_asm.specs.glue.Means.{GivesMeant};
+ghost use Rattle.tg_asm.specs.glue.Readings.{reading_of};
 
 use crate::cuts::{Cut, cut_line};
 use crate::faults::Refused;

@@ -1,6 +1,6 @@
 ghost use Rattle.std.specs.Prelude.{◌≡◌};
 ghost use Rattle.tg_asm_text.specs.Items as items;
-ghost use Rattle.tg_asm.specs.Registers.{fields_of};
+ghost use Rattle.tg_asm.specs.glue.Registers.{fields_of};
 
 use crate::fields::Fields;
 use tg_asm_text::Keyword;

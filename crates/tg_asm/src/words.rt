@@ -3,7 +3,7 @@ ghost use Rattle.tg_asm_text.specs.Items as items;
 ghost use Rattle.tg_asm_text.specs.Items.{keyword_text};
 ghost use Rattle.tg_asm_text.specs.Operands.{is_within};
 ghost use Rattle.tg_asm_text.specs.declared.keywords.Keyword.{Keyword};
-ghost use Rattle.tg_asm.specs.Numbers.{signed_of};
+ghost use Rattle.tg_asm.specs.glue.Numbers.{signed_of};
 
 use crate::numbers::Signed;
 use tg_asm_text::{Keyword, Segment, Slot};

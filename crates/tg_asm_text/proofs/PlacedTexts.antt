@@ -8,7 +8,7 @@ use Rattle.tg_asm_text.specs.Assembly.{Reading, LabelTarget, InCode, InStatics, 
 use Rattle.tg_asm_text.specs.Assembly.{layout, enter, finish, fill_in, assembled}
 use Rattle.tg_asm_text.specs.Placement.{AtWord, address_at, Reads, code_in, last_byte, Positions, positions, position_of, found_address, placed_words}
 use Rattle.tg_asm_text.specs.Placement.{placed_bytes, image_of, JumpReaches, WordsReach, IsSound}
-use Rattle.tg_asm_text.specs.Laws.{ReadingsHaveImage}
+use Rattle.tg_asm_text.specs.laws.Laws.{ReadingsHaveImage}
 use Rattle.tg_asm_text.proofs.FirstPass.{segment_end, laid, starts_from, spots_from, lays}
 use Rattle.tg_asm_text.proofs.LabelTables.{found_so, found_resolved, resolves, Knows, is_within}
 use Rattle.tg_asm_text.proofs.SecondPass.{makes}

@@ -24,7 +24,7 @@ use Rattle.tg_asm_text.specs.Placement.{Reads, segment_behind}
 use Rattle.tg_asm_text.specs.Writing.{joined, line_of}
 use Rattle.tg_asm_text.specs.Texts.{Line, Enter, Label, One, La, Align, Words, Bytes, Text, escaped, escaped_text, is_in_string, written_line, text_of}
 use Rattle.tg_asm_text.specs.Texts.{unsigned, reading_of, readings_of, StandsIn, AreLines, Globl, Space, reads_item}
-use Rattle.tg_asm_text.specs.Laws.{LinesHaveImage}
+use Rattle.tg_asm_text.specs.laws.Laws.{LinesHaveImage}
 use Rattle.tg_asm_text.proofs.PlacedTexts.{assembled_so}
 use Rattle.tg_asm_text.proofs.WordCuts.{visible, skipped, and_true, none_of, is_newline, none_append, none_cons, front_until, back_until, lines_alone}
 use Rattle.tg_asm_text.proofs.WordCuts.{AreWords, plains, next_operands, cut_unlabelled, newlines_joined}

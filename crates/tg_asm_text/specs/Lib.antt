@@ -5,4 +5,4 @@ pub mod Assembly
 pub mod Placement
 pub mod Writing
 pub mod Texts
-pub mod Laws
+pub mod laws

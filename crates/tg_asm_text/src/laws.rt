@@ -1,4 +1,4 @@
-ghost use Rattle.tg_asm_text.specs.Laws.{LinesHaveImage, ReadingsHaveImage};
+ghost use Rattle.tg_asm_text.specs.laws.Laws.{LinesHaveImage, ReadingsHaveImage};
 
 /// The law of an assembly text: its image is that of its readings. The code and the statics are the
 /// items in order, the statics with their padding, and a label is where the next item of its

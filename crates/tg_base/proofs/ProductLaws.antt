@@ -6,7 +6,7 @@ use Rattle.std.proofs.lemmas.Bool.{cases_lt}
 use Rattle.std.proofs.lemmas.Grind.{common_steps}
 use Rattle.std.specs.Int.{cast_unsigned}
 use Rattle.tg_base.specs.Words.{signed, within, shift_signed}
-use Rattle.tg_base.specs.ProductLaw.{IsExactBySign}
+use Rattle.tg_base.specs.laws.ProductLaw.{IsExactBySign}
 
 -- the sign of a word, as a word
 sign_none : (low : ℕ) → low < 2 ^ 31 → shift_signed low 31 ≡ 0

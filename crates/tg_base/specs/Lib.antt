@@ -4,7 +4,7 @@ pub mod FirstFaults
 pub mod Files
 pub mod Lines
 pub mod Writes
-pub mod ProductLaw
 pub mod Counts
 pub mod InMemory
 pub mod Interned
+pub mod laws

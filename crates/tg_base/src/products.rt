@@ -1,5 +1,5 @@
 ghost use Rattle.std.specs.Prelude.{ℕ, ◌<◌, ◌^◌};
-ghost use Rattle.tg_base.specs.ProductLaw.{IsExactBySign};
+ghost use Rattle.tg_base.specs.laws.ProductLaw.{IsExactBySign};
 
 /// A law about words: a product is in range exactly where its upper word is the sign of its lower
 /// one. It does nothing when it runs.

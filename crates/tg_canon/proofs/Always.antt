@@ -1,6 +1,6 @@
 -- What holds of what is drawn, whatever the next number is.
 use Rattle.std.proofs.Common.{ℕ, Bool, true, false, if◌then◌else◌}
-use Rattle.tg_canon.specs.Drawing.{Draws, give, ◌>>=◌}
+use Rattle.tg_canon.specs.mirror.Drawing.{Draws, give, ◌>>=◌}
 
 -- a choice of two of a kind
 pub one_of_two : {A : Type 0} (P : A → Type 0) (b : Bool) {x y : A} → P x → P y → P (if b then x else y)

@@ -4,11 +4,11 @@ use Rattle.tg_tree.specs.declared.operators.Bin.{Bin}
 use Rattle.tg_tree.specs.declared.operators.Rel.{Rel}
 use Rattle.tg_tree.specs.Tree.{Tx, Const, Address, Temp, FrameAddress, Binary, Load, LoadByte, Call, Service, After, Txs, Cond, Compare, Not, Both}
 use Rattle.tg_tree.specs.Tree.{Either, Ts, Move, Store, StoreByte, Do, If, Loop, Break, Fault, Seq, Return, Stms}
-use Rattle.tg_canon.specs.Drawing.{Draws, give, ◌>>=◌, DrawsFrom}
-use Rattle.tg_canon.specs.Canon.{Part, still, assigning, ◌before◌, loop_of, block, Parts, in_turn, Hoisted, Two, Arguments, whole, behind, is_effect}
-use Rattle.tg_canon.specs.Canon.{hold_effect, word, side_by_side, over, over_two, over_all, with_one, with_two, dropped, is_whole, Tested, compared}
-use Rattle.tg_canon.specs.Canon.{opposite, joined, choice, exit_where, wide_choice, deeper, inside, choose, lift, lift_all, condition, leave, linear}
-use Rattle.tg_canon.specs.Canon.{linear_all, operands}
+use Rattle.tg_canon.specs.mirror.Drawing.{Draws, give, ◌>>=◌, DrawsFrom}
+use Rattle.tg_canon.specs.mirror.Canon.{Part, still, assigning, ◌before◌, loop_of, block, Parts, in_turn, Hoisted, Two, Arguments, whole, behind, is_effect}
+use Rattle.tg_canon.specs.mirror.Canon.{hold_effect, word, side_by_side, over, over_two, over_all, with_one, with_two, dropped, is_whole, Tested, compared}
+use Rattle.tg_canon.specs.mirror.Canon.{opposite, joined, choice, exit_where, wide_choice, deeper, inside, choose, lift, lift_all, condition, leave, linear}
+use Rattle.tg_canon.specs.mirror.Canon.{linear_all, operands}
 use Rattle.tg_canon.proofs.Steps.{given, on, ends, same}
 
 -- expressions

@@ -4,8 +4,8 @@ use Rattle.tg_tree.specs.declared.operators.Bin.TheVariants.{Add, AddTrap}
 use Rattle.tg_tree.specs.declared.operators.Rel.TheVariants.{Less, NotEqual}
 use Rattle.tg_tree.specs.Tree.{Tx, Const, Temp, Binary, Load, Call, After, no_txs, tx, Cond, Compare, Not, Both, Ts, Move, Store, Do, If, Loop, Break}
 use Rattle.tg_tree.specs.Tree.{Fault, Seq, Return, Stms, no_stms, stm}
-use Rattle.tg_canon.specs.Drawing.{Drawn}
-use Rattle.tg_canon.specs.Canon.{linearized}
+use Rattle.tg_canon.specs.mirror.Drawing.{Drawn}
+use Rattle.tg_canon.specs.mirror.Canon.{linearized}
 
 abbrev stms : List Ts → Stms
 stms [] = no_stms

@@ -13,10 +13,10 @@ use Rattle.tg_tree.specs.Sizes.{statement_needs, statements_needs, in_trees, in_
 use Rattle.tg_tree.specs.Shapes.{IsFlat, AreFlat, is_flat, are_flat, is_flat_condition}
 use Rattle.tg_tree.specs.Actions.{World, Temps, Around, Acts, Go, charged, with_word, with_given, read_memory, ask, give as acts_give}
 use Rattle.tg_tree.proofs.NamesPassing.{TxPasses, TxsPass, CondPasses, TsPasses, StmsPass}
-use Rattle.tg_canon.specs.Drawing.{Draws, Drawn, give, ◌>>=◌}
-use Rattle.tg_canon.specs.Canon.{Part, still, nothing, is_nothing, first_then, ◌before◌, Parts, in_front, Hoisted, Arguments, no_arguments, whole}
-use Rattle.tg_canon.specs.Canon.{is_effect, word, in_front_of, acts, dropped, is_whole, choice, wide_choice, deeper, inside, choose, lift, lift_all}
-use Rattle.tg_canon.specs.Canon.{condition, leave, linear, linear_all}
+use Rattle.tg_canon.specs.mirror.Drawing.{Draws, Drawn, give, ◌>>=◌}
+use Rattle.tg_canon.specs.mirror.Canon.{Part, still, nothing, is_nothing, first_then, ◌before◌, Parts, in_front, Hoisted, Arguments, no_arguments, whole}
+use Rattle.tg_canon.specs.mirror.Canon.{is_effect, word, in_front_of, acts, dropped, is_whole, choice, wide_choice, deeper, inside, choose, lift, lift_all}
+use Rattle.tg_canon.specs.mirror.Canon.{condition, leave, linear, linear_all}
 use Rattle.tg_canon.proofs.Naming.{IsBelow}
 use Rattle.tg_canon.proofs.Growing.{in_front_grows}
 use Rattle.tg_canon.proofs.Sizing.{size, takes, in_turn_counts}

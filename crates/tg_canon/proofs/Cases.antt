@@ -7,11 +7,11 @@ use Rattle.tg_tree.specs.declared.trees.Txs.{Txs as CodeTxs}
 use Rattle.tg_tree.specs.declared.trees.Stms.{Stms as CodeStms}
 use Rattle.tg_base.specs.declared.ids.Label.{Label}
 use Rattle.tg_tree.specs.Tree as tree
-use Rattle.tg_tree.specs.Lists.{txs_of, stms_of}
+use Rattle.tg_tree.specs.glue.Lists.{txs_of, stms_of}
 use Rattle.tg_tree.proofs.ListLaws.{plain_tx-Call, plain_ts-Seq}
-use Rattle.tg_tree.specs.Plain.{plain_tx, plain_cond, plain_ts}
-use Rattle.tg_canon.specs.Drawing.{Draws, DrawsFrom}
-use Rattle.tg_canon.specs.Canon.{Part, Hoisted, Two, Tested, word, lift, condition, leave, linear, operands}
+use Rattle.tg_tree.specs.glue.Plain.{plain_tx, plain_cond, plain_ts}
+use Rattle.tg_canon.specs.mirror.Drawing.{Draws, DrawsFrom}
+use Rattle.tg_canon.specs.mirror.Canon.{Part, Hoisted, Two, Tested, word, lift, condition, leave, linear, operands}
 
 -- what equal trees draw
 alike : {A Tree : Type 0} (draw : Tree → Draws A) {s t : Tree} {k l : ℕ} {a : A} → s ≡ t → DrawsFrom (draw t) k a l → DrawsFrom (draw s) k a l

@@ -5,12 +5,12 @@ use Rattle.tg_tree.specs.Tree.{Tx, Const, Address, Temp, FrameAddress, Binary, L
 use Rattle.tg_tree.specs.Tree.{Not, Both, Either, Ts, Move, Store, StoreByte, Do, If, Loop, Break, Fault, Seq, Return, Stms, no_stms, stm}
 use Rattle.tg_tree.specs.Shapes.{BreaksWithin, BreaksWithinStms, BreaksWithinTx, BreaksWithinTxs, BreaksWithinCond, EndsFunction, LastEndsFunction}
 use Rattle.tg_tree.specs.Shapes.{IsClosed, AreClosed}
-use Rattle.tg_canon.specs.Drawing.{Draws, give, ◌>>=◌}
-use Rattle.tg_canon.specs.Canon.{Part, still, nothing, is_nothing, pair, first_then, ◌before◌, loop_of, block, Parts, no_parts, in_front, in_turn}
-use Rattle.tg_canon.specs.Canon.{Hoisted, Two, Arguments, behind, hold, is_effect, hold_effect, word, commutes, hold_unless, hold_but_offset, hold_for}
-use Rattle.tg_canon.specs.Canon.{hold_before, in_front_of, side_by_side, argument, over, over_two, over_all, with_one, with_two, assigning, acts}
-use Rattle.tg_canon.specs.Canon.{dropped, is_whole, Tested, compared, opposite, joined, choice, exit_where, wide_choice, deeper, inside, choose, lift}
-use Rattle.tg_canon.specs.Canon.{lift_all, condition, leave, linear, linear_all, statements_of, linearized}
+use Rattle.tg_canon.specs.mirror.Drawing.{Draws, give, ◌>>=◌}
+use Rattle.tg_canon.specs.mirror.Canon.{Part, still, nothing, is_nothing, pair, first_then, ◌before◌, loop_of, block, Parts, no_parts, in_front, in_turn}
+use Rattle.tg_canon.specs.mirror.Canon.{Hoisted, Two, Arguments, behind, hold, is_effect, hold_effect, word, commutes, hold_unless, hold_but_offset, hold_for}
+use Rattle.tg_canon.specs.mirror.Canon.{hold_before, in_front_of, side_by_side, argument, over, over_two, over_all, with_one, with_two, assigning, acts}
+use Rattle.tg_canon.specs.mirror.Canon.{dropped, is_whole, Tested, compared, opposite, joined, choice, exit_where, wide_choice, deeper, inside, choose, lift}
+use Rattle.tg_canon.specs.mirror.Canon.{lift_all, condition, leave, linear, linear_all, statements_of, linearized}
 use Rattle.tg_canon.proofs.Always.{one_of_two, Always, give_is, next, made}
 
 -- Inside so many loops.

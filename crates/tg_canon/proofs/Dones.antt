@@ -10,8 +10,8 @@ use Rattle.tg_tree.specs.Units.{Trees, Canonical}
 use Rattle.tg_tree.specs.Shapes.{IsFlat, IsFlatCond}
 use Rattle.tg_tree.specs.Actions.{World, Temps, set_temp, Activation, Around, Acts, Go, Next, Out, Back, ◌>>◌, charged, pay, with_memory, leaving}
 use Rattle.tg_tree.specs.Meaning.{run_all}
-use Rattle.tg_canon.specs.Canon.{Part, still, assigning, is_nothing, nothing, as_part, ◌before◌, loop_of, Parts, no_parts, in_front, in_turn, Hoisted}
-use Rattle.tg_canon.specs.Canon.{is_effect, acts, dropped, Tested, choice, inside}
+use Rattle.tg_canon.specs.mirror.Canon.{Part, still, assigning, is_nothing, nothing, as_part, ◌before◌, loop_of, Parts, no_parts, in_front, in_turn, Hoisted}
+use Rattle.tg_canon.specs.mirror.Canon.{is_effect, acts, dropped, Tested, choice, inside}
 use Rattle.tg_canon.proofs.Paying.{Sim, trade, pays, worked, unpaid, credit, along}
 use Rattle.tg_canon.proofs.Fixed.{Scene, around, tree_value, tree_test, tree_does, mixed_value, mixed_test, then_value, then_test, then_does}
 use Rattle.tg_canon.proofs.Fixed.{fixed_value, fixed_test}

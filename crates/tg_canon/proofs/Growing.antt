@@ -3,12 +3,12 @@ use Rattle.std.proofs.Common.{ℕ, ◌+◌, ◌≤◌, ◌&&◌, Bool, true, fal
 use Rattle.tg_tree.specs.declared.operators.Bin.{Bin}
 use Rattle.tg_tree.specs.Tree.{Tx, Const, Address, Temp, FrameAddress, Binary, Load, LoadByte, Call, Service, After, Txs, no_txs, tx, Cond, Compare}
 use Rattle.tg_tree.specs.Tree.{Not, Both, Either, Ts, Move, Store, StoreByte, Do, If, Loop, Break, Fault, Seq, Return, Stms, no_stms, stm}
-use Rattle.tg_canon.specs.Drawing.{Draws, Drawn, give, fresh, ◌>>=◌, DrawsFrom}
-use Rattle.tg_canon.specs.Canon.{Part, still, assigning, is_nothing, ◌before◌, loop_of, block, no_parts, in_front, in_turn, Hoisted, Arguments}
-use Rattle.tg_canon.specs.Canon.{no_arguments, whole, behind, hold, is_effect, hold_effect, word, commutes, hold_unless, is_constant, is_sum}
-use Rattle.tg_canon.specs.Canon.{hold_but_offset, hold_for, hold_before, in_front_of, side_by_side, argument, over, over_two, over_all, with_one}
-use Rattle.tg_canon.specs.Canon.{with_two, dropped, is_whole, compared, opposite, joined, choice, exit_where, wide_choice, deeper, inside, choose}
-use Rattle.tg_canon.specs.Canon.{lift, lift_all, condition, leave, linear, linear_all, operands, linearized}
+use Rattle.tg_canon.specs.mirror.Drawing.{Draws, Drawn, give, fresh, ◌>>=◌, DrawsFrom}
+use Rattle.tg_canon.specs.mirror.Canon.{Part, still, assigning, is_nothing, ◌before◌, loop_of, block, no_parts, in_front, in_turn, Hoisted, Arguments}
+use Rattle.tg_canon.specs.mirror.Canon.{no_arguments, whole, behind, hold, is_effect, hold_effect, word, commutes, hold_unless, is_constant, is_sum}
+use Rattle.tg_canon.specs.mirror.Canon.{hold_but_offset, hold_for, hold_before, in_front_of, side_by_side, argument, over, over_two, over_all, with_one}
+use Rattle.tg_canon.specs.mirror.Canon.{with_two, dropped, is_whole, compared, opposite, joined, choice, exit_where, wide_choice, deeper, inside, choose}
+use Rattle.tg_canon.specs.mirror.Canon.{lift, lift_all, condition, leave, linear, linear_all, operands, linearized}
 
 pub record Grows {A : Type 0} (m : Draws A) : Type 0 where
   pub at : (k : ℕ) → k ≤ (m k).next

@@ -16,8 +16,8 @@ use Rattle.tg_tree.specs.Meaning.{Point}
 use Rattle.tg_tree.proofs.Relating.{Related, Keeps, Alike, alike, keep_value}
 use Rattle.tg_tree.proofs.Relating as relating
 use Rattle.tg_tree.proofs.Going.{one, OneWorld, OneTemps, KeepsRuns, keeps_one}
-use Rattle.tg_canon.specs.Drawing.{Drawn, give}
-use Rattle.tg_canon.specs.Canon.{Part, still, nothing, Hoisted, whole, hold, is_constant, is_sum, commutes, hold_unless, hold_but_offset, hold_for}
+use Rattle.tg_canon.specs.mirror.Drawing.{Drawn, give}
+use Rattle.tg_canon.specs.mirror.Canon.{Part, still, nothing, Hoisted, whole, hold, is_constant, is_sum, commutes, hold_unless, hold_but_offset, hold_for}
 use Rattle.tg_canon.proofs.Sizing.{size, takes, holdable, holdable_most, own_holdable}
 use Rattle.tg_canon.proofs.Paying.{Sim, trade, pays, worked, unpaid, untraded, credit, along, free}
 use Rattle.tg_canon.proofs.Fixed.{Scene, around, mixed_value, mixed_values, then_value, then_values, then_does, IsFixed, gives, stops, fixed_value}

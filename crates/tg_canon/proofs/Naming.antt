@@ -7,13 +7,13 @@ use Rattle.tg_tree.specs.Tree.{Tx, Const, Address, Temp, FrameAddress, Binary, L
 use Rattle.tg_tree.specs.Tree.{Not, Both, Either, Ts, Move, Store, StoreByte, Do, If, Loop, Break, Fault, Seq, Return, Stms, no_stms, stm}
 use Rattle.tg_tree.specs.Named.{NamesAreAllowed, Named, function, literal, fault, temporary, constant, named_ts, named_stms}
 use Rattle.tg_tree.proofs.NamesPassing.{TxPasses, TxsPass, CondPasses, TsPasses, StmsPass, body_passes, statements_names}
-use Rattle.tg_canon.specs.Drawing.{Draws, give, ◌>>=◌}
-use Rattle.tg_canon.specs.Canon.{Part, still, nothing, is_nothing, first_then, ◌before◌, loop_of, block, Parts, in_front, in_turn, Hoisted, Two}
-use Rattle.tg_canon.specs.Canon.{Arguments, behind, hold, is_effect, hold_effect, word, commutes, hold_unless, hold_but_offset, hold_for, hold_before}
-use Rattle.tg_canon.specs.Canon.{in_front_of, side_by_side, argument, over, over_two, over_all, with_one, with_two, assigning, acts, dropped}
-use Rattle.tg_canon.specs.Canon.{is_whole, Tested, compared, opposite, joined, choice, exit_where, wide_choice, deeper, inside, choose, lift}
-use Rattle.tg_canon.specs.Canon.{lift_all, condition, leave, linear, linear_all, statements_of, linearized}
-use Rattle.tg_canon.specs.Laws.{AllowsDrawn, AreTempsBelow}
+use Rattle.tg_canon.specs.mirror.Drawing.{Draws, give, ◌>>=◌}
+use Rattle.tg_canon.specs.mirror.Canon.{Part, still, nothing, is_nothing, first_then, ◌before◌, loop_of, block, Parts, in_front, in_turn, Hoisted, Two}
+use Rattle.tg_canon.specs.mirror.Canon.{Arguments, behind, hold, is_effect, hold_effect, word, commutes, hold_unless, hold_but_offset, hold_for, hold_before}
+use Rattle.tg_canon.specs.mirror.Canon.{in_front_of, side_by_side, argument, over, over_two, over_all, with_one, with_two, assigning, acts, dropped}
+use Rattle.tg_canon.specs.mirror.Canon.{is_whole, Tested, compared, opposite, joined, choice, exit_where, wide_choice, deeper, inside, choose, lift}
+use Rattle.tg_canon.specs.mirror.Canon.{lift_all, condition, leave, linear, linear_all, statements_of, linearized}
+use Rattle.tg_canon.specs.laws.Laws.{AllowsDrawn, AreTempsBelow}
 use Rattle.tg_canon.proofs.Always.{one_of_two}
 use Rattle.tg_canon.proofs.Growing as growing
 use Rattle.tg_canon.proofs.Growing.{Grows, two, hold_effect_grows, word_grows, side_by_side_grows, argument_grows, lift_grows, condition_grows}

@@ -4,10 +4,10 @@ use Rattle.std.proofs.Math.Dec.{eqb-suc-zero}
 use Rattle.tg_tree.specs.declared.trees.Ts.{Ts as CodeTs, Seq}
 use Rattle.tg_tree.specs.declared.trees.Stms.{Stms}
 use Rattle.tg_tree.specs.Tree as tree
-use Rattle.tg_tree.specs.Plain.{plain_ts}
-use Rattle.tg_tree.specs.Lists.{stms_of}
+use Rattle.tg_tree.specs.glue.Plain.{plain_ts}
+use Rattle.tg_tree.specs.glue.Lists.{stms_of}
 use Rattle.tg_tree.proofs.ListLaws.{plain_ts-Seq}
-use Rattle.tg_canon.specs.Canon.{is_nothing, statements_of}
+use Rattle.tg_canon.specs.mirror.Canon.{is_nothing, statements_of}
 
 none_is : (ss : List CodeTs) → is_nothing (tree.Seq (stms_of ss)) ≡ (length ss == 0)
 none_is [] = refl

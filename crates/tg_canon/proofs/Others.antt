@@ -2,9 +2,9 @@
 use Rattle.std.proofs.Common.{◌≡◌, ℕ, refl, Box, Global, ap, ◌∙◌}
 use Rattle.tg_tree.specs.declared.operators.Bin.{Bin}
 use Rattle.tg_tree.specs.declared.trees.Tx.{Tx as CodeTx, Const, Address, Temp, FrameAddress, Binary, Binary', Load', LoadByte', Call', Service', After'}
-use Rattle.tg_tree.specs.Plain.{plain_tx}
-use Rattle.tg_canon.specs.Drawing.{Draws, DrawsFrom}
-use Rattle.tg_canon.specs.Canon.{Part, Hoisted, commutes, hold_unless, hold_for}
+use Rattle.tg_tree.specs.glue.Plain.{plain_tx}
+use Rattle.tg_canon.specs.mirror.Drawing.{Draws, DrawsFrom}
+use Rattle.tg_canon.specs.mirror.Canon.{Part, Hoisted, commutes, hold_unless, hold_for}
 
 other_held : (p : Part) (x : CodeTx) → ((op : Bin) (a b : Box CodeTx Global) → x ≡ Binary op a b → ⊥) →
     hold_for p (plain_tx x) ≡ hold_unless (commutes p (plain_tx x)) (plain_tx x)

@@ -19,9 +19,9 @@ use Rattle.tg_tree.specs.Named.{named_ts}
 use Rattle.tg_tree.proofs.TreeRuns.{trees_step}
 use Rattle.tg_tree.proofs.Linking.{calls_carried, programs_carried}
 use Rattle.tg_tree.proofs.NamesPassing.{TsPasses, body_passes}
-use Rattle.tg_canon.specs.Canon.{statements_of, inside, linear, linearized}
-use Rattle.tg_canon.specs.Laws.{AreTempsBelow}
-use Rattle.tg_canon.specs.Meaning.{canonical, canonical_code, HasOwnTemps, runner, added_work}
+use Rattle.tg_canon.specs.laws.Laws.{AreTempsBelow}
+use Rattle.tg_canon.specs.laws.Meaning.{canonical, canonical_code, HasOwnTemps, runner, added_work}
+use Rattle.tg_canon.specs.mirror.Canon.{statements_of, inside, linear, linearized}
 use Rattle.tg_canon.proofs.Naming.{IsBelow, below_more}
 use Rattle.tg_canon.proofs.Paying.{credit, along, free}
 use Rattle.tg_canon.proofs.Fixed.{Scene, around, then_does}

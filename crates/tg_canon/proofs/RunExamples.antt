@@ -11,7 +11,7 @@ use Rattle.tg_tree.specs.Tree.{Return, Stms, Function, Code}
 use Rattle.tg_tree.specs.Units.{Trees}
 use Rattle.tg_tree.specs.Running.{tree_run, canonical_run}
 use Rattle.tg_tree.specs.Forms.{stms, sequence}
-use Rattle.tg_canon.specs.Meaning.{canonical_code}
+use Rattle.tg_canon.specs.laws.Meaning.{canonical_code}
 
 abbrev fun : {Body : Type 0} → ℕ → (slots temps : ℕ) → Body → Function Body
 fun label slots temps body = record { label = label; params = []; slots = slots; temps = temps; out = 0; body = body }

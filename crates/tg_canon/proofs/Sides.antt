@@ -2,7 +2,7 @@
 use Rattle.std.proofs.Common.{◌≡◌, false}
 use Rattle.tg_tree.specs.Tree.{Tx, Const, Address, Temp, FrameAddress, Binary, Load, LoadByte, Call, Service, After}
 use Rattle.tg_tree.specs.Shapes.{IsFlat, IsFlatOrEffect}
-use Rattle.tg_canon.specs.Canon.{is_effect}
+use Rattle.tg_canon.specs.mirror.Canon.{is_effect}
 
 pub flat_or_effect : (x : Tx) → IsFlat x → IsFlatOrEffect x
 flat_or_effect (Const _) h = h

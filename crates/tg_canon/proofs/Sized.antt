@@ -8,8 +8,8 @@ use Rattle.tg_tree.specs.Sizes.{statements_length, statements_needs, in_canonica
 use Rattle.tg_tree.specs.Named.{named_ts}
 use Rattle.tg_tree.specs.Actions.{wrong}
 use Rattle.tg_tree.proofs.NamesPassing.{body_passes}
-use Rattle.tg_canon.specs.Canon.{statements_of, linear}
-use Rattle.tg_canon.specs.Meaning.{canonical, HasOwnTemps, added_length, added_needs}
+use Rattle.tg_canon.specs.laws.Meaning.{canonical, HasOwnTemps, added_length, added_needs}
+use Rattle.tg_canon.specs.mirror.Canon.{statements_of, linear}
 use Rattle.tg_canon.proofs.Naming.{IsBelow, below_more}
 use Rattle.tg_canon.proofs.Sizing.{size, takes}
 use Rattle.tg_canon.proofs.Fixed.{Scene}

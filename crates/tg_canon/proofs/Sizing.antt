@@ -5,7 +5,7 @@ use Rattle.tg_tree.specs.Tree.{Tx, Const, Address, Temp, FrameAddress, Binary, L
 use Rattle.tg_tree.specs.Tree.{Store, StoreByte, Do, If, Loop, Break, Fault, Return}
 use Rattle.tg_tree.specs.Units.{Canonical}
 use Rattle.tg_tree.specs.Sizes.{statement_length, statement_needs, in_canonical}
-use Rattle.tg_canon.specs.Canon.{is_nothing, pair, first_then}
+use Rattle.tg_canon.specs.mirror.Canon.{is_nothing, pair, first_then}
 
 abbrev pub size : Ts → ℕ
 size s = statement_length Canonical s

@@ -5,7 +5,7 @@ use Rattle.std.proofs.lemmas.Bool.Decides.{eqb_tells}
 use Rattle.tg_tree.specs.Tree.{Ts, Seq, no_stms, stm, Move, Store, StoreByte, Do, If, Loop, Break, Fault, Return}
 use Rattle.tg_tree.specs.Actions.{World, Temps, set_temp, Activation, Around, Acts, Go, Next, Out, Back}
 use Rattle.tg_tree.specs.Carrying.{BacksSimulate}
-use Rattle.tg_canon.specs.Canon.{Part, is_nothing, pair, first_then, ◌before◌}
+use Rattle.tg_canon.specs.mirror.Canon.{Part, is_nothing, pair, first_then, ◌before◌}
 use Rattle.tg_canon.proofs.Paying.{Sim, credit, free}
 use Rattle.tg_canon.proofs.Fixed.{Scene, around, then_does}
 

@@ -12,7 +12,7 @@ use Rattle.tg_tree.specs.Memory.{load, load_byte, literal_address}
 use Rattle.tg_tree.specs.Units.{Canonical, expression_units}
 use Rattle.tg_tree.specs.Actions.{World, Temps, Around, Acts, Go, ◌>>=◌, ◌>>◌, charged, with_word, with_given, pay, read_memory, given}
 use Rattle.tg_tree.specs.Shapes.{IsFlat}
-use Rattle.tg_canon.specs.Canon.{is_constant, is_sum, is_trapping, acts}
+use Rattle.tg_canon.specs.mirror.Canon.{is_constant, is_sum, is_trapping, acts}
 use Rattle.tg_canon.proofs.Paying.{free, charged_add}
 use Rattle.tg_canon.proofs.Fixed.{Scene, mixed_value}
 

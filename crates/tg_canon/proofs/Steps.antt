@@ -1,6 +1,6 @@
 -- Steps that draw, one after another.
 use Rattle.std.proofs.Common.{◌≡◌, ℕ, refl, sym, ap, ◌∙◌}
-use Rattle.tg_canon.specs.Drawing.{Draws, give, onward, ◌>>=◌, DrawsFrom}
+use Rattle.tg_canon.specs.mirror.Drawing.{Draws, give, onward, ◌>>=◌, DrawsFrom}
 
 pub given : {A : Type 0} (a : A) (k : ℕ) → DrawsFrom (give a) k a k
 given a k = record { is = refl }

@@ -7,8 +7,8 @@ use Rattle.tg_tree.specs.Units.{Trees, Canonical, hoisted_units, joined_units}
 use Rattle.tg_tree.specs.Sizes.{condition_length, condition_needs, in_trees, in_canonical}
 use Rattle.tg_tree.specs.Shapes.{IsFlatCond, is_flat, is_flat_condition}
 use Rattle.tg_tree.specs.Actions.{World, Temps, Activation, Around, Acts, Go, Next, Out, Back, give, over, charged, leaving}
-use Rattle.tg_canon.specs.Canon.{Part, still, is_nothing, nothing, first_then, ◌before◌, block, as_part, Hoisted, is_whole, Tested, opposite, joined}
-use Rattle.tg_canon.specs.Canon.{exit_where, wide_choice, deeper}
+use Rattle.tg_canon.specs.mirror.Canon.{Part, still, is_nothing, nothing, first_then, ◌before◌, block, as_part, Hoisted, is_whole, Tested, opposite, joined}
+use Rattle.tg_canon.specs.mirror.Canon.{exit_where, wide_choice, deeper}
 use Rattle.tg_canon.proofs.Sizing.{size, takes, in_turn_counts}
 use Rattle.tg_canon.proofs.Paying.{Sim, trade, pays, worked, reworked, unpaid, credit, along, free, charged_add}
 use Rattle.tg_canon.proofs.Fixed.{Scene, around, tree_value, tree_test, tree_does, mixed_value, mixed_test, then_test, then_does, IsFixed, gives}

@@ -3,10 +3,10 @@ use Rattle.std.proofs.Common.{◌≡◌, ℕ, List, [], ◌∷◌, ◌++◌, ref
 use Rattle.std.proofs.lemmas.List.{append-nil}
 use Rattle.tg_tree.specs.declared.trees.Tx.{Tx as CodeTx}
 use Rattle.tg_tree.specs.declared.trees.Ts.{Ts as CodeTs}
-use Rattle.tg_tree.specs.Plain.{plain_tx, plain_ts}
-use Rattle.tg_tree.specs.Lists.{txs_of, stms_of}
-use Rattle.tg_canon.specs.Drawing.{Draws, give, ◌>>=◌, DrawsFrom}
-use Rattle.tg_canon.specs.Canon.{Part, Parts, no_parts, in_front, Hoisted, Arguments, no_arguments, word, argument, lift, lift_all, linear, linear_all}
+use Rattle.tg_tree.specs.glue.Plain.{plain_tx, plain_ts}
+use Rattle.tg_tree.specs.glue.Lists.{txs_of, stms_of}
+use Rattle.tg_canon.specs.mirror.Drawing.{Draws, give, ◌>>=◌, DrawsFrom}
+use Rattle.tg_canon.specs.mirror.Canon.{Part, Parts, no_parts, in_front, Hoisted, Arguments, no_arguments, word, argument, lift, lift_all, linear, linear_all}
 use Rattle.tg_canon.proofs.Steps.{given, on, ends, same}
 
 -- all are those that are left and then these, of which this was drawn

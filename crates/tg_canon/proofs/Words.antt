@@ -9,9 +9,9 @@ use Rattle.tg_tree.specs.Sizes.{expression_length, expression_needs, in_trees, i
 use Rattle.tg_tree.specs.Shapes.{IsFlat, IsFlatOrEffect, is_flat}
 use Rattle.tg_tree.specs.Actions.{World, Temps, Activation, Acts, Go, Next, Out, Back, over, charged}
 use Rattle.tg_tree.proofs.Flatness.{tested_flat}
-use Rattle.tg_canon.specs.Drawing.{Drawn}
-use Rattle.tg_canon.specs.Canon.{Part, still, is_nothing, pair, first_then, ◌before◌, Hoisted, behind, is_constant, is_effect, hold_effect, hold_for}
-use Rattle.tg_canon.specs.Canon.{hold_before, in_front_of}
+use Rattle.tg_canon.specs.mirror.Drawing.{Drawn}
+use Rattle.tg_canon.specs.mirror.Canon.{Part, still, is_nothing, pair, first_then, ◌before◌, Hoisted, behind, is_constant, is_effect, hold_effect, hold_for}
+use Rattle.tg_canon.specs.mirror.Canon.{hold_before, in_front_of}
 use Rattle.tg_canon.proofs.Sizing.{size, takes, holdable, holdable_most, drawn_held, in_turn_counts}
 use Rattle.tg_canon.proofs.Paying.{Sim, pays, unpaid, credit, along}
 use Rattle.tg_canon.proofs.Fixed.{Scene, around, tree_value, mixed_value, then_value, then_does, IsFixed, gives, stops, fixed_value}

@@ -1,6 +1,3 @@
-pub mod Drawing
-pub mod Canon
-pub mod Laws
-pub mod Breaking
-pub mod Views
-pub mod Meaning
+pub mod glue
+pub mod laws
+pub mod mirror

@@ -1,8 +1,8 @@
 ghost use Rattle.std.specs.Prelude.{◌≡◌, ◌≤◌, IfOk};
-ghost use Rattle.tg_tree.specs.Plain.{plain_ts};
-ghost use Rattle.tg_tree.specs.Lists.{stms_of};
-ghost use Rattle.tg_canon.specs.Canon.{linearized, statements_of};
-ghost use Rattle.tg_canon.specs.Drawing.{DrawsFrom};
+ghost use Rattle.tg_tree.specs.glue.Plain.{plain_ts};
+ghost use Rattle.tg_tree.specs.glue.Lists.{stms_of};
+ghost use Rattle.tg_canon.specs.mirror.Canon.{linearized, statements_of};
+ghost use Rattle.tg_canon.specs.mirror.Drawing.{DrawsFrom};
 
 use crate::pass::linear_body;
 use crate::supply::Supply;

@@ -1,6 +1,6 @@
 ghost use Rattle.std.specs.Prelude.{◌≡◌, ◌+◌, IfOk};
-ghost use Rattle.tg_canon.specs.Breaking.{leads};
-ghost use Rattle.tg_canon.specs.Canon as canon;
+ghost use Rattle.tg_canon.specs.glue.Breaking.{leads};
+ghost use Rattle.tg_canon.specs.mirror.Canon as canon;
 
 use tg_base::Memory;
 

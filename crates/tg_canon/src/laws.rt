@@ -1,11 +1,11 @@
-ghost use Rattle.tg_canon.specs.Laws.{
+ghost use Rattle.tg_canon.specs.laws.Laws.{
   GivesCanonical,
   GivesClosed,
   NamesStay,
   TempsGrow,
   TempsStay,
 };
-ghost use Rattle.tg_canon.specs.Meaning.{
+ghost use Rattle.tg_canon.specs.laws.Meaning.{
   BodiesAreCarried,
   CallsAreCarried,
   LengthStays,

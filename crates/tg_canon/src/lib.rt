@@ -1,8 +1,8 @@
 //! Canonical trees (Appel, chapter 8): lifts statements and calls out of expressions.
 //!
-//! Services are hoisted like calls. What the pass makes of a body is defined in `specs/Canon.antt`,
-//! a function on plain trees; each step of the code is proved to do what its step of the definition
-//! does.
+//! Services are hoisted like calls. What the pass makes of a body is defined in
+//! `specs/mirror/Canon.antt`, a function on plain trees; each step of the code is proved to do what
+//! its step of the definition does.
 #![tactic(auto)]
 
 mod bodies;

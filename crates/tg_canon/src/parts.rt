@@ -1,10 +1,10 @@
 ghost use Rattle.std.specs.Prelude.{◌≡◌, IfOk, OnOk, reverse, if◌then◌else◌};
-ghost use Rattle.tg_tree.specs.Plain.{plain_ts};
-ghost use Rattle.tg_tree.specs.Lists.{stms_of};
+ghost use Rattle.tg_tree.specs.glue.Plain.{plain_ts};
+ghost use Rattle.tg_tree.specs.glue.Lists.{stms_of};
 ghost use Rattle.tg_tree.specs.Tree as tree;
-ghost use Rattle.tg_canon.specs.Canon as canon;
-ghost use Rattle.tg_canon.specs.Canon.{◌before◌};
-ghost use Rattle.tg_canon.specs.Views.{plain_part, plain_parts};
+ghost use Rattle.tg_canon.specs.glue.Views.{plain_part, plain_parts};
+ghost use Rattle.tg_canon.specs.mirror.Canon as canon;
+ghost use Rattle.tg_canon.specs.mirror.Canon.{◌before◌};
 
 use std::alloc::Global;
 use tg_base::{Memory, Temp};

@@ -1,10 +1,10 @@
 ghost use Rattle.std.specs.Prelude.{◌≡◌, ◌<◌, IfOk};
-ghost use Rattle.tg_tree.specs.Plain.{plain_tx, plain_cond, plain_ts};
-ghost use Rattle.tg_tree.specs.Lists.{txs_of, stms_of};
-ghost use Rattle.tg_canon.specs.Canon as canon;
-ghost use Rattle.tg_canon.specs.Breaking.{leads};
-ghost use Rattle.tg_canon.specs.Drawing.{DrawsFrom};
-ghost use Rattle.tg_canon.specs.Views.{
+ghost use Rattle.tg_tree.specs.glue.Plain.{plain_tx, plain_cond, plain_ts};
+ghost use Rattle.tg_tree.specs.glue.Lists.{txs_of, stms_of};
+ghost use Rattle.tg_canon.specs.mirror.Canon as canon;
+ghost use Rattle.tg_canon.specs.glue.Breaking.{leads};
+ghost use Rattle.tg_canon.specs.mirror.Drawing.{DrawsFrom};
+ghost use Rattle.tg_canon.specs.glue.Views.{
   plain_part,
   plain_parts,
   plain_hoisted,

@@ -1,8 +1,8 @@
 ghost use Rattle.std.specs.Prelude.{◌≡◌, IfOk};
-ghost use Rattle.tg_tree.specs.Plain.{plain_tx};
 ghost use Rattle.tg_tree.specs.Tree as tree;
-ghost use Rattle.tg_canon.specs.Canon as canon;
-ghost use Rattle.tg_canon.specs.Views.{plain_part, plain_hoisted, plain_two};
+ghost use Rattle.tg_tree.specs.glue.Plain.{plain_tx};
+ghost use Rattle.tg_canon.specs.glue.Views.{plain_part, plain_hoisted, plain_two};
+ghost use Rattle.tg_canon.specs.mirror.Canon as canon;
 
 use crate::hoisted::{Hoisted, Two};
 use crate::parts::{Part, nothing};

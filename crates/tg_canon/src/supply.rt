@@ -1,5 +1,5 @@
 ghost use Rattle.std.specs.Prelude.{IfOk};
-ghost use Rattle.tg_canon.specs.Drawing.{DrawsFrom, fresh};
+ghost use Rattle.tg_canon.specs.mirror.Drawing.{DrawsFrom, fresh};
 
 use std::alloc::Global;
 use tg_base::{Memory, Temp};

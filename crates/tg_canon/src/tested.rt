@@ -1,9 +1,9 @@
 ghost use Rattle.std.specs.Prelude.{◌≡◌, IfOk};
-ghost use Rattle.tg_tree.specs.Plain.{plain_tx, plain_cond};
 ghost use Rattle.tg_tree.specs.Shapes.{is_flat, is_flat_condition};
 ghost use Rattle.tg_tree.specs.Tree as tree;
-ghost use Rattle.tg_canon.specs.Canon as canon;
-ghost use Rattle.tg_canon.specs.Views.{plain_part, plain_two, plain_tested};
+ghost use Rattle.tg_tree.specs.glue.Plain.{plain_tx, plain_cond};
+ghost use Rattle.tg_canon.specs.glue.Views.{plain_part, plain_two, plain_tested};
+ghost use Rattle.tg_canon.specs.mirror.Canon as canon;
 
 use crate::hoisted::Two;
 use crate::parts::{Part, nothing};

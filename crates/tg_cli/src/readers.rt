@@ -3,7 +3,7 @@ ghost use Rattle.std.specs.declared.option.Option.TheVariants.{None};
 ghost use Rattle.std.specs.Io.{ReadsAtMost};
 ghost use Rattle.std.specs.Io.KnownBytes.{ReadConsumes};
 ghost use Rattle.tg_base.specs.Causes.{HasCause};
-ghost use Rattle.tg_cli.specs.Faults.{faults_after};
+ghost use Rattle.tg_cli.specs.glue.Faults.{faults_after};
 
 use crate::counted::Counted;
 use std::io::Read;

@@ -15,9 +15,9 @@ use Rattle.tg_irc.specs.Steps.{can, is_allowed}
 use Rattle.tg_irc.proofs.Deciding.{clash, both, and_true, either, or_left, or_right, tells, same_node, same_test, some_is, not_true}
 use Rattle.tg_graph.specs.Interference.{is_among}
 use Rattle.tg_graph.proofs.Members.{among_below, among_above}
-use Rattle.tg_coalesce.specs.Works.{Work, degree_at, is_left, is_open}
-use Rattle.tg_coalesce.specs.Steps.{candidate, candidates}
-use Rattle.tg_coalesce.specs.Standing.{graph_of, state_of, shown, IsOrderly, IsRunOf}
+use Rattle.tg_coalesce.specs.glue.Works.{Work, degree_at, is_left, is_open}
+use Rattle.tg_coalesce.specs.mirror.Steps.{candidate, candidates}
+use Rattle.tg_coalesce.specs.glue.Standing.{graph_of, state_of, shown, IsOrderly, IsRunOf}
 use Rattle.tg_coalesce.proofs.AdvancingMembers.{among_at}
 use Rattle.tg_coalesce.proofs.AdvancingOrder.{open_remains}
 use Rattle.tg_coalesce.proofs.AdvancingPossible.{with_parts, at_problem}

@@ -9,11 +9,11 @@ use Rattle.std.proofs.lemmas.List.Elements.{All-append, All-nil, All-set}
 use Rattle.std.proofs.lemmas.List.Folds.{list_any-append}
 use Rattle.tg_irc.proofs.Deciding.{both, never, same_node, same_test}
 use Rattle.tg_graph.specs.Interference.{is_among}
-use Rattle.tg_coalesce.specs.Lists.{list_at, set_at_all}
-use Rattle.tg_coalesce.specs.Groupings.{Grouping, IsGrouping}
-use Rattle.tg_coalesce.specs.Groupings as groupings
-use Rattle.tg_coalesce.specs.Works.{Work, alias_of}
-use Rattle.tg_coalesce.specs.Standing.{IsOrderly, HasMembers}
+use Rattle.tg_coalesce.specs.glue.Lists.{list_at, set_at_all}
+use Rattle.tg_coalesce.specs.glue.Groupings.{Grouping, IsGrouping}
+use Rattle.tg_coalesce.specs.glue.Groupings as groupings
+use Rattle.tg_coalesce.specs.glue.Works.{Work, alias_of}
+use Rattle.tg_coalesce.specs.glue.Standing.{IsOrderly, HasMembers}
 use Rattle.tg_coalesce.proofs.AdvancingJoining.{distinct_joined, poured_kept, poured_gone, poured_other}
 use Rattle.tg_coalesce.proofs.AdvancingJoining.{length_poured, sum_same, length_moved, length_all, set_all}
 

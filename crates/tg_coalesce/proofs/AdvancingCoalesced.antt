@@ -10,9 +10,9 @@ use Rattle.std.proofs.lemmas.List.Sums.{sum_by-cons}
 use Rattle.tg_irc.specs.Graphs.{Set, every}
 use Rattle.tg_irc.specs.States.{Problem, RoundState, facts_at, all_made}
 use Rattle.tg_irc.proofs.Deciding.{clash, never, same_node, same_test}
-use Rattle.tg_coalesce.specs.Groupings.{is_made}
-use Rattle.tg_coalesce.specs.Works.{Work, is_left, alias_of}
-use Rattle.tg_coalesce.specs.Standing.{state_of, IsOrderly, IsRunOf}
+use Rattle.tg_coalesce.specs.glue.Groupings.{is_made}
+use Rattle.tg_coalesce.specs.glue.Works.{Work, is_left, alias_of}
+use Rattle.tg_coalesce.specs.glue.Standing.{state_of, IsOrderly, IsRunOf}
 use Rattle.tg_coalesce.proofs.AdvancingRuns.{own_class}
 use Rattle.tg_coalesce.proofs.AdvancingJoining.{by_place, sum_kept, sum_gone, sum_other}
 use Rattle.tg_coalesce.proofs.AdvancingClasses.{classes_after, alias_after, renamed, named_kept, named_gone, named_other}

@@ -9,8 +9,8 @@ use Rattle.tg_irc.specs.Graphs.{bit, count, without}
 use Rattle.tg_irc.specs.States.{Problem, RoundState, problem, low}
 use Rattle.tg_irc.specs.States as states
 use Rattle.tg_irc.specs.Steps.{can_move, after, settle, merge}
-use Rattle.tg_irc.specs.Degrees.{degree_of}
-use Rattle.tg_irc.specs.Waiting.{is_woken}
+use Rattle.tg_irc.specs.laws.Degrees.{degree_of}
+use Rattle.tg_irc.specs.laws.Waiting.{is_woken}
 use Rattle.tg_irc.proofs.Deciding.{clash, both, and_true, or_false, never}
 use Rattle.tg_irc.proofs.Deciding.{not_true, from_false, same_node, same_test, some_is}
 use Rattle.tg_irc.proofs.Degrees.{merged_is_less, merged_is_more}
@@ -18,10 +18,10 @@ use Rattle.tg_irc.proofs.Waiting.{waiting_fails}
 use Rattle.tg_graph.specs.Interference.{Interference, is_among, is_register, interferes}
 use Rattle.tg_graph.specs.Lists.{Lists}
 use Rattle.tg_graph.proofs.Joining.{either_way}
-use Rattle.tg_coalesce.specs.Lists.{list_at}
-use Rattle.tg_coalesce.specs.Tables.{state_at, is_waiting}
-use Rattle.tg_coalesce.specs.Works.{Work, is_left, is_open, to, from}
-use Rattle.tg_coalesce.specs.Standing.{shown, state_of, IsOrderly}
+use Rattle.tg_coalesce.specs.glue.Lists.{list_at}
+use Rattle.tg_coalesce.specs.glue.Tables.{state_at, is_waiting}
+use Rattle.tg_coalesce.specs.glue.Works.{Work, is_left, is_open, to, from}
+use Rattle.tg_coalesce.specs.glue.Standing.{shown, state_of, IsOrderly}
 use Rattle.tg_coalesce.proofs.AdvancingMembers.{count_found, one_bit, is_bit}
 use Rattle.tg_coalesce.proofs.AdvancingWaking.{requeued}
 use Rattle.tg_coalesce.proofs.AdvancingListing.{IsShifted, shifted_left, IsListed}

@@ -18,11 +18,11 @@ use Rattle.tg_irc.proofs.Deciding.{clash, both, and_true, never, neither, not_tr
 use Rattle.tg_irc.proofs.Running.{nothing_left_is_over}
 use Rattle.tg_graph.specs.Interference.{is_among}
 use Rattle.tg_graph.specs.Lists.{nodes_in, number}
-use Rattle.tg_coalesce.specs.Tables.{state_at, is_related}
-use Rattle.tg_coalesce.specs.Works.{Work, degree_at, list_of}
-use Rattle.tg_coalesce.specs.Selecting.{colour_at, selected}
-use Rattle.tg_coalesce.specs.Standing.{as_told, shown, state_of, IsOrderly, IsRunOf, is_empty, is_done, answer_of}
-use Rattle.tg_coalesce.specs.Advancing.{DoneIsRound}
+use Rattle.tg_coalesce.specs.glue.Tables.{state_at, is_related}
+use Rattle.tg_coalesce.specs.glue.Works.{Work, degree_at, list_of}
+use Rattle.tg_coalesce.specs.mirror.Selecting.{colour_at, selected}
+use Rattle.tg_coalesce.specs.glue.Standing.{as_told, shown, state_of, IsOrderly, IsRunOf, is_empty, is_done, answer_of}
+use Rattle.tg_coalesce.specs.glue.Advancing.{DoneIsRound}
 use Rattle.tg_coalesce.proofs.AdvancingWaking.{told_open}
 use Rattle.tg_coalesce.proofs.AdvancingListing.{by_tests}
 use Rattle.tg_coalesce.proofs.AdvancingOrder.{remains_open}

@@ -7,11 +7,11 @@ use Rattle.std.proofs.lemmas.List.Elements.{All-append, All-nil}
 use Rattle.std.proofs.lemmas.List.Sums.{sum_by-append}
 use Rattle.tg_irc.specs.Graphs.{bit}
 use Rattle.tg_irc.proofs.Deciding.{clash, same_node}
-use Rattle.tg_coalesce.specs.Lists.{list_at}
-use Rattle.tg_coalesce.specs.Tables.{Table, IsTable, move_at, is_unsettled, is_related}
-use Rattle.tg_coalesce.specs.Tables as tables
-use Rattle.tg_coalesce.specs.Works.{Work, to, from}
-use Rattle.tg_coalesce.specs.Standing.{IsOrderly}
+use Rattle.tg_coalesce.specs.glue.Lists.{list_at}
+use Rattle.tg_coalesce.specs.glue.Tables.{Table, IsTable, move_at, is_unsettled, is_related}
+use Rattle.tg_coalesce.specs.glue.Tables as tables
+use Rattle.tg_coalesce.specs.glue.Works.{Work, to, from}
+use Rattle.tg_coalesce.specs.glue.Standing.{IsOrderly}
 use Rattle.tg_coalesce.proofs.AdvancingMembers.{no_bit}
 use Rattle.tg_coalesce.proofs.AdvancingOrder.{inside_both}
 use Rattle.tg_coalesce.proofs.AdvancingPossible.{moves_of}

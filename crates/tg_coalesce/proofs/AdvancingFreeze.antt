@@ -6,9 +6,9 @@ use Rattle.tg_irc.specs.declared.steps.Step.TheVariants.{Freeze}
 use Rattle.tg_irc.specs.Steps.{can, freeze}
 use Rattle.tg_graph.specs.declared.worklists.Worklist.TheVariants as worklists
 use Rattle.tg_graph.specs.Lists.{Lists, number}
-use Rattle.tg_coalesce.specs.Works.{Work, is_open, list_of, stepped}
-use Rattle.tg_coalesce.specs.Standing.{shown, state_of, IsOrderly}
-use Rattle.tg_coalesce.specs.Advancing.{Advances, FreezeAdvances}
+use Rattle.tg_coalesce.specs.glue.Works.{Work, is_open, list_of, stepped}
+use Rattle.tg_coalesce.specs.glue.Standing.{shown, state_of, IsOrderly}
+use Rattle.tg_coalesce.specs.glue.Advancing.{Advances, FreezeAdvances}
 use Rattle.tg_coalesce.proofs.AdvancingMembers.{among_first}
 use Rattle.tg_coalesce.proofs.AdvancingPossible.{moves_of, in_list, for_freeze, freeze_told, with_parts, at_problem}
 use Rattle.tg_coalesce.proofs.AdvancingMeasure.{goes_less}

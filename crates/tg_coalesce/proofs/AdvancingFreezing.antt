@@ -12,11 +12,11 @@ use Rattle.tg_irc.specs.Steps.{freeze}
 use Rattle.tg_irc.proofs.Deciding.{clash, both, and_true, or_left, or_right, never, same_node, same_test}
 use Rattle.tg_graph.specs.Interference.{is_among, interferes}
 use Rattle.tg_graph.specs.Lists.{Lists}
-use Rattle.tg_coalesce.specs.Lists.{list_at}
-use Rattle.tg_coalesce.specs.Tables.{Table, state_at, is_unsettled}
-use Rattle.tg_coalesce.specs.Works.{Work, settled, to, from}
-use Rattle.tg_coalesce.specs.Steps.{freeze_one, given_up}
-use Rattle.tg_coalesce.specs.Standing.{as_told, shown, state_of, IsOrderly}
+use Rattle.tg_coalesce.specs.glue.Lists.{list_at}
+use Rattle.tg_coalesce.specs.glue.Tables.{Table, state_at, is_unsettled}
+use Rattle.tg_coalesce.specs.glue.Works.{Work, settled, to, from}
+use Rattle.tg_coalesce.specs.mirror.Steps.{freeze_one, given_up}
+use Rattle.tg_coalesce.specs.glue.Standing.{as_told, shown, state_of, IsOrderly}
 use Rattle.tg_coalesce.proofs.AdvancingMembers.{same_tests, all_among}
 use Rattle.tg_coalesce.proofs.AdvancingListing.{IsShifted, shifted_none, shifted_then, shifted_left}
 use Rattle.tg_coalesce.proofs.AdvancingOrder.{listed_ends, ends_listed, to_same, from_same, unsettled_told}

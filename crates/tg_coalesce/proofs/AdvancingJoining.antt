@@ -8,7 +8,7 @@ use Rattle.std.proofs.lemmas.List.{get_or-set_same, get_or-set_other, length-set
 use Rattle.std.proofs.lemmas.List.Sums.{sum_by-set}
 use Rattle.tg_irc.proofs.Deciding.{or_left, or_right, never, same_node, same_test}
 use Rattle.tg_graph.specs.Interference.{is_among}
-use Rattle.tg_coalesce.specs.Lists.{list_at, poured, moved_sum, set_at_all}
+use Rattle.tg_coalesce.specs.glue.Lists.{list_at, poured, moved_sum, set_at_all}
 use Rattle.tg_coalesce.proofs.AdvancingMembers.{not_again, distinct_rest}
 
 -- two lists without repeats that share nothing

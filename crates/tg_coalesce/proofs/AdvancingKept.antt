@@ -6,11 +6,11 @@ use Rattle.tg_irc.specs.declared.moves.MoveState.{MoveState}
 use Rattle.tg_irc.specs.declared.steps.Step.{Step}
 use Rattle.tg_irc.specs.Steps.{can_move}
 use Rattle.tg_graph.specs.Interference.{IsGraph, colours, most_nodes, is_among}
-use Rattle.tg_coalesce.specs.Lists.{list_at}
-use Rattle.tg_coalesce.specs.Groupings.{IsGrouping}
-use Rattle.tg_coalesce.specs.Tables.{IsTable, state_at, is_waiting, is_unsettled}
-use Rattle.tg_coalesce.specs.Works.{Work}
-use Rattle.tg_coalesce.specs.Standing.{shown, state_of, IsOrderly, IsSized, HasDegrees, IsPlaced, HasMembers, HasEnds, HasReady}
+use Rattle.tg_coalesce.specs.glue.Lists.{list_at}
+use Rattle.tg_coalesce.specs.glue.Groupings.{IsGrouping}
+use Rattle.tg_coalesce.specs.glue.Tables.{IsTable, state_at, is_waiting, is_unsettled}
+use Rattle.tg_coalesce.specs.glue.Works.{Work}
+use Rattle.tg_coalesce.specs.glue.Standing.{shown, state_of, IsOrderly, IsSized, HasDegrees, IsPlaced, HasMembers, HasEnds, HasReady}
 use Rattle.tg_coalesce.proofs.AdvancingWaking.{requeued}
 use Rattle.tg_coalesce.proofs.AdvancingOrder.{HasMoves}
 

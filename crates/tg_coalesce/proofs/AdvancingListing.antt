@@ -8,9 +8,9 @@ use Rattle.tg_graph.specs.declared.worklists.Worklist.{Worklist}
 use Rattle.tg_graph.specs.declared.worklists.Worklist.TheVariants.{Fixed, Simplify, Freeze, Spill, Stacked, Merged}
 use Rattle.tg_graph.specs.Interference.{is_among, is_register}
 use Rattle.tg_graph.specs.Lists.{Lists, nodes_in, number, moved}
-use Rattle.tg_graph.specs.Laws.{ArePartition}
+use Rattle.tg_graph.specs.laws.Laws.{ArePartition}
 use Rattle.tg_graph.proofs.Partitions.{moved_tells, moved_parts}
-use Rattle.tg_coalesce.specs.Works.{Work, is_left, is_open, list_of, relisted}
+use Rattle.tg_coalesce.specs.glue.Works.{Work, is_left, is_open, list_of, relisted}
 
 -- temporaries that remain were moved among the lists of these
 pub record IsShifted (l m : Lists) : Type 0 where

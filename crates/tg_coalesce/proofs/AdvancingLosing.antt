@@ -9,10 +9,10 @@ use Rattle.tg_irc.specs.Graphs.{Set, bit}
 use Rattle.tg_irc.proofs.Deciding.{clash, either, or_left, or_right, never, same_node, same_test}
 use Rattle.tg_graph.specs.Interference.{Interference, is_among, is_register, neighbours}
 use Rattle.tg_graph.specs.Lists.{Lists, number}
-use Rattle.tg_coalesce.specs.Lists.{list_at, lowered}
-use Rattle.tg_coalesce.specs.Tables.{Table, state_at, is_waiting, is_related}
-use Rattle.tg_coalesce.specs.Works.{Work, degree_at, is_open, relisted, awake_around}
-use Rattle.tg_coalesce.specs.Steps.{bereft}
+use Rattle.tg_coalesce.specs.glue.Lists.{list_at, lowered}
+use Rattle.tg_coalesce.specs.glue.Tables.{Table, state_at, is_waiting, is_related}
+use Rattle.tg_coalesce.specs.glue.Works.{Work, degree_at, is_open, relisted, awake_around}
+use Rattle.tg_coalesce.specs.mirror.Steps.{bereft}
 use Rattle.tg_coalesce.proofs.AdvancingMembers.{not_again, distinct_rest}
 use Rattle.tg_coalesce.proofs.AdvancingWaking.{IsWoken, woken_none, woken_then, stays_awake, woken_classes, wakes_classes}
 use Rattle.tg_coalesce.proofs.AdvancingListing.{IsShifted, shifted_none, shifted_then, shifted_left, IsListed}

@@ -13,15 +13,15 @@ use Rattle.tg_irc.specs.Graphs.{Set, bit, count}
 use Rattle.tg_irc.specs.States.{RoundState, remains, is_ready_or_waiting}
 use Rattle.tg_irc.specs.States as states
 use Rattle.tg_irc.specs.Steps.{can, after}
-use Rattle.tg_irc.specs.Laws.{work_left}
+use Rattle.tg_irc.specs.laws.Laws.{work_left}
 use Rattle.tg_irc.proofs.Shrinking.{steps_shrink}
 use Rattle.tg_graph.specs.declared.worklists.Worklist.{Worklist}
 use Rattle.tg_graph.specs.declared.worklists.Worklist.TheVariants as worklists
 use Rattle.tg_graph.specs.Interference.{is_among, is_register}
 use Rattle.tg_graph.specs.Lists.{nodes_in, number}
-use Rattle.tg_coalesce.specs.Tables.{is_unsettled}
-use Rattle.tg_coalesce.specs.Works.{Work, is_left}
-use Rattle.tg_coalesce.specs.Standing.{shown, state_of, IsOrderly, left_to_do}
+use Rattle.tg_coalesce.specs.glue.Tables.{is_unsettled}
+use Rattle.tg_coalesce.specs.glue.Works.{Work, is_left}
+use Rattle.tg_coalesce.specs.glue.Standing.{shown, state_of, IsOrderly, left_to_do}
 use Rattle.tg_coalesce.proofs.AdvancingMembers.{count_of_list, count_cons, all_among}
 use Rattle.tg_coalesce.proofs.AdvancingOrder.{unsettled_told}
 use Rattle.tg_coalesce.proofs.AdvancingPossible.{moves_of}

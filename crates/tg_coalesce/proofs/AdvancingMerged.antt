@@ -9,18 +9,18 @@ use Rattle.tg_irc.specs.Graphs.{Set, bit, count, degree, without}
 use Rattle.tg_irc.specs.Graphs as graphs
 use Rattle.tg_irc.specs.States.{RoundState}
 use Rattle.tg_irc.specs.Steps.{merge, can_move}
-use Rattle.tg_irc.specs.Laws.{is_stacked}
-use Rattle.tg_irc.specs.Degrees.{degree_of}
+use Rattle.tg_irc.specs.laws.Laws.{is_stacked}
+use Rattle.tg_irc.specs.laws.Degrees.{degree_of}
 use Rattle.tg_irc.proofs.Deciding.{clash, both, and_true, neither, never, not_true, same_node, same_test}
 use Rattle.tg_graph.specs.declared.worklists.Worklist.TheVariants as worklists
 use Rattle.tg_graph.specs.Interference.{Interference, is_among, is_register, interferes, neighbours, most_nodes}
 use Rattle.tg_graph.specs.Lists.{Lists}
 use Rattle.tg_graph.proofs.Joining.{either_way, not_itself}
 use Rattle.tg_graph.proofs.Partitions.{moved_parts}
-use Rattle.tg_coalesce.specs.Lists.{list_at}
-use Rattle.tg_coalesce.specs.Tables.{state_at, is_waiting, is_related, move_at}
-use Rattle.tg_coalesce.specs.Works.{Work, degree_at, is_left, is_open, alias_of, to}
-use Rattle.tg_coalesce.specs.Standing.{shown, state_of, IsOrderly, HasDegrees, IsPlaced, HasEnds}
+use Rattle.tg_coalesce.specs.glue.Lists.{list_at}
+use Rattle.tg_coalesce.specs.glue.Tables.{state_at, is_waiting, is_related, move_at}
+use Rattle.tg_coalesce.specs.glue.Works.{Work, degree_at, is_left, is_open, alias_of, to}
+use Rattle.tg_coalesce.specs.glue.Standing.{shown, state_of, IsOrderly, HasDegrees, IsPlaced, HasEnds}
 use Rattle.tg_coalesce.proofs.AdvancingMembers.{count_of_list}
 use Rattle.tg_coalesce.proofs.AdvancingWaking.{IsQueue, requeued, woken_unsettled}
 use Rattle.tg_coalesce.proofs.AdvancingListing.{moved_it, moved_other, shifted_left}

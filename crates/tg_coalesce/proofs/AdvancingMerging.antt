@@ -9,11 +9,11 @@ use Rattle.tg_graph.specs.declared.worklists.Worklist.TheVariants as worklists
 use Rattle.tg_graph.specs.Interference.{IsGraph, is_among, is_register, interferes, neighbours}
 use Rattle.tg_graph.specs.Lists.{number, moved}
 use Rattle.tg_graph.proofs.Joining.{either_way, stays_below}
-use Rattle.tg_coalesce.specs.Lists.{list_at}
-use Rattle.tg_coalesce.specs.Tables.{Table, state_at, is_waiting, woken}
-use Rattle.tg_coalesce.specs.Works.{Work, degree_at, is_left, is_open, relisted, awake}
-use Rattle.tg_coalesce.specs.Steps.{passed_on, merged}
-use Rattle.tg_coalesce.specs.Standing.{IsOrderly}
+use Rattle.tg_coalesce.specs.glue.Lists.{list_at}
+use Rattle.tg_coalesce.specs.glue.Tables.{Table, state_at, is_waiting, woken}
+use Rattle.tg_coalesce.specs.glue.Works.{Work, degree_at, is_left, is_open, relisted, awake}
+use Rattle.tg_coalesce.specs.mirror.Steps.{passed_on, merged}
+use Rattle.tg_coalesce.specs.glue.Standing.{IsOrderly}
 use Rattle.tg_coalesce.proofs.AdvancingWaking.{IsWoken, woken_then, woken_class, wakes_class, stays_awake}
 use Rattle.tg_coalesce.proofs.AdvancingListing.{IsShifted, shifted_then, IsListed, by_tests, moved_it}
 use Rattle.tg_coalesce.proofs.AdvancingListing.{moved_other, relisted_same, relisted_shifts, lists_it, lists_other}

@@ -8,16 +8,16 @@ use Rattle.tg_irc.specs.declared.moves.Move.{Move}
 use Rattle.tg_irc.specs.Graphs.{bit}
 use Rattle.tg_irc.specs.States.{Problem, RoundState, remains, is_move_related, touches, is_ready_or_waiting, low}
 use Rattle.tg_irc.specs.States as states
-use Rattle.tg_irc.specs.Laws.{IsSound}
+use Rattle.tg_irc.specs.laws.Laws.{IsSound}
 use Rattle.tg_irc.proofs.Deciding.{both, and_true, either, or_left, or_right}
 use Rattle.tg_irc.proofs.Deciding.{same_node, same_test, some_is}
 use Rattle.tg_graph.specs.Interference.{is_among, is_register}
 use Rattle.tg_graph.proofs.Joining.{either_way, not_itself}
-use Rattle.tg_coalesce.specs.Lists.{list_at}
-use Rattle.tg_coalesce.specs.Groupings.{IsGrouping}
-use Rattle.tg_coalesce.specs.Tables.{IsTable, move_at, state_at, is_unsettled, is_related}
-use Rattle.tg_coalesce.specs.Works.{Work, is_left, is_open, to, from}
-use Rattle.tg_coalesce.specs.Standing.{as_told, shown, state_of, IsSized, HasEnds}
+use Rattle.tg_coalesce.specs.glue.Lists.{list_at}
+use Rattle.tg_coalesce.specs.glue.Groupings.{IsGrouping}
+use Rattle.tg_coalesce.specs.glue.Tables.{IsTable, move_at, state_at, is_unsettled, is_related}
+use Rattle.tg_coalesce.specs.glue.Works.{Work, is_left, is_open, to, from}
+use Rattle.tg_coalesce.specs.glue.Standing.{as_told, shown, state_of, IsSized, HasEnds}
 use Rattle.tg_coalesce.proofs.AdvancingMembers.{same_tests, one_bit, all_among, count_some, count_found}
 use Rattle.tg_coalesce.proofs.AdvancingWaking.{told_open}
 

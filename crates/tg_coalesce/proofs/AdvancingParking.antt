@@ -10,14 +10,14 @@ use Rattle.tg_irc.specs.States.{is_ready_or_waiting}
 use Rattle.tg_irc.specs.States as states
 use Rattle.tg_irc.specs.Steps.{can_move}
 use Rattle.tg_irc.specs.Steps as steps
-use Rattle.tg_irc.specs.Laws.{work_left}
+use Rattle.tg_irc.specs.laws.Laws.{work_left}
 use Rattle.tg_irc.proofs.Deciding.{clash, both, never, same_test}
 use Rattle.tg_graph.specs.Interference.{is_among, interferes}
-use Rattle.tg_coalesce.specs.Tables.{IsTable, state_at, is_waiting, is_unsettled, first_taken, parked}
-use Rattle.tg_coalesce.specs.Works.{Work, to, from}
-use Rattle.tg_coalesce.specs.Passing.{passes}
-use Rattle.tg_coalesce.specs.Standing.{as_told, shown, state_of, IsOrderly, left_to_do}
-use Rattle.tg_coalesce.specs.Advancing.{Advances}
+use Rattle.tg_coalesce.specs.glue.Tables.{IsTable, state_at, is_waiting, is_unsettled, first_taken, parked}
+use Rattle.tg_coalesce.specs.glue.Works.{Work, to, from}
+use Rattle.tg_coalesce.specs.mirror.Passing.{passes}
+use Rattle.tg_coalesce.specs.glue.Standing.{as_told, shown, state_of, IsOrderly, left_to_do}
+use Rattle.tg_coalesce.specs.glue.Advancing.{Advances}
 use Rattle.tg_coalesce.proofs.AdvancingWaking.{told_open}
 use Rattle.tg_coalesce.proofs.AdvancingOrder.{to_below, from_below}
 use Rattle.tg_coalesce.proofs.AdvancingPossible.{moves_of}

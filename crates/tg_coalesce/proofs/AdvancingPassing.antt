@@ -5,7 +5,7 @@ use Rattle.std.specs.Prelude.{◌==◌, nat_lt, if◌then◌else◌}
 use Rattle.std.proofs.lemmas.Bool.{lt-ltb, ltb-false}
 use Rattle.tg_irc.specs.Graphs.{Set, bit, count, is_register}
 use Rattle.tg_irc.specs.States.{RoundState, low}
-use Rattle.tg_irc.specs.Degrees.{degree_of}
+use Rattle.tg_irc.specs.laws.Degrees.{degree_of}
 use Rattle.tg_irc.specs.Steps.{allows, george, briggs, high_neighbours}
 use Rattle.tg_irc.specs.Steps as steps
 use Rattle.tg_irc.proofs.Deciding.{both, and_true, either, or_left, tells, not_true}
@@ -16,10 +16,10 @@ use Rattle.tg_graph.specs.declared.worklists.Worklist.TheVariants as worklists
 use Rattle.tg_graph.specs.Interference.{is_among, interferes, neighbours}
 use Rattle.tg_graph.specs.Lists.{nodes_in, number}
 use Rattle.tg_graph.proofs.Joining.{stays_below}
-use Rattle.tg_coalesce.specs.Tables.{is_related}
-use Rattle.tg_coalesce.specs.Works.{Work, degree_at, is_left, is_open, is_high}
-use Rattle.tg_coalesce.specs.Passing.{high_around, high_apart, passes_george, passes_briggs, passes}
-use Rattle.tg_coalesce.specs.Standing.{shown, state_of, IsOrderly}
+use Rattle.tg_coalesce.specs.glue.Tables.{is_related}
+use Rattle.tg_coalesce.specs.glue.Works.{Work, degree_at, is_left, is_open, is_high}
+use Rattle.tg_coalesce.specs.mirror.Passing.{high_around, high_apart, passes_george, passes_briggs, passes}
+use Rattle.tg_coalesce.specs.glue.Standing.{shown, state_of, IsOrderly}
 use Rattle.tg_coalesce.proofs.AdvancingMembers.{same_tests, count_of_list, count_some, count_found}
 use Rattle.tg_coalesce.proofs.AdvancingOrder.{left_remains}
 use Rattle.tg_coalesce.proofs.AdvancingListing.{by_tests}

@@ -7,9 +7,9 @@ use Rattle.tg_irc.proofs.Deciding.{both, or_left, tells, never, not_true, same_n
 use Rattle.std.proofs.lemmas.Bool.{ltb-false}
 use Rattle.tg_graph.specs.Interference.{Interference, IsGraph, is_among, is_register, interferes}
 use Rattle.tg_graph.specs.Lists.{Lists}
-use Rattle.tg_coalesce.specs.Lists.{list_at}
-use Rattle.tg_coalesce.specs.Tables.{Table, state_at, is_waiting}
-use Rattle.tg_coalesce.specs.Works.{Work, degree_at, is_left, is_open}
+use Rattle.tg_coalesce.specs.glue.Lists.{list_at}
+use Rattle.tg_coalesce.specs.glue.Tables.{Table, state_at, is_waiting}
+use Rattle.tg_coalesce.specs.glue.Works.{Work, degree_at, is_left, is_open}
 use Rattle.tg_coalesce.proofs.AdvancingWaking.{IsWoken, woken_none, woken_then, stays_awake}
 use Rattle.tg_coalesce.proofs.AdvancingListing.{IsShifted, shifted_none, shifted_then, shifted_left, IsListed}
 use Rattle.tg_coalesce.proofs.AdvancingLosing.{IsRoused}

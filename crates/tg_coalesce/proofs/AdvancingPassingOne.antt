@@ -9,10 +9,10 @@ use Rattle.tg_irc.proofs.Deciding.{clash, both, or_left, or_right, never, same_n
 use Rattle.tg_graph.specs.Interference.{IsGraph, is_among, is_register, interferes}
 use Rattle.tg_graph.specs.Lists.{number}
 use Rattle.tg_graph.proofs.Joining.{CanJoin, either_way, joined, interferes_joined, graph_joined}
-use Rattle.tg_coalesce.specs.Lists.{list_at, raised}
-use Rattle.tg_coalesce.specs.Tables.{Table, woken}
-use Rattle.tg_coalesce.specs.Works.{Work, degree_at, is_left, is_open, awake}
-use Rattle.tg_coalesce.specs.Steps.{bereft, passed_edge, passed_on}
+use Rattle.tg_coalesce.specs.glue.Lists.{list_at, raised}
+use Rattle.tg_coalesce.specs.glue.Tables.{Table, woken}
+use Rattle.tg_coalesce.specs.glue.Works.{Work, degree_at, is_left, is_open, awake}
+use Rattle.tg_coalesce.specs.mirror.Steps.{bereft, passed_edge, passed_on}
 use Rattle.tg_coalesce.proofs.AdvancingMembers.{count_cons, not_again, distinct_rest}
 use Rattle.tg_coalesce.proofs.AdvancingWaking.{woken_then, woken_class, wakes_class, stays_awake}
 use Rattle.tg_coalesce.proofs.AdvancingListing.{shifted_none, shifted_left, by_tests}

@@ -6,15 +6,15 @@ use Rattle.tg_irc.specs.declared.moves.Move.{Move}
 use Rattle.tg_irc.specs.States.{Problem, RoundState, problem, remains, is_move_related, low}
 use Rattle.tg_irc.specs.States as states
 use Rattle.tg_irc.specs.Steps.{can, can_move}
-use Rattle.tg_irc.specs.Degrees.{degree_of}
+use Rattle.tg_irc.specs.laws.Degrees.{degree_of}
 use Rattle.tg_irc.proofs.Deciding.{clash, both, and_true, never, from_false, or_false, same_node}
 use Rattle.tg_graph.specs.declared.worklists.Worklist.{Worklist}
 use Rattle.tg_graph.specs.declared.worklists.Worklist.TheVariants as worklists
 use Rattle.tg_graph.specs.Interference.{is_among, is_register}
 use Rattle.tg_graph.specs.Lists.{nodes_in, number}
-use Rattle.tg_coalesce.specs.Tables.{state_at, is_waiting, is_unsettled, is_related}
-use Rattle.tg_coalesce.specs.Works.{Work, degree_at, is_left, is_open, list_of}
-use Rattle.tg_coalesce.specs.Standing.{shown, state_of, HasDegrees, IsOrderly}
+use Rattle.tg_coalesce.specs.glue.Tables.{state_at, is_waiting, is_unsettled, is_related}
+use Rattle.tg_coalesce.specs.glue.Works.{Work, degree_at, is_left, is_open, list_of}
+use Rattle.tg_coalesce.specs.glue.Standing.{shown, state_of, HasDegrees, IsOrderly}
 use Rattle.tg_coalesce.proofs.AdvancingListing.{by_tests}
 use Rattle.tg_coalesce.proofs.AdvancingOrder.{HasMoves, open_remains, remains_open, related_told, unsettled_told, unsettled_below}
 

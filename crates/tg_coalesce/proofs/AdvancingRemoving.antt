@@ -3,10 +3,10 @@ use Rattle.std.proofs.Common.{◌≡◌, ℕ, ◌<◌, true, false, sym, ap, sub
 use Rattle.std.specs.Prelude.{fold}
 use Rattle.tg_graph.specs.Interference.{is_among, neighbours}
 use Rattle.tg_graph.proofs.Joining.{stays_below}
-use Rattle.tg_coalesce.specs.Tables.{is_related}
-use Rattle.tg_coalesce.specs.Works.{Work, is_open}
-use Rattle.tg_coalesce.specs.Steps.{bereft, taken_out}
-use Rattle.tg_coalesce.specs.Standing.{IsOrderly}
+use Rattle.tg_coalesce.specs.glue.Tables.{is_related}
+use Rattle.tg_coalesce.specs.glue.Works.{Work, is_open}
+use Rattle.tg_coalesce.specs.mirror.Steps.{bereft, taken_out}
+use Rattle.tg_coalesce.specs.glue.Standing.{IsOrderly}
 use Rattle.tg_coalesce.proofs.AdvancingLosing.{IsBereft, changed, bereft_all}
 use Rattle.tg_coalesce.proofs.AdvancingTaking.{out, built, temporary, out_fixed}
 

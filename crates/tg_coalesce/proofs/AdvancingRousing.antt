@@ -3,8 +3,8 @@ use Rattle.std.proofs.Common.{◌≡◌, ℕ, false, List, sym, subst}
 use Rattle.tg_irc.specs.declared.moves.MoveState.{MoveState}
 use Rattle.tg_irc.specs.Steps.{can_move}
 use Rattle.tg_graph.specs.Interference.{interferes}
-use Rattle.tg_coalesce.specs.Works.{Work}
-use Rattle.tg_coalesce.specs.Standing.{shown, state_of, IsOrderly}
+use Rattle.tg_coalesce.specs.glue.Works.{Work}
+use Rattle.tg_coalesce.specs.glue.Standing.{shown, state_of, IsOrderly}
 use Rattle.tg_coalesce.proofs.AdvancingWaking.{IsWoken, requeued, woken_unsettled}
 use Rattle.tg_coalesce.proofs.AdvancingKept.{kept_of, kept_restated, orderly_of}
 use Rattle.tg_coalesce.proofs.AdvancingTaking.{queue_of}

@@ -7,9 +7,9 @@ use Rattle.tg_irc.specs.States.{Problem, RoundState, start, members, facts_at, a
 use Rattle.tg_irc.specs.Steps.{after, after_all, IsTaken, AreTaken}
 use Rattle.tg_irc.proofs.Classes.{Holds, holds_from_start}
 use Rattle.tg_irc.proofs.Running.{runs_go_on}
-use Rattle.tg_coalesce.specs.Groupings.{Grouping, is_made}
-use Rattle.tg_coalesce.specs.Works.{Work, alias_of, is_left}
-use Rattle.tg_coalesce.specs.Standing.{state_of, IsSized, IsRunOf}
+use Rattle.tg_coalesce.specs.glue.Groupings.{Grouping, is_made}
+use Rattle.tg_coalesce.specs.glue.Works.{Work, alias_of, is_left}
+use Rattle.tg_coalesce.specs.glue.Standing.{state_of, IsSized, IsRunOf}
 use Rattle.tg_coalesce.proofs.AdvancingOrder.{left_remains}
 
 module _ (g : Problem) (w : Work) (run : IsRunOf g w) where

@@ -13,9 +13,9 @@ use Rattle.tg_irc.proofs.Deciding.{clash, both, and_true, either, never}
 use Rattle.tg_irc.proofs.Deciding.{same_node, same_test}
 use Rattle.tg_graph.specs.Interference.{is_register, interferes}
 use Rattle.tg_graph.proofs.Joining.{either_way}
-use Rattle.tg_coalesce.specs.Works.{Work, is_left, to, from}
-use Rattle.tg_coalesce.specs.Passing.{passes}
-use Rattle.tg_coalesce.specs.Standing.{shown, state_of, IsOrderly}
+use Rattle.tg_coalesce.specs.glue.Works.{Work, is_left, to, from}
+use Rattle.tg_coalesce.specs.mirror.Passing.{passes}
+use Rattle.tg_coalesce.specs.glue.Standing.{shown, state_of, IsOrderly}
 use Rattle.tg_coalesce.proofs.AdvancingOrder.{sound, to_below, from_below, to_same, from_same}
 use Rattle.tg_coalesce.proofs.AdvancingPossible.{moves_of}
 use Rattle.tg_coalesce.proofs.AdvancingPassing.{passes_told}

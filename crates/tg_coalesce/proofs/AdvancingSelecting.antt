@@ -12,15 +12,15 @@ use Rattle.tg_irc.specs.Graphs.{is_register}
 use Rattle.tg_irc.specs.States.{Problem, RoundState, members}
 use Rattle.tg_irc.specs.Selection.{Colouring, has_colour, sees, is_free, pop, select}
 use Rattle.tg_irc.specs.Selection as rounds
-use Rattle.tg_irc.specs.Laws.{IsOfClasses}
+use Rattle.tg_irc.specs.laws.Laws.{IsOfClasses}
 use Rattle.tg_irc.proofs.Deciding.{clash, both, and_true, or_left, or_right, tells, never, same_node, same_test, some_is}
 use Rattle.tg_irc.proofs.Classes.{pairs_are_of_classes}
 use Rattle.tg_graph.specs.Interference.{is_among, neighbours}
 use Rattle.tg_graph.proofs.Joining.{stays_below}
 use Rattle.tg_graph.proofs.Members.{among_within, among_above}
-use Rattle.tg_coalesce.specs.Works.{Work}
-use Rattle.tg_coalesce.specs.Selecting.{Picks, colour_at, own_colour, precoloured, is_taken, first_free, popped, selected}
-use Rattle.tg_coalesce.specs.Standing.{state_of, IsOrderly, IsRunOf}
+use Rattle.tg_coalesce.specs.glue.Works.{Work}
+use Rattle.tg_coalesce.specs.mirror.Selecting.{Picks, colour_at, own_colour, precoloured, is_taken, first_free, popped, selected}
+use Rattle.tg_coalesce.specs.glue.Standing.{state_of, IsOrderly, IsRunOf}
 use Rattle.tg_coalesce.proofs.AdvancingMembers.{same_tests, all_among, any_among, any_found}
 use Rattle.tg_coalesce.proofs.AdvancingChoosing.{among_filter, filter_among}
 use Rattle.tg_coalesce.proofs.AdvancingRuns.{holds}

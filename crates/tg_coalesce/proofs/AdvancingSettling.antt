@@ -9,15 +9,15 @@ use Rattle.tg_irc.specs.declared.moves.MoveState.TheVariants.{Ready}
 use Rattle.tg_irc.specs.Graphs.{bit}
 use Rattle.tg_irc.specs.States.{is_ready_or_waiting}
 use Rattle.tg_irc.specs.Steps.{can_move, settle}
-use Rattle.tg_irc.specs.Degrees.{degree_of}
+use Rattle.tg_irc.specs.laws.Degrees.{degree_of}
 use Rattle.tg_irc.proofs.Deciding.{clash, and_true, never, same_node, same_test}
 use Rattle.tg_graph.specs.Interference.{is_among, is_register, interferes}
 use Rattle.tg_graph.specs.Lists.{Lists, number}
-use Rattle.tg_coalesce.specs.Lists.{list_at, lowered}
-use Rattle.tg_coalesce.specs.Tables.{Table, IsTable, state_at, is_waiting, is_unsettled, is_related}
-use Rattle.tg_coalesce.specs.Tables as tables
-use Rattle.tg_coalesce.specs.Works.{Work, degree_at, relisted, settled, to, from}
-use Rattle.tg_coalesce.specs.Standing.{as_told, shown, state_of, IsOrderly, HasDegrees, IsPlaced, HasEnds}
+use Rattle.tg_coalesce.specs.glue.Lists.{list_at, lowered}
+use Rattle.tg_coalesce.specs.glue.Tables.{Table, IsTable, state_at, is_waiting, is_unsettled, is_related}
+use Rattle.tg_coalesce.specs.glue.Tables as tables
+use Rattle.tg_coalesce.specs.glue.Works.{Work, degree_at, relisted, settled, to, from}
+use Rattle.tg_coalesce.specs.glue.Standing.{as_told, shown, state_of, IsOrderly, HasDegrees, IsPlaced, HasEnds}
 use Rattle.tg_coalesce.proofs.AdvancingMembers.{one_bit, no_bit}
 use Rattle.tg_coalesce.proofs.AdvancingWaking.{waiting_is}
 use Rattle.tg_coalesce.proofs.AdvancingListing.{IsShifted, shifted_then, shifted_left, IsListed, by_tests}

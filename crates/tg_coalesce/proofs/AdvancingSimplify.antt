@@ -3,20 +3,20 @@ use Rattle.std.proofs.Common.{◌≡◌, ℕ, ◌<◌, true, false, not, List, l
 use Rattle.std.specs.Prelude.{◌==◌, nat_lt, IsFalse}
 use Rattle.tg_irc.specs.declared.moves.MoveState.{MoveState}
 use Rattle.tg_irc.specs.declared.steps.Step.TheVariants.{Simplify}
+use Rattle.tg_irc.specs.laws.Waiting.{is_woken}
 use Rattle.tg_irc.specs.States.{Problem}
 use Rattle.tg_irc.specs.Steps.{can, can_move, take_out}
-use Rattle.tg_irc.specs.Waiting.{is_woken}
 use Rattle.tg_irc.proofs.Deciding.{both, or_left, or_right, not_true, same_test}
 use Rattle.tg_irc.proofs.Waiting.{waiting_fails}
 use Rattle.tg_graph.specs.declared.worklists.Worklist.TheVariants as worklists
 use Rattle.tg_graph.specs.Interference.{is_among, neighbours}
 use Rattle.tg_graph.specs.Lists.{Lists, number}
 use Rattle.tg_graph.proofs.Joining.{either_way}
-use Rattle.tg_coalesce.specs.Lists.{list_at}
-use Rattle.tg_coalesce.specs.Tables.{state_at, is_waiting, is_related}
-use Rattle.tg_coalesce.specs.Works.{Work, degree_at, is_open, list_of, stepped, to, from}
-use Rattle.tg_coalesce.specs.Standing.{shown, state_of, IsOrderly, IsRunOf}
-use Rattle.tg_coalesce.specs.Advancing.{Advances, SimplifyAdvances}
+use Rattle.tg_coalesce.specs.glue.Lists.{list_at}
+use Rattle.tg_coalesce.specs.glue.Tables.{state_at, is_waiting, is_related}
+use Rattle.tg_coalesce.specs.glue.Works.{Work, degree_at, is_open, list_of, stepped, to, from}
+use Rattle.tg_coalesce.specs.glue.Standing.{shown, state_of, IsOrderly, IsRunOf}
+use Rattle.tg_coalesce.specs.glue.Advancing.{Advances, SimplifyAdvances}
 use Rattle.tg_coalesce.proofs.AdvancingMembers.{among_first}
 use Rattle.tg_coalesce.proofs.AdvancingLosing.{IsBereft}
 use Rattle.tg_coalesce.proofs.AdvancingOrder.{to_below, from_below, to_same, from_same, listed_ends}

@@ -9,20 +9,20 @@ use Rattle.tg_irc.specs.Graphs.{some}
 use Rattle.tg_irc.specs.Policies.{candidate_at}
 use Rattle.tg_irc.specs.States.{RoundState, low, is_ready_or_waiting}
 use Rattle.tg_irc.specs.Steps.{can, can_move, freeze, take_out}
-use Rattle.tg_irc.specs.Laws.{work_left}
-use Rattle.tg_irc.specs.Waiting.{is_woken}
+use Rattle.tg_irc.specs.laws.Laws.{work_left}
+use Rattle.tg_irc.specs.laws.Waiting.{is_woken}
 use Rattle.tg_irc.proofs.Deciding.{clash, or_left, or_right, or_false, never, same_test}
 use Rattle.tg_irc.proofs.Shrinking.{steps_shrink}
 use Rattle.tg_irc.proofs.Waiting.{waiting_fails}
 use Rattle.tg_graph.specs.Interference.{is_among, is_register, neighbours}
 use Rattle.tg_graph.specs.Lists.{Lists}
 use Rattle.tg_graph.proofs.Joining.{either_way}
-use Rattle.tg_coalesce.specs.Lists.{list_at}
-use Rattle.tg_coalesce.specs.Tables.{Table, state_at, is_waiting, is_unsettled, is_related}
-use Rattle.tg_coalesce.specs.Works.{Work, is_open, stepped, awake_around, to, from}
-use Rattle.tg_coalesce.specs.Steps.{given_up, taken_out, spilled, candidate, candidates}
-use Rattle.tg_coalesce.specs.Standing.{shown, state_of, IsOrderly}
-use Rattle.tg_coalesce.specs.Advancing.{Spills, SpillAdvances}
+use Rattle.tg_coalesce.specs.glue.Lists.{list_at}
+use Rattle.tg_coalesce.specs.glue.Tables.{Table, state_at, is_waiting, is_unsettled, is_related}
+use Rattle.tg_coalesce.specs.glue.Works.{Work, is_open, stepped, awake_around, to, from}
+use Rattle.tg_coalesce.specs.mirror.Steps.{given_up, taken_out, spilled, candidate, candidates}
+use Rattle.tg_coalesce.specs.glue.Standing.{shown, state_of, IsOrderly}
+use Rattle.tg_coalesce.specs.glue.Advancing.{Spills, SpillAdvances}
 use Rattle.tg_coalesce.proofs.AdvancingMembers.{count_found}
 use Rattle.tg_coalesce.proofs.AdvancingWaking.{IsWoken, requeued, woken_each, woken_classes, wakes_classes}
 use Rattle.tg_coalesce.proofs.AdvancingListing.{shifted_left}

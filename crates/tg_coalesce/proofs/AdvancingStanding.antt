@@ -7,12 +7,12 @@ use Rattle.tg_irc.specs.declared.steps.Step.{Step}
 use Rattle.tg_irc.specs.Graphs.{is_register}
 use Rattle.tg_irc.specs.States.{Problem, RoundState, start, facts_at, all_made}
 use Rattle.tg_irc.specs.Steps.{after, after_all, AreTaken, stands_under}
-use Rattle.tg_irc.specs.Laws.{StandsWell}
+use Rattle.tg_irc.specs.laws.Laws.{StandsWell}
 use Rattle.tg_irc.proofs.Deciding.{clash, and_true, or_left, or_right, from_false, tells}
 use Rattle.tg_irc.proofs.Standing.{stands_at_start, stands_after, stands_by_facts}
-use Rattle.tg_coalesce.specs.Groupings.{is_made}
-use Rattle.tg_coalesce.specs.Works.{Work, is_left}
-use Rattle.tg_coalesce.specs.Standing.{state_of, IsOrderly, IsRunOf}
+use Rattle.tg_coalesce.specs.glue.Groupings.{is_made}
+use Rattle.tg_coalesce.specs.glue.Works.{Work, is_left}
+use Rattle.tg_coalesce.specs.glue.Standing.{state_of, IsOrderly, IsRunOf}
 use Rattle.tg_coalesce.proofs.AdvancingRuns.{own_alias, own_class}
 
 stands_all : (g : Problem) (s : RoundState) (steps : List Step) → StandsWell g s → AreTaken g s steps →

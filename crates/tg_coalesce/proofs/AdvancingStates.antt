@@ -12,9 +12,9 @@ use Rattle.tg_irc.specs.States.{Problem, RoundState, is_ready_or_waiting}
 use Rattle.tg_irc.specs.States as states
 use Rattle.tg_irc.specs.Steps.{can_move}
 use Rattle.tg_irc.proofs.Deciding.{and_false, never, same_node, same_test}
-use Rattle.tg_coalesce.specs.Lists.{lowered}
-use Rattle.tg_coalesce.specs.Tables.{is_waiting}
-use Rattle.tg_coalesce.specs.Standing.{as_told}
+use Rattle.tg_coalesce.specs.glue.Lists.{lowered}
+use Rattle.tg_coalesce.specs.glue.Tables.{is_waiting}
+use Rattle.tg_coalesce.specs.glue.Standing.{as_told}
 use Rattle.tg_coalesce.proofs.AdvancingMembers.{count_cons, one_bit, no_bit}
 
 -- Counters that are lowered.

@@ -6,8 +6,8 @@ use Rattle.std.specs.Prelude.{IsFalse}
 use Rattle.tg_irc.specs.States.{Problem}
 use Rattle.tg_irc.specs.Steps.{can, can_move, kind, IsTaken}
 use Rattle.tg_irc.proofs.Taking.{first_are_taken}
-use Rattle.tg_coalesce.specs.Works.{Work, stepped}
-use Rattle.tg_coalesce.specs.Standing.{state_of, IsOrderly, IsRunOf}
+use Rattle.tg_coalesce.specs.glue.Works.{Work, stepped}
+use Rattle.tg_coalesce.specs.glue.Standing.{state_of, IsOrderly, IsRunOf}
 use Rattle.tg_coalesce.proofs.AdvancingKept.{kept_of, kept_restated, orderly_of}
 use Rattle.tg_coalesce.proofs.AdvancingPossible.{with_parts, at_problem, no_simplify, no_freeze, no_move}
 

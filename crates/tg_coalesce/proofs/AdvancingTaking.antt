@@ -9,8 +9,8 @@ use Rattle.tg_irc.specs.declared.moves.MoveState.{MoveState}
 use Rattle.tg_irc.specs.Graphs.{bit, some, without}
 use Rattle.tg_irc.specs.States.{low}
 use Rattle.tg_irc.specs.Steps.{take_out, can_move}
-use Rattle.tg_irc.specs.Laws.{is_stacked}
-use Rattle.tg_irc.specs.Degrees.{degree_of}
+use Rattle.tg_irc.specs.laws.Laws.{is_stacked}
+use Rattle.tg_irc.specs.laws.Degrees.{degree_of}
 use Rattle.tg_irc.proofs.Deciding.{clash, both, and_true, or_left, never, not_true, same_node, same_test, some_is}
 use Rattle.tg_irc.proofs.Degrees.{taken_out_is_less}
 use Rattle.tg_graph.specs.declared.worklists.Worklist.TheVariants as worklists
@@ -18,11 +18,11 @@ use Rattle.tg_graph.specs.Interference.{is_among, is_register, interferes, neigh
 use Rattle.tg_graph.specs.Lists.{Lists, moved}
 use Rattle.tg_graph.proofs.Joining.{either_way}
 use Rattle.tg_graph.proofs.Partitions.{moved_parts}
-use Rattle.tg_coalesce.specs.Lists.{list_at}
-use Rattle.tg_coalesce.specs.Tables.{Table, state_at, is_waiting, is_unsettled}
-use Rattle.tg_coalesce.specs.Works.{Work, degree_at, is_left, is_open}
-use Rattle.tg_coalesce.specs.Tables as tables
-use Rattle.tg_coalesce.specs.Standing.{shown, state_of, IsOrderly, HasDegrees, IsPlaced, HasEnds}
+use Rattle.tg_coalesce.specs.glue.Lists.{list_at}
+use Rattle.tg_coalesce.specs.glue.Tables.{Table, state_at, is_waiting, is_unsettled}
+use Rattle.tg_coalesce.specs.glue.Works.{Work, degree_at, is_left, is_open}
+use Rattle.tg_coalesce.specs.glue.Tables as tables
+use Rattle.tg_coalesce.specs.glue.Standing.{shown, state_of, IsOrderly, HasDegrees, IsPlaced, HasEnds}
 use Rattle.tg_coalesce.proofs.AdvancingMembers.{is_bit}
 use Rattle.tg_coalesce.proofs.AdvancingWaking.{IsQueue, requeued, woken_unsettled}
 use Rattle.tg_coalesce.proofs.AdvancingListing.{IsListed, moved_it, moved_other, shifted_left}

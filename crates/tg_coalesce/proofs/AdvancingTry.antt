@@ -12,14 +12,14 @@ use Rattle.tg_irc.specs.Steps.{can, after, is_safe, stands_under, IsTaken}
 use Rattle.tg_irc.proofs.Deciding.{clash, and_true, both, never, or_left, or_right, same_test}
 use Rattle.tg_graph.specs.Interference.{Interference, is_register, interferes}
 use Rattle.tg_graph.specs.Lists.{Lists}
-use Rattle.tg_coalesce.specs.Groupings.{is_made}
-use Rattle.tg_coalesce.specs.Works.{Work, degree_at, is_left, settled, stepped, to, from}
-use Rattle.tg_coalesce.specs.Passing.{passes}
-use Rattle.tg_coalesce.specs.Passing as passing
-use Rattle.tg_coalesce.specs.Steps.{merged, coalesced, tried}
-use Rattle.tg_coalesce.specs.Tables.{first_taken, parked}
-use Rattle.tg_coalesce.specs.Standing.{shown, state_of, IsOrderly, IsRunOf}
-use Rattle.tg_coalesce.specs.Advancing.{Advances, TryAdvances}
+use Rattle.tg_coalesce.specs.glue.Groupings.{is_made}
+use Rattle.tg_coalesce.specs.glue.Works.{Work, degree_at, is_left, settled, stepped, to, from}
+use Rattle.tg_coalesce.specs.mirror.Passing.{passes}
+use Rattle.tg_coalesce.specs.mirror.Passing as passing
+use Rattle.tg_coalesce.specs.mirror.Steps.{merged, coalesced, tried}
+use Rattle.tg_coalesce.specs.glue.Tables.{first_taken, parked}
+use Rattle.tg_coalesce.specs.glue.Standing.{shown, state_of, IsOrderly, IsRunOf}
+use Rattle.tg_coalesce.specs.glue.Advancing.{Advances, TryAdvances}
 use Rattle.tg_coalesce.proofs.AdvancingListing.{IsShifted, IsListed}
 use Rattle.tg_coalesce.proofs.AdvancingPossible.{with_parts, at_problem}
 use Rattle.tg_coalesce.proofs.AdvancingMeasure.{goes_less}

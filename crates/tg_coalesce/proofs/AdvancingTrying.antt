@@ -17,10 +17,10 @@ use Rattle.tg_irc.proofs.Deciding.{and_true, or_left, never, from_false, same_no
 use Rattle.tg_graph.specs.Interference.{Interference, is_among, interferes}
 use Rattle.tg_graph.specs.Lists.{Lists}
 use Rattle.tg_graph.proofs.Joining.{below, above, registers_joined}
-use Rattle.tg_coalesce.specs.Tables.{state_at, is_waiting, is_unsettled, first_taken}
-use Rattle.tg_coalesce.specs.Works.{Work, settled, stepped, to, from}
-use Rattle.tg_coalesce.specs.Standing.{shown, state_of, IsOrderly, IsRunOf}
-use Rattle.tg_coalesce.specs.Advancing.{Advances}
+use Rattle.tg_coalesce.specs.glue.Tables.{state_at, is_waiting, is_unsettled, first_taken}
+use Rattle.tg_coalesce.specs.glue.Works.{Work, settled, stepped, to, from}
+use Rattle.tg_coalesce.specs.glue.Standing.{shown, state_of, IsOrderly, IsRunOf}
+use Rattle.tg_coalesce.specs.glue.Advancing.{Advances}
 use Rattle.tg_coalesce.proofs.AdvancingMembers.{all_among, among_first, not_again, distinct_rest}
 use Rattle.tg_coalesce.proofs.AdvancingListing.{IsShifted, IsListed}
 use Rattle.tg_coalesce.proofs.AdvancingOrder.{to_same, from_same, unsettled_told}

@@ -12,9 +12,9 @@ use Rattle.tg_irc.specs.States.{is_ready_or_waiting}
 use Rattle.tg_irc.proofs.Deciding.{clash, either, or_left, never, same_node, same_test}
 use Rattle.tg_graph.specs.Interference.{is_among}
 use Rattle.tg_graph.proofs.Changes.{among_push, distinct_push}
-use Rattle.tg_coalesce.specs.Lists.{list_at}
-use Rattle.tg_coalesce.specs.Tables.{Table, IsTable, state_at, is_waiting, is_unsettled, tried_again, woken}
-use Rattle.tg_coalesce.specs.Standing.{as_told}
+use Rattle.tg_coalesce.specs.glue.Lists.{list_at}
+use Rattle.tg_coalesce.specs.glue.Tables.{Table, IsTable, state_at, is_waiting, is_unsettled, tried_again, woken}
+use Rattle.tg_coalesce.specs.glue.Standing.{as_told}
 
 -- the moves to be tried are the ready ones, each once
 pub record IsQueue (t : Table) : Type 0 where

@@ -10,8 +10,8 @@ use Rattle.tg_graph.specs.Interference.{colours}
 use Rattle.tg_graph.proofs.Runs.{range_more}
 use Rattle.tg_irc.specs.declared.candidates.Candidate.{Candidate}
 use Rattle.tg_irc.specs.Policies.{candidate_at}
-use Rattle.tg_coalesce.specs.Works.{Work, is_left}
-use Rattle.tg_coalesce.specs.Steps.{candidate, candidates}
+use Rattle.tg_coalesce.specs.glue.Works.{Work, is_left}
+use Rattle.tg_coalesce.specs.mirror.Steps.{candidate, candidates}
 
 within_range : (a n : ℕ) → All (λ x. (a ≤ x) × (x < a + n)) (range_with_len a n)
 within_range a n =

@@ -7,8 +7,8 @@ use Rattle.std.proofs.lemmas.List.{length-set, length-map, get_or-map, get_or_pa
 use Rattle.std.proofs.lemmas.List.FromFn.{length-range_with_len, get_or-range_with_len}
 use Rattle.std.proofs.lemmas.List.Elements.{All-nil, All-cons, All-set}
 use Rattle.tg_irc.specs.declared.candidates.NodeFacts.{NodeFacts}
-use Rattle.tg_coalesce.specs.Lists.{list_at, singletons, set_at_all}
-use Rattle.tg_coalesce.specs.Groupings.{Grouping, IsGrouping, apart, joined}
+use Rattle.tg_coalesce.specs.glue.Lists.{list_at, singletons, set_at_all}
+use Rattle.tg_coalesce.specs.glue.Groupings.{Grouping, IsGrouping, apart, joined}
 use Rattle.tg_coalesce.proofs.Listing.{each_poured, length_poured, length_moved_sum, length_set_at_all, sum_moved, range_below}
 
 -- the members of a class of one node

@@ -13,11 +13,11 @@ use Rattle.tg_graph.proofs.Joining.{either_way, stays_below}
 use Rattle.tg_graph.proofs.Members.{among_within}
 use Rattle.tg_irc.proofs.Counting.{count_out}
 use Rattle.tg_irc.proofs.Deciding.{and_true, both, clash, not_true}
-use Rattle.tg_coalesce.specs.Works.{Work, degree_at, is_left, is_open}
+use Rattle.tg_coalesce.specs.glue.Works.{Work, degree_at, is_left, is_open}
 use Rattle.tg_irc.specs.Policies.{Rule, candidate_at}
-use Rattle.tg_coalesce.specs.Advancing.{Advances, Progresses, Spills}
-use Rattle.tg_coalesce.specs.Steps.{candidate, candidates, simplified, tried, frozen, spilled}
-use Rattle.tg_coalesce.specs.Standing.{state_of, is_done, is_empty, IsOrderly}
+use Rattle.tg_coalesce.specs.glue.Advancing.{Advances, Progresses, Spills}
+use Rattle.tg_coalesce.specs.mirror.Steps.{candidate, candidates, simplified, tried, frozen, spilled}
+use Rattle.tg_coalesce.specs.glue.Standing.{state_of, is_done, is_empty, IsOrderly}
 use Rattle.tg_coalesce.proofs.AdvancingFreeze.{freeze_advances}
 use Rattle.tg_coalesce.proofs.AdvancingSimplify.{simplify_advances}
 use Rattle.tg_coalesce.proofs.AdvancingSpill.{spill_advances}

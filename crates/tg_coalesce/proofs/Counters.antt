@@ -5,9 +5,9 @@ use Rattle.std.proofs.lemmas.Bool.{and_from, and_parts, lt-ltb}
 use Rattle.tg_graph.specs.Interference.{IsGraph, colours, interferes, is_among, is_register, neighbours}
 use Rattle.tg_graph.proofs.Joining.{stays_below}
 use Rattle.tg_irc.proofs.Counting.{count_out}
-use Rattle.tg_coalesce.specs.Works.{Work, degree_at, is_left, is_open}
-use Rattle.tg_coalesce.specs.Steps.{CanLose}
-use Rattle.tg_coalesce.specs.Standing.{HasDegrees}
+use Rattle.tg_coalesce.specs.glue.Works.{Work, degree_at, is_left, is_open}
+use Rattle.tg_coalesce.specs.mirror.Steps.{CanLose}
+use Rattle.tg_coalesce.specs.glue.Standing.{HasDegrees}
 use Rattle.tg_coalesce.proofs.Edges.{interferes_either_way}
 
 all_true : (a b c : Bool) → a ≡ true → b ≡ true → c ≡ true → (a && (a && b) && c) ≡ true

@@ -5,9 +5,9 @@ use Rattle.std.proofs.lemmas.Bool.{and_from, cond-false, cond-true, cond_both, l
 use Rattle.std.proofs.lemmas.List.{get_or-set_other, get_or-set_same, get_or_past, get_or_read, length-set}
 use Rattle.std.proofs.Math.Bool.{or_comm}
 use Rattle.tg_graph.specs.Interference.{Interference, are_joined, colours, interferes, is_among, is_register, neighbours, with_edge, with_neighbour}
-use Rattle.tg_coalesce.specs.Lists.{raised}
-use Rattle.tg_coalesce.specs.Works.{Work, degree_at, is_left}
-use Rattle.tg_coalesce.specs.Steps.{bereft, passed_edge, passed_on}
+use Rattle.tg_coalesce.specs.glue.Lists.{raised}
+use Rattle.tg_coalesce.specs.glue.Works.{Work, degree_at, is_left}
+use Rattle.tg_coalesce.specs.mirror.Steps.{bereft, passed_edge, passed_on}
 use Rattle.tg_coalesce.proofs.Folds.{fold_keeps, fold_keeps_off}
 use Rattle.tg_coalesce.proofs.Keeping.{either}
 use Rattle.tg_coalesce.proofs.Stepping.{bereft_degree, bereft_graph, bereft_left, raised_other}

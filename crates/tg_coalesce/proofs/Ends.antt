@@ -9,13 +9,13 @@ use Rattle.tg_irc.specs.declared.moves.MoveState.{MoveState}
 use Rattle.tg_irc.specs.declared.moves.MoveState.TheVariants.{Frozen, Ready}
 use Rattle.tg_irc.specs.Graphs.{bit}
 use Rattle.tg_irc.specs.States.{is_ready_or_waiting}
-use Rattle.tg_coalesce.specs.Lists.{list_at, lowered}
-use Rattle.tg_coalesce.specs.Groupings.{IsGrouping}
-use Rattle.tg_coalesce.specs.Tables as tables
-use Rattle.tg_coalesce.specs.Tables.{IsTable, Table, is_related, is_unsettled, move_at, state_at}
-use Rattle.tg_coalesce.specs.Works.{Work, alias_of, from, is_left, settled, to}
-use Rattle.tg_coalesce.specs.Standing.{HasEnds, IsSized}
-use Rattle.tg_coalesce.specs.Steps.{freeze_one}
+use Rattle.tg_coalesce.specs.glue.Lists.{list_at, lowered}
+use Rattle.tg_coalesce.specs.glue.Groupings.{IsGrouping}
+use Rattle.tg_coalesce.specs.glue.Tables as tables
+use Rattle.tg_coalesce.specs.glue.Tables.{IsTable, Table, is_related, is_unsettled, move_at, state_at}
+use Rattle.tg_coalesce.specs.glue.Works.{Work, alias_of, from, is_left, settled, to}
+use Rattle.tg_coalesce.specs.glue.Standing.{HasEnds, IsSized}
+use Rattle.tg_coalesce.specs.mirror.Steps.{freeze_one}
 use Rattle.tg_coalesce.proofs.AdvancingMembers.{count_cons}
 use Rattle.tg_coalesce.proofs.Folds.{fold_keeps}
 use Rattle.tg_coalesce.proofs.Keeping.{either}

@@ -10,10 +10,10 @@ use Rattle.tg_irc.specs.declared.rounds.Round.{Round}
 use Rattle.tg_irc.specs.declared.steps.Step.{Step}
 use Rattle.tg_irc.specs.declared.steps.Step.TheVariants.{Simplify, Constrain, Coalesce}
 use Rattle.tg_graph.specs.Interference.{Interference, bare, with_edge}
-use Rattle.tg_coalesce.specs.Works.{Work, relisted, settled, started}
-use Rattle.tg_coalesce.specs.Steps.{bereft, taken_out, given_up, passed_edge, merged, tried, simplified}
-use Rattle.tg_coalesce.specs.Selecting.{selected}
-use Rattle.tg_coalesce.specs.Standing.{answer_of}
+use Rattle.tg_coalesce.specs.glue.Works.{Work, relisted, settled, started}
+use Rattle.tg_coalesce.specs.mirror.Steps.{bereft, taken_out, given_up, passed_edge, merged, tried, simplified}
+use Rattle.tg_coalesce.specs.mirror.Selecting.{selected}
+use Rattle.tg_coalesce.specs.glue.Standing.{answer_of}
 
 -- a graph with these pairs of temporaries and of temporaries with registers
 abbrev graph : ℕ → List (ℕ × ℕ) → Interference

@@ -4,7 +4,7 @@ use Rattle.std.specs.List.{range_with_len}
 use Rattle.std.proofs.lemmas.List.{append_assoc, length-append, length-replicate, get_or_append_left, get_or-append_right, get_or-replicate}
 use Rattle.std.proofs.lemmas.List.FromFn.{map-range_with_len_more, length-map-range_with_len, get_or-map-range_with_len}
 use Rattle.tg_graph.specs.Interference.{Interference, colours, degree}
-use Rattle.tg_coalesce.specs.Works.{first_degrees}
+use Rattle.tg_coalesce.specs.glue.Works.{first_degrees}
 
 -- those of the nodes below one more
 pub degrees_more : (g : Interference) (n d : ℕ) (list : List ℕ) → colours ≤ n →

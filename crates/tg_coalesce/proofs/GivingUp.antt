@@ -2,10 +2,10 @@
 use Rattle.std.proofs.Common.{◌≡◌, ℕ, ◌<◌, List, length, take, sym, ap, ◌∙◌, subst, arith}
 use Rattle.std.specs.Prelude.{fold}
 use Rattle.std.proofs.lemmas.List.Elements.{All-take}
-use Rattle.tg_coalesce.specs.Lists.{list_at}
-use Rattle.tg_coalesce.specs.Works.{Work}
-use Rattle.tg_coalesce.specs.Steps.{freeze_one}
-use Rattle.tg_coalesce.specs.Standing.{IsOrderly}
+use Rattle.tg_coalesce.specs.glue.Lists.{list_at}
+use Rattle.tg_coalesce.specs.glue.Works.{Work}
+use Rattle.tg_coalesce.specs.mirror.Steps.{freeze_one}
+use Rattle.tg_coalesce.specs.glue.Standing.{IsOrderly}
 use Rattle.tg_coalesce.proofs.Ends.{CanSettle, can_freeze_all, can_settle, frozen_touching}
 
 module _ (x : ℕ) (w : Work) where

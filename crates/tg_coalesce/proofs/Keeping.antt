@@ -2,7 +2,7 @@
 use Rattle.std.proofs.Common.{◌≡◌, ℕ, Bool, true, false, refl}
 use Rattle.std.specs.Prelude.{if◌then◌else◌}
 use Rattle.tg_graph.specs.Lists.{moved}
-use Rattle.tg_coalesce.specs.Works.{Work, is_open, list_of, relisted}
+use Rattle.tg_coalesce.specs.glue.Works.{Work, is_open, list_of, relisted}
 
 -- a choice of two values has what both have
 pub either : {A B : Type 0} (f : A → B) (b : Bool) (x y : A) (v : B) → f x ≡ v → f y ≡ v → f (if b then x else y) ≡ v

@@ -7,7 +7,7 @@ use Rattle.tg_graph.specs.declared.worklists.Worklist.TheVariants.{Simplify, Fre
 use Rattle.tg_graph.specs.Interference.{is_among}
 use Rattle.tg_graph.specs.Lists.{Lists, moved, number}
 use Rattle.tg_graph.proofs.Partitions.{moved_tells}
-use Rattle.tg_coalesce.specs.Works.{Work, holds_remaining, is_left, is_open, list_of, relisted}
+use Rattle.tg_coalesce.specs.glue.Works.{Work, holds_remaining, is_left, is_open, list_of, relisted}
 use Rattle.tg_coalesce.proofs.Places.{remaining_by}
 
 left_moved : (l : Lists) (x z : ℕ) (list : Worklist) →

@@ -6,7 +6,7 @@ use Rattle.std.proofs.lemmas.Bool.{cases_eq, cases_lt}
 use Rattle.std.proofs.lemmas.List.{length-set, get_or-set_same, get_or-set_other, set_past, get_or_default}
 use Rattle.std.proofs.lemmas.List.Elements.{All-append, All-nil, All-push, All-cons}
 use Rattle.std.proofs.lemmas.List.Sums.{sum_by-set, get_or-le-sum_by}
-use Rattle.tg_coalesce.specs.Lists.{list_at, pushed, poured, moved_sum, raised, lowered, set_at_all}
+use Rattle.tg_coalesce.specs.glue.Lists.{list_at, pushed, poured, moved_sum, raised, lowered, set_at_all}
 
 -- what holds of each list holds of each after one was replaced by another of which it holds
 pub each_set : (P : List ℕ → Type 0) (lists : List (List ℕ)) (at : ℕ) (new : List ℕ) → P new →

@@ -5,7 +5,7 @@ use Rattle.tg_graph.specs.declared.worklists.Worklist.{Worklist}
 use Rattle.tg_graph.specs.declared.worklists.Worklist.TheVariants.{Fixed, Simplify, Freeze, Spill, Stacked, Merged}
 use Rattle.tg_graph.specs.Interference.{is_among}
 use Rattle.tg_graph.specs.Lists.{Lists, nodes_in, number}
-use Rattle.tg_coalesce.specs.Works.{is_left, is_high, holds_remaining, holds_high}
+use Rattle.tg_coalesce.specs.glue.Works.{is_left, is_high, holds_remaining, holds_high}
 
 pub remaining_by : (p : Worklist) → not ((4 == number p) || (5 == number p)) ≡ holds_remaining p
 remaining_by Fixed = refl

@@ -9,7 +9,7 @@ use Rattle.std.proofs.lemmas.List.Elements.{All-map}
 use Rattle.std.proofs.lemmas.List.Folds.{list_any_more}
 use Rattle.tg_graph.specs.Interference.{colours}
 use Rattle.tg_irc.specs.Selection.{has_colour}
-use Rattle.tg_coalesce.specs.Selecting.{AreColours, colour_at, own_colour, precoloured}
+use Rattle.tg_coalesce.specs.mirror.Selecting.{AreColours, colour_at, own_colour, precoloured}
 
 -- the first number of a range that passes
 pub found_in : (p : ℕ → Bool) (a n x : ℕ) → a ≤ x → x < a + n → ((c : ℕ) → a ≤ c → c < x → p c ≡ false) → p x ≡ true →

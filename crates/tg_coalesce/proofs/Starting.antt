@@ -23,11 +23,11 @@ use Rattle.tg_irc.specs.Graphs.{bit, count}
 use Rattle.tg_irc.specs.States.{is_ready_or_waiting}
 use Rattle.tg_irc.proofs.Counting.{count_le}
 use Rattle.tg_irc.proofs.Deciding.{and_true, both, clash, not_true}
-use Rattle.tg_coalesce.specs.Advancing.{IsGiven}
-use Rattle.tg_coalesce.specs.Lists.{list_at}
-use Rattle.tg_coalesce.specs.Tables.{move_at, state_at, is_waiting, is_unsettled}
-use Rattle.tg_coalesce.specs.Works.{Work, alias_of, is_left, relisted, started, to, unlisted}
-use Rattle.tg_coalesce.specs.Standing.{IsSized, HasDegrees, IsPlaced, HasMembers, HasEnds, HasReady, IsOrderly}
+use Rattle.tg_coalesce.specs.glue.Advancing.{IsGiven}
+use Rattle.tg_coalesce.specs.glue.Lists.{list_at}
+use Rattle.tg_coalesce.specs.glue.Tables.{move_at, state_at, is_waiting, is_unsettled}
+use Rattle.tg_coalesce.specs.glue.Works.{Work, alias_of, is_left, relisted, started, to, unlisted}
+use Rattle.tg_coalesce.specs.glue.Standing.{IsSized, HasDegrees, IsPlaced, HasMembers, HasEnds, HasReady, IsOrderly}
 use Rattle.tg_coalesce.proofs.AdvancingListing.{IsShifted, IsListed, shifted_none, shifted_then, shifted_left, relisted_shifts, relisted_same}
 use Rattle.tg_coalesce.proofs.AdvancingListing.{lists_it, lists_other}
 use Rattle.tg_coalesce.proofs.AdvancingMembers.{count_of_list}

@@ -8,8 +8,8 @@ use Rattle.std.proofs.lemmas.List.Elements.{All-head, All-tail}
 use Rattle.std.proofs.lemmas.List.Sums.{sum_by_push}
 use Rattle.tg_irc.specs.declared.moves.Move.{Move}
 use Rattle.tg_irc.specs.Graphs.{bit}
-use Rattle.tg_coalesce.specs.Lists.{list_at, pushed, raised}
-use Rattle.tg_coalesce.specs.Tables.{move_at, ends_listed, ends_counted}
+use Rattle.tg_coalesce.specs.glue.Lists.{list_at, pushed, raised}
+use Rattle.tg_coalesce.specs.glue.Tables.{move_at, ends_listed, ends_counted}
 use Rattle.tg_coalesce.proofs.AdvancingMembers.{count_cons, one_bit}
 use Rattle.tg_coalesce.proofs.Listing.{length_pushed}
 use Rattle.tg_coalesce.proofs.Tabling.{listed_more, counted_more, length_listed, length_counted, end_of}

@@ -17,10 +17,10 @@ use Rattle.tg_irc.specs.Graphs.{every}
 use Rattle.tg_irc.specs.Policies.{Rule}
 use Rattle.tg_irc.specs.States.{Problem, problem, start, members, facts_at, all_made}
 use Rattle.tg_irc.proofs.Deciding.{clash, either, every_is, not_true, or_left, or_right, from_false, same_test}
-use Rattle.tg_coalesce.specs.Advancing.{IsGiven}
-use Rattle.tg_coalesce.specs.Groupings.{is_made}
-use Rattle.tg_coalesce.specs.Works.{Work, is_left, started}
-use Rattle.tg_coalesce.specs.Standing.{as_told, graph_of, state_of, IsRunOf}
+use Rattle.tg_coalesce.specs.glue.Advancing.{IsGiven}
+use Rattle.tg_coalesce.specs.glue.Groupings.{is_made}
+use Rattle.tg_coalesce.specs.glue.Works.{Work, is_left, started}
+use Rattle.tg_coalesce.specs.glue.Standing.{as_told, graph_of, state_of, IsRunOf}
 use Rattle.tg_coalesce.proofs.AdvancingListing.{IsShifted, shifted_left}
 use Rattle.tg_coalesce.proofs.Starting.{with_lists, first_lists, begun, place_in}
 

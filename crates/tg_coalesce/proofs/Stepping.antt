@@ -6,10 +6,10 @@ use Rattle.std.proofs.lemmas.List.{get_or-set_other, get_or_read, length-set}
 use Rattle.tg_graph.specs.Interference.{Interference, is_among}
 use Rattle.tg_irc.specs.declared.moves.MoveState.{MoveState}
 use Rattle.tg_irc.specs.declared.moves.MoveState.TheVariants.{Frozen}
-use Rattle.tg_coalesce.specs.Lists.{list_at, lowered, raised}
-use Rattle.tg_coalesce.specs.Tables as tables
-use Rattle.tg_coalesce.specs.Works.{Work, awake_around, degree_at, from, is_left, is_open, relisted, settled, to}
-use Rattle.tg_coalesce.specs.Steps.{bereft, freeze_one, given_up}
+use Rattle.tg_coalesce.specs.glue.Lists.{list_at, lowered, raised}
+use Rattle.tg_coalesce.specs.glue.Tables as tables
+use Rattle.tg_coalesce.specs.glue.Works.{Work, awake_around, degree_at, from, is_left, is_open, relisted, settled, to}
+use Rattle.tg_coalesce.specs.mirror.Steps.{bereft, freeze_one, given_up}
 use Rattle.tg_coalesce.proofs.Folds.{fold_keeps, fold_keeps_off}
 use Rattle.tg_coalesce.proofs.Keeping.{either, relisted_classes, relisted_degrees, relisted_graph, relisted_moves}
 use Rattle.tg_coalesce.proofs.Left.{relisted_left}

@@ -12,9 +12,9 @@ use Rattle.tg_irc.specs.declared.moves.Move.{Move}
 use Rattle.tg_irc.specs.declared.moves.MoveState.{MoveState}
 use Rattle.tg_irc.specs.declared.moves.MoveState.TheVariants.{Ready}
 use Rattle.tg_graph.proofs.Runs.{range_next}
-use Rattle.tg_coalesce.specs.Lists.{list_at, pushed, poured, moved_sum, raised, lowered}
-use Rattle.tg_coalesce.specs.Tables.{Table, IsTable, move_at, state_at, is_waiting, ends_listed, ends_counted, started, first_taken, settled}
-use Rattle.tg_coalesce.specs.Tables.{tried_again, woken, joined}
+use Rattle.tg_coalesce.specs.glue.Lists.{list_at, pushed, poured, moved_sum, raised, lowered}
+use Rattle.tg_coalesce.specs.glue.Tables.{Table, IsTable, move_at, state_at, is_waiting, ends_listed, ends_counted, started, first_taken, settled}
+use Rattle.tg_coalesce.specs.glue.Tables.{tried_again, woken, joined}
 use Rattle.tg_coalesce.proofs.Keeping.{either}
 use Rattle.tg_coalesce.proofs.Listing.{each_pushed, each_poured, length_pushed, length_poured, length_moved_sum, sum_moved, sum_lowered, sum_raised}
 use Rattle.tg_coalesce.proofs.Listing.{range_below, read_within, raised_read}

@@ -6,8 +6,8 @@ use Rattle.std.proofs.lemmas.Bool.{and_from, and_parts}
 use Rattle.tg_graph.specs.declared.worklists.Worklist.TheVariants.{Stacked}
 use Rattle.tg_graph.specs.Interference.{is_among, is_register, neighbours}
 use Rattle.tg_graph.specs.Lists.{moved}
-use Rattle.tg_coalesce.specs.Works.{Work, degree_at, is_left, is_open}
-use Rattle.tg_coalesce.specs.Steps.{CanLose, bereft}
+use Rattle.tg_coalesce.specs.glue.Works.{Work, degree_at, is_left, is_open}
+use Rattle.tg_coalesce.specs.mirror.Steps.{CanLose, bereft}
 use Rattle.tg_coalesce.proofs.AdvancingMembers.{among_at}
 use Rattle.tg_coalesce.proofs.Folds.{none_before}
 use Rattle.tg_coalesce.proofs.Left.{left_then}

@@ -7,13 +7,13 @@ use Rattle.tg_graph.specs.Interference.{Interference, colours, interferes, is_re
 use Rattle.tg_irc.specs.declared.moves.MoveState.TheVariants.{Coalesced, Constrained}
 use Rattle.tg_irc.specs.declared.steps.Step.{Step}
 use Rattle.tg_irc.specs.declared.steps.Step.TheVariants.{Same, Constrain}
-use Rattle.tg_coalesce.specs.Lists.{lowered}
-use Rattle.tg_coalesce.specs.Tables as tables
-use Rattle.tg_coalesce.specs.Tables.{Table, is_unsettled, is_waiting, state_at}
-use Rattle.tg_coalesce.specs.Works.{Work, degree_at, from, is_left, settled, stepped, to}
-use Rattle.tg_coalesce.specs.Passing.{passes, stands_under}
-use Rattle.tg_coalesce.specs.Steps.{CanLose, coalesced, tried, tried_out}
-use Rattle.tg_coalesce.specs.Standing.{IsOrderly}
+use Rattle.tg_coalesce.specs.glue.Lists.{lowered}
+use Rattle.tg_coalesce.specs.glue.Tables as tables
+use Rattle.tg_coalesce.specs.glue.Tables.{Table, is_unsettled, is_waiting, state_at}
+use Rattle.tg_coalesce.specs.glue.Works.{Work, degree_at, from, is_left, settled, stepped, to}
+use Rattle.tg_coalesce.specs.mirror.Passing.{passes, stands_under}
+use Rattle.tg_coalesce.specs.mirror.Steps.{CanLose, coalesced, tried, tried_out}
+use Rattle.tg_coalesce.specs.glue.Standing.{IsOrderly}
 use Rattle.tg_irc.proofs.Deciding.{clash}
 use Rattle.tg_coalesce.proofs.AdvancingMembers.{among_first}
 use Rattle.tg_coalesce.proofs.Counters.{has_neighbour, loses_alike}

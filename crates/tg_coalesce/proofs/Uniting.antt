@@ -7,11 +7,11 @@ use Rattle.tg_graph.specs.declared.worklists.Worklist.TheVariants.{Merged}
 use Rattle.tg_graph.specs.Interference.{IsGraph, colours, interferes, is_among, is_register, most_nodes, neighbours}
 use Rattle.tg_graph.specs.Lists.{moved}
 use Rattle.tg_graph.proofs.Joining.{few_neighbours}
-use Rattle.tg_coalesce.specs.Groupings as groupings
-use Rattle.tg_coalesce.specs.Tables as tables
-use Rattle.tg_coalesce.specs.Tables.{Table, woken}
-use Rattle.tg_coalesce.specs.Works.{Work, awake, degree_at, is_left, is_open}
-use Rattle.tg_coalesce.specs.Steps.{CanLose, passed_on}
+use Rattle.tg_coalesce.specs.glue.Groupings as groupings
+use Rattle.tg_coalesce.specs.glue.Tables as tables
+use Rattle.tg_coalesce.specs.glue.Tables.{Table, woken}
+use Rattle.tg_coalesce.specs.glue.Works.{Work, awake, degree_at, is_left, is_open}
+use Rattle.tg_coalesce.specs.mirror.Steps.{CanLose, passed_on}
 use Rattle.tg_coalesce.proofs.AdvancingMembers.{among_at}
 use Rattle.tg_coalesce.proofs.Folds.{among_take, none_before}
 use Rattle.tg_coalesce.proofs.Left.{left_then}

@@ -7,7 +7,7 @@ use Rattle.std.specs.Prelude.{fold}
 use Rattle.std.proofs.lemmas.List.FromFn.{map-range_with_len_more}
 use Rattle.smallvec.specs.SmallVec.{SmallVec}
 use Rattle.tg_graph.proofs.Runs.{range_next}
-use Rattle.tg_coalesce.specs.Lists.{numbers_in, singletons}
+use Rattle.tg_coalesce.specs.glue.Lists.{numbers_in, singletons}
 
 abbrev pub items_of : SmallVec ℕ → List ℕ
 items_of v = v.items

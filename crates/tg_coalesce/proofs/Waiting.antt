@@ -7,8 +7,8 @@ use Rattle.std.proofs.lemmas.List.Sums.{sum_by-set, sum_by-cons, count_by-le-len
 use Rattle.tg_irc.specs.declared.moves.MoveState.{MoveState}
 use Rattle.tg_irc.specs.declared.moves.MoveState.TheVariants.{Ready}
 use Rattle.tg_irc.proofs.Deciding.{clash}
-use Rattle.tg_coalesce.specs.Lists.{list_at}
-use Rattle.tg_coalesce.specs.Tables.{Table, state_at, is_waiting, some_waits, tried_again, woken}
+use Rattle.tg_coalesce.specs.glue.Lists.{list_at}
+use Rattle.tg_coalesce.specs.glue.Tables.{Table, state_at, is_waiting, some_waits, tried_again, woken}
 
 -- one state changed
 pub one_changed : (states : List MoveState) (i : ℕ) (old new : MoveState) → i < length states → old ≡ get_or states i old →

@@ -1,12 +1,2 @@
-pub mod Lists
-pub mod Groupings
-pub mod Tables
-pub mod Works
-pub mod Passing
-pub mod Steps
-pub mod Selecting
-pub mod Standing
-pub mod Advancing
-pub mod ShownClasses
-pub mod ShownMoves
-pub mod ShownWork
+pub mod glue
+pub mod mirror

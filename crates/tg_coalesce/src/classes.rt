@@ -11,8 +11,8 @@ ghost use Rattle.std.specs.Prelude.{
   slice_index,
   sum,
 };
-ghost use Rattle.tg_coalesce.specs.Groupings.{apart, is_made, joined};
-ghost use Rattle.tg_coalesce.specs.Lists.{set_at_all};
+ghost use Rattle.tg_coalesce.specs.glue.Groupings.{apart, is_made, joined};
+ghost use Rattle.tg_coalesce.specs.glue.Lists.{set_at_all};
 
 use crate::lists::{Numbers, conjoin, move_sum, pour, singletons};
 use std::alloc::Global;
@@ -33,11 +33,11 @@ pub(crate) struct Classes {
 }
 
 impl Model for Classes {
-    ghost use Rattle.tg_coalesce.specs.Groupings.{Grouping, IsGrouping};
+    ghost use Rattle.tg_coalesce.specs.glue.Groupings.{Grouping, IsGrouping};
 
     ghost Value = { Grouping };
 
-    ghost use Rattle.tg_coalesce.specs.ShownClasses.{grouping_of};
+    ghost use Rattle.tg_coalesce.specs.glue.ShownClasses.{grouping_of};
 
     ghost view = { grouping_of };
 

@@ -15,8 +15,8 @@ ghost use Rattle.std.specs.Prelude.{
 ghost use Rattle.tg_graph.specs.Interference.{colours};
 ghost use Rattle.tg_irc.specs.Rounds.{IsRound};
 ghost use Rattle.tg_irc.specs.States.{Problem, problem};
-ghost use Rattle.tg_coalesce.specs.Advancing.{Progresses};
-ghost use Rattle.tg_coalesce.specs.Standing.{
+ghost use Rattle.tg_coalesce.specs.glue.Advancing.{Progresses};
+ghost use Rattle.tg_coalesce.specs.glue.Standing.{
   answer_of,
   graph_of,
   is_done,

@@ -1,6 +1,6 @@
 ghost use Rattle.std.specs.Prelude.{◌≡◌, ◌<◌, OnOk};
-ghost use Rattle.tg_coalesce.specs.Standing.{IsOrderly};
-ghost use Rattle.tg_coalesce.specs.Steps.{frozen, given_up};
+ghost use Rattle.tg_coalesce.specs.glue.Standing.{IsOrderly};
+ghost use Rattle.tg_coalesce.specs.mirror.Steps.{frozen, given_up};
 
 use crate::states::Coalescer;
 use tg_base::Memory;

@@ -16,8 +16,8 @@ ghost use Rattle.std.specs.Prelude.{
   slice_set,
   sum,
 };
-ghost use Rattle.tg_coalesce.specs.Lists as lists_by;
-ghost use Rattle.tg_coalesce.specs.Lists.{conjoined, list_at, numbers_in, poured, pushed};
+ghost use Rattle.tg_coalesce.specs.glue.Lists as lists_by;
+ghost use Rattle.tg_coalesce.specs.glue.Lists.{conjoined, list_at, numbers_in, poured, pushed};
 
 use smallvec::SmallVec;
 use std::alloc::Global;

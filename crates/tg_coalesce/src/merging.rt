@@ -14,10 +14,10 @@ ghost use Rattle.std.specs.Prelude.{
   slice_index,
 };
 ghost use Rattle.tg_graph.specs.Interference.{colours, interferes};
-ghost use Rattle.tg_coalesce.specs.Lists.{lowered};
-ghost use Rattle.tg_coalesce.specs.Standing.{IsOrderly};
-ghost use Rattle.tg_coalesce.specs.Steps.{CanLose, coalesced, merged, passed_edge, tried};
-ghost use Rattle.tg_coalesce.specs.Works.{degree_at, from, is_open, to};
+ghost use Rattle.tg_coalesce.specs.glue.Lists.{lowered};
+ghost use Rattle.tg_coalesce.specs.glue.Standing.{IsOrderly};
+ghost use Rattle.tg_coalesce.specs.glue.Works.{degree_at, from, is_open, to};
+ghost use Rattle.tg_coalesce.specs.mirror.Steps.{CanLose, coalesced, merged, passed_edge, tried};
 
 use crate::states::{Coalescer, is_register};
 use tg_base::Memory;

@@ -11,8 +11,8 @@ ghost use Rattle.std.specs.Prelude.{
   if◌then◌else◌,
 };
 ghost use Rattle.tg_irc.specs.declared.moves.MoveState.TheVariants.{Ready};
-ghost use Rattle.tg_coalesce.specs.Tables as tables;
-ghost use Rattle.tg_coalesce.specs.Tables.{is_waiting};
+ghost use Rattle.tg_coalesce.specs.glue.Tables as tables;
+ghost use Rattle.tg_coalesce.specs.glue.Tables.{is_waiting};
 
 use std::alloc::Global;
 use std::marker::Model;
@@ -30,7 +30,7 @@ pub(crate) struct MoveStates {
 impl Model for MoveStates {
     ghost use Rattle.std.specs.Prelude.{◌≡◌, List, count_by};
     ghost use Rattle.tg_irc.specs.declared.moves.MoveState.{MoveState};
-    ghost use Rattle.tg_coalesce.specs.Tables.{is_waiting};
+    ghost use Rattle.tg_coalesce.specs.glue.Tables.{is_waiting};
 
     ghost Value = { List MoveState };
 

@@ -1,7 +1,7 @@
 ghost use Rattle.std.specs.Prelude.{◌≡◌, ◌<◌, ◌≤◌, IsTrue, OnOk};
 ghost use Rattle.tg_graph.specs.Interference.{colours};
-ghost use Rattle.tg_coalesce.specs.Steps.{CanLose, bereft, simplified, taken_out};
-ghost use Rattle.tg_coalesce.specs.Works.{degree_at, is_open};
+ghost use Rattle.tg_coalesce.specs.glue.Works.{degree_at, is_open};
+ghost use Rattle.tg_coalesce.specs.mirror.Steps.{CanLose, bereft, simplified, taken_out};
 
 use crate::states::Coalescer;
 use tg_base::Memory;

@@ -1,6 +1,6 @@
 ghost use Rattle.std.specs.Prelude.{◌≡◌, ◌<◌, ◌≤◌, ◌⊎◌, min};
 ghost use Rattle.tg_graph.specs.Interference.{colours};
-ghost use Rattle.tg_coalesce.specs.Passing.{
+ghost use Rattle.tg_coalesce.specs.mirror.Passing.{
   high_apart,
   high_around,
   passes,

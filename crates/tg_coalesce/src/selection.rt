@@ -12,7 +12,7 @@ ghost use Rattle.std.specs.Prelude.{
   slice_index_or,
 };
 ghost use Rattle.tg_graph.specs.Interference.{colours};
-ghost use Rattle.tg_coalesce.specs.Selecting.{
+ghost use Rattle.tg_coalesce.specs.mirror.Selecting.{
   AreColours,
   colour_at,
   first_free,
@@ -20,7 +20,7 @@ ghost use Rattle.tg_coalesce.specs.Selecting.{
   popped,
   selected,
 };
-ghost use Rattle.tg_coalesce.specs.Selecting as selecting;
+ghost use Rattle.tg_coalesce.specs.mirror.Selecting as selecting;
 
 use std::alloc::Global;
 use std::marker::Model;
@@ -36,7 +36,7 @@ pub(crate) struct Selection {
 }
 
 impl Model for Selection {
-    ghost use Rattle.tg_coalesce.specs.Selecting.{Picks, AreColours};
+    ghost use Rattle.tg_coalesce.specs.mirror.Selecting.{Picks, AreColours};
 
     ghost Value = { Picks };
 

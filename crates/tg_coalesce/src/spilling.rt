@@ -11,9 +11,9 @@ ghost use Rattle.std.specs.Prelude.{
 };
 ghost use Rattle.tg_graph.specs.Interference.{colours};
 ghost use Rattle.tg_irc.specs.Policies.{candidate_at};
-ghost use Rattle.tg_coalesce.specs.Standing.{IsOrderly};
-ghost use Rattle.tg_coalesce.specs.Steps as steps;
-ghost use Rattle.tg_coalesce.specs.Steps.{spilled};
+ghost use Rattle.tg_coalesce.specs.glue.Standing.{IsOrderly};
+ghost use Rattle.tg_coalesce.specs.mirror.Steps as steps;
+ghost use Rattle.tg_coalesce.specs.mirror.Steps.{spilled};
 
 use crate::states::Coalescer;
 use std::alloc::Global;

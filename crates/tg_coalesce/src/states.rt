@@ -13,9 +13,9 @@ ghost use Rattle.std.specs.Prelude.{
 };
 ghost use Rattle.tg_graph.specs.Interference.{colours, IsGraph, most_nodes};
 ghost use Rattle.tg_graph.specs.Interference as graphs;
-ghost use Rattle.tg_coalesce.specs.Lists.{lowered};
-ghost use Rattle.tg_coalesce.specs.Works as works;
-ghost use Rattle.tg_coalesce.specs.Works.{
+ghost use Rattle.tg_coalesce.specs.glue.Lists.{lowered};
+ghost use Rattle.tg_coalesce.specs.glue.Works as works;
+ghost use Rattle.tg_coalesce.specs.glue.Works.{
   awake_around,
   from,
   is_high,
@@ -52,12 +52,12 @@ pub(crate) struct Coalescer {
 }
 
 impl Model for Coalescer {
-    ghost use Rattle.tg_coalesce.specs.Works.{Work};
-    ghost use Rattle.tg_coalesce.specs.Standing.{IsSized};
+    ghost use Rattle.tg_coalesce.specs.glue.Works.{Work};
+    ghost use Rattle.tg_coalesce.specs.glue.Standing.{IsSized};
 
     ghost Value = { Work };
 
-    ghost use Rattle.tg_coalesce.specs.ShownWork.{work_of};
+    ghost use Rattle.tg_coalesce.specs.glue.ShownWork.{work_of};
 
     ghost view = { work_of };
 

@@ -16,9 +16,9 @@ ghost use Rattle.std.specs.Prelude.{
   sum,
 };
 ghost use Rattle.tg_irc.specs.States as states;
-ghost use Rattle.tg_coalesce.specs.Lists.{list_at, lowered, moved_sum, numbers_in};
-ghost use Rattle.tg_coalesce.specs.Tables as tables;
-ghost use Rattle.tg_coalesce.specs.Tables.{
+ghost use Rattle.tg_coalesce.specs.glue.Lists.{list_at, lowered, moved_sum, numbers_in};
+ghost use Rattle.tg_coalesce.specs.glue.Tables as tables;
+ghost use Rattle.tg_coalesce.specs.glue.Tables.{
   ends_counted,
   ends_listed,
   first_taken,
@@ -53,11 +53,11 @@ pub(crate) struct MoveTable {
 }
 
 impl Model for MoveTable {
-    ghost use Rattle.tg_coalesce.specs.Tables.{Table, IsTable};
+    ghost use Rattle.tg_coalesce.specs.glue.Tables.{Table, IsTable};
 
     ghost Value = { Table };
 
-    ghost use Rattle.tg_coalesce.specs.ShownMoves.{table_of};
+    ghost use Rattle.tg_coalesce.specs.glue.ShownMoves.{table_of};
 
     ghost view = { table_of };
 

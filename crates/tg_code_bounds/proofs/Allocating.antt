@@ -4,15 +4,15 @@ use Rattle.tg_tree.specs.Tree.{Tx, Call, Txs, no_txs, tx, Ts, Move, Do, Linear, 
 use Rattle.tg_tree.specs.Units.{Canonical}
 use Rattle.tg_tree.specs.Sizes.{arguments_length, expression_length, statement_length, element_length, code_length, flat_length, flat_needs}
 use Rattle.tg_flatten_proof.specs.Flattened.{flattened}
-use Rattle.tg_flatten_proof.specs.Laws as carried
+use Rattle.tg_flatten_proof.specs.laws.Laws as carried
 use Rattle.tg_instr.specs.declared.operands.Opnd.{Opnd}
 use Rattle.tg_instr.specs.declared.instr.Instr.{Instr}
 use Rattle.tg_instr.specs.declared.instr.Instr.TheVariants as instr
-use Rattle.tg_munch.specs.Bodies.{count, out_of, out_of_statement, out_of_element, outs, munched}
-use Rattle.tg_munch.specs.Lengths.{InstructionsAreFew, CountsWords, WordsAreFew}
+use Rattle.tg_munch.specs.laws.Lengths.{InstructionsAreFew, CountsWords, WordsAreFew}
+use Rattle.tg_munch.specs.mirror.Bodies.{count, out_of, out_of_statement, out_of_element, outs, munched}
 use Rattle.tg_instr.specs.Lengths.{most_words}
-use Rattle.tg_regalloc.specs.Growth.{AllocationsAreShort, AllocationsGrowLittle}
-use Rattle.tg_code_bounds.specs.Laws.{LinesAreShort, CodeIsShort, FramesAreSmall, FunctionsArePaid}
+use Rattle.tg_regalloc.specs.laws.Growth.{AllocationsAreShort, AllocationsGrowLittle}
+use Rattle.tg_code_bounds.specs.laws.Laws.{LinesAreShort, CodeIsShort, FramesAreSmall, FunctionsArePaid}
 
 -- the words for the arguments of a call are no more than its length
 arguments_counted : (xs : Txs) → count xs ≤ arguments_length Canonical xs

@@ -1,10 +1,10 @@
 -- A function whose tree is small meets the conditions of the passes.
 use Rattle.std.proofs.Common.{arith}
-use Rattle.tg_canon.specs.Meaning as canon
+use Rattle.tg_canon.specs.laws.Meaning as canon
 use Rattle.tg_flatten_proof.specs.Flattened.{flattened}
-use Rattle.tg_flatten_proof.specs.Laws as carried
-use Rattle.tg_munch.specs.Lengths.{InstructionsAreFew}
-use Rattle.tg_code_bounds.specs.Conditions.{SmallIsEnough}
+use Rattle.tg_flatten_proof.specs.laws.Laws as carried
+use Rattle.tg_munch.specs.laws.Lengths.{InstructionsAreFew}
+use Rattle.tg_code_bounds.specs.laws.Conditions.{SmallIsEnough}
 
 pub enough : canon.LengthStays → canon.NeedsStay → carried.LengthStays → carried.NeedsStay → InstructionsAreFew → SmallIsEnough
 enough canonical_short canonical_small flat_short flat_small few f may h =

@@ -8,19 +8,19 @@ use Rattle.tg_syntax.specs.Functions.{program_functions, program_size}
 use Rattle.tg_tree.specs.declared.operators.Rel.TheVariants.{LessEqual}
 use Rattle.tg_tree.specs.Tree.{Ts, Function}
 use Rattle.tg_tree.specs.Sizes.{tree_length}
-use Rattle.tg_translate.specs.Scopes.{Findings}
-use Rattle.tg_translate.specs.Translate.{translated}
+use Rattle.tg_translate.specs.mirror.Scopes.{Findings}
+use Rattle.tg_translate.specs.mirror.Translate.{translated}
 use Rattle.tg_flatten_proof.specs.Flattened.{flattened}
 use Rattle.tg_instr.specs.declared.operands.Opnd.TheVariants.{Reg}
 use Rattle.tg_instr.specs.declared.instr.Instr.{Instr}
 use Rattle.tg_instr.specs.declared.instr.Instr.TheVariants.{FrameLoad, FrameStore, FrameAddress, Address, Mark, Branch, Return}
 use Rattle.tg_instr.specs.Lengths as instr
-use Rattle.tg_munch.specs.Choosing.{◌>>=◌}
-use Rattle.tg_munch.specs.Bodies.{munched}
-use Rattle.tg_regalloc.specs.InFrame.{code_in_frame}
-use Rattle.tg_emit.specs.Lines.{entry, code_lines, words}
-use Rattle.tg_code_bounds.specs.Laws.{param_count, entry_words, length_words, besides_words, node_words, parameter_words, function_words, node_bytes}
-use Rattle.tg_code_bounds.specs.Laws.{parameter_bytes, function_bytes}
+use Rattle.tg_munch.specs.mirror.Choosing.{◌>>=◌}
+use Rattle.tg_munch.specs.mirror.Bodies.{munched}
+use Rattle.tg_regalloc.specs.mirror.InFrame.{code_in_frame}
+use Rattle.tg_emit.specs.mirror.Lines.{entry, code_lines, words}
+use Rattle.tg_code_bounds.specs.laws.Laws.{param_count, entry_words, length_words, besides_words, node_words, parameter_words, function_words, node_bytes}
+use Rattle.tg_code_bounds.specs.laws.Laws.{parameter_bytes, function_bytes}
 
 abbrev sp : Span
 sp = record { from = 0; to = 0 }

@@ -11,7 +11,7 @@ use Rattle.tg_syntax.specs.Spans.{span_of}
 use Rattle.tg_syntax.specs.Functions.{Measures, Levels, measures, own, own_params, own_functions, own_decs, declared, declared_place, declared_exps}
 use Rattle.tg_syntax.specs.Functions.{declared_inits, declared_decs, declared_functions, program_functions, program_size}
 use Rattle.tg_syntax.proofs.FunctionLaws.{program_size_is}
-use Rattle.tg_code_bounds.specs.Laws.{param_count, FunctionsAreFew}
+use Rattle.tg_code_bounds.specs.laws.Laws.{param_count, FunctionsAreFew}
 
 -- two for each function, and one for each of its parameters
 abbrev pub counted : Measures → ℕ

@@ -7,10 +7,10 @@ use Rattle.tg_instr.specs.declared.instr.Instr.{Instr}
 use Rattle.tg_instr.specs.declared.instr.Instr.TheVariants.{FrameLoad, FrameStore, FrameAddress, Address, Mark, Jump, Branch, Call, Fault, Return}
 use Rattle.tg_instr.specs.Lengths as instr
 use Rattle.tg_emit.specs.declared.assembly.Line.{Line}
-use Rattle.tg_emit.specs.Rows.{register_of}
-use Rattle.tg_emit.specs.Lines.{size_of, alone, above_stack, lowered, entry, slot_offset, instruction_lines, code_lines, words}
+use Rattle.tg_emit.specs.mirror.Rows.{register_of}
+use Rattle.tg_emit.specs.mirror.Lines.{size_of, alone, above_stack, lowered, entry, slot_offset, instruction_lines, code_lines, words}
 use Rattle.tg_emit_laws.proofs.CodeLines.{words_append}
-use Rattle.tg_code_bounds.specs.Laws.{LinesAreShort}
+use Rattle.tg_code_bounds.specs.laws.Laws.{LinesAreShort}
 
 -- one of two lists of lines
 either : (n : ℕ) (b : Bool) (xs ys : List Line) → words xs ≤ n → words ys ≤ n → words (if b then xs else ys) ≤ n

@@ -10,7 +10,7 @@ use Rattle.std.proofs.lemmas.List.Sums.{sum_by-cons}
 use Rattle.tg_syntax.specs.Spans.{span_of}
 use Rattle.tg_syntax.specs.Functions.{Measures, program_functions, program_size}
 use Rattle.tg_types.specs.declared.faults.TypeRule.TheVariants.{T20, T21, T22}
-use Rattle.tg_types.specs.Laws.{CheckedHasType}
+use Rattle.tg_types.specs.laws.Laws.{CheckedHasType}
 use Rattle.tg_types.specs.Limits.{above, first_above}
 use Rattle.tg_types.specs.Programs.{CheckedProgram, IsAccepted}
 use Rattle.tg_escape.specs.Escaping.{escapes_of}
@@ -18,10 +18,11 @@ use Rattle.tg_tree.specs.Tree.{Ts, Function}
 use Rattle.tg_tree.specs.Named.{temporary}
 use Rattle.tg_tree.specs.Sizes.{tree_length, tree_needs}
 use Rattle.tg_tree.specs.declared.fragments.Literal.{Literal}
-use Rattle.tg_runtime.specs.Routines.{runtime}
-use Rattle.tg_runtime.specs.Laws.{AreRoutines, AllAreRoutines, is_own, most_length}
-use Rattle.tg_translate.specs.Translate.{translated}
-use Rattle.tg_translate_laws.specs.Laws.{names, findings_in, FunctionIsWithin, FunctionsAreWithin, CheckedBodiesAreClosed, CheckedTemporariesAreDrawn, CheckedFramesAreSmall}
+use Rattle.tg_runtime.specs.mirror.Routines.{runtime}
+use Rattle.tg_runtime.specs.laws.Laws.{AreRoutines, AllAreRoutines, is_own, most_length}
+use Rattle.tg_translate.specs.mirror.Translate.{translated}
+use Rattle.tg_translate_laws.specs.laws.Laws.{names, findings_in, FunctionIsWithin, FunctionsAreWithin, CheckedBodiesAreClosed, CheckedTemporariesAreDrawn}
+use Rattle.tg_translate_laws.specs.laws.Laws.{CheckedFramesAreSmall}
 use Rattle.tg_translate_laws.proofs.Bounding.{within_limit}
 use Rattle.tg_flatten_proof.specs.Flattened.{MayBeFlattened}
 use Rattle.tg_instr.specs.declared.codes.Allocated.{Allocated}
@@ -29,11 +30,11 @@ use Rattle.tg_instr.proofs.Tests.{all_at, both_hold}
 use Rattle.tg_irc.specs.Policies.{Rule}
 use Rattle.tg_regalloc.specs.declared.allocations.Allocation.{Allocation}
 use Rattle.tg_regalloc.specs.Allocations.{codes_of}
-use Rattle.tg_emit.specs.Lines.{size_of, is_long, function_lines, functions_lines, literals_lines, words}
+use Rattle.tg_emit.specs.mirror.Lines.{size_of, is_long, function_lines, functions_lines, literals_lines, words}
 use Rattle.tg_emit_laws.proofs.CodeLines.{words_append}
 use Rattle.tg_code_bounds.specs.Allocating.{IsAllocationOf, has_small_frame}
-use Rattle.tg_code_bounds.specs.Laws.{length_words, besides_words, node_words, function_words, most_node_words, most_runtime_words, CodeIsShort}
-use Rattle.tg_code_bounds.specs.Laws.{FramesAreSmall, FunctionsArePaid, FitsSegment, ProgramCodeFits, ProgramFramesAreSmall}
+use Rattle.tg_code_bounds.specs.laws.Laws.{length_words, besides_words, node_words, function_words, most_node_words, most_runtime_words, CodeIsShort}
+use Rattle.tg_code_bounds.specs.laws.Laws.{FramesAreSmall, FunctionsArePaid, FitsSegment, ProgramCodeFits, ProgramFramesAreSmall}
 use Rattle.tg_code_bounds.proofs.Functions.{all_counted, counted, counted_within}
 
 -- What the functions of an accepted program, and of the runtime, are.

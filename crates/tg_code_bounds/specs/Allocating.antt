@@ -7,12 +7,12 @@ use Rattle.tg_flatten_proof.specs.Flattened.{flattened}
 use Rattle.tg_instr.specs.declared.codes.Code.{Code}
 use Rattle.tg_instr.specs.declared.codes.Allocated.{Allocated}
 use Rattle.tg_instr.specs.Codes.{is_allocated, names_registers}
-use Rattle.tg_munch.specs.Choosing.{Chosen}
-use Rattle.tg_munch.specs.Bodies.{munched, outs}
+use Rattle.tg_munch.specs.mirror.Choosing.{Chosen}
+use Rattle.tg_munch.specs.mirror.Bodies.{munched, outs}
 use Rattle.tg_irc.specs.Policies.{Rule}
 use Rattle.tg_regalloc.specs.declared.allocations.Allocation.{Allocation}
 use Rattle.tg_regalloc.specs.Allocations.{IsAllocation}
-use Rattle.tg_emit.specs.Lines.{size_of}
+use Rattle.tg_emit.specs.mirror.Lines.{size_of}
 
 -- the instructions that are chosen for the flat code of a function, and what is drawn for them
 abbrev pub chosen : Function Ts → Chosen (Unit {0})

@@ -1,3 +1,2 @@
 pub mod Allocating
-pub mod Laws
-pub mod Conditions
+pub mod laws

@@ -1,5 +1,5 @@
-ghost use Rattle.tg_code_bounds.specs.Conditions.{SmallIsEnough};
-ghost use Rattle.tg_code_bounds.specs.Laws.{
+ghost use Rattle.tg_code_bounds.specs.laws.Conditions.{SmallIsEnough};
+ghost use Rattle.tg_code_bounds.specs.laws.Laws.{
   CodeIsShort,
   FramesAreSmall,
   FunctionsAreFew,

@@ -2,5 +2,5 @@ pub mod Counts
 pub mod Modes
 pub mod Simple
 pub mod Flagged
-pub mod Values
 pub mod Commands
+pub mod glue

@@ -9,13 +9,13 @@ use Rattle.tg_syntax.specs.Tree.{Exp}
 use Rattle.tg_types.specs.declared.notes.Note.{Note}
 use Rattle.tg_escape.specs.Escaping.{escapes_of}
 use Rattle.tg_escape.specs.Links.{links_of}
-use Rattle.tg_translate.specs.Scopes.{found}
-use Rattle.tg_translate.specs.Translate.{translated}
+use Rattle.tg_translate.specs.mirror.Scopes.{found}
+use Rattle.tg_translate.specs.mirror.Translate.{translated}
 use Rattle.tg_tree.specs.declared.fragments.Fragment.{Fragment}
 use Rattle.tg_tree.specs.declared.fragments.Literal.{Literal}
 use Rattle.tg_tree.specs.Tree.{Ts, Function, Code, Linear, Stms}
-use Rattle.tg_tree.specs.Plain.{plain_fragment, plain_literal, plain_function}
-use Rattle.tg_runtime.specs.Routines.{runtime}
+use Rattle.tg_tree.specs.glue.Plain.{plain_fragment, plain_literal, plain_function}
+use Rattle.tg_runtime.specs.mirror.Routines.{runtime}
 use Rattle.tg_translate_laws.specs.Programs.{with_runtime}
 use Rattle.tg_frame.specs.declared.frames.Frame.{Frame}
 use Rattle.tg_base.specs.declared.ids.Label.{Label}
@@ -24,17 +24,17 @@ use Rattle.tg_asm_text.specs.Placement.{image_of}
 use Rattle.tg_asm_text.specs.Texts.{readings_of}
 use Rattle.tg_instr.specs.declared.codes.Allocated.{Allocated}
 use Rattle.tg_instr.specs.declared.codes.Code.{Code as Instructions}
-use Rattle.tg_munch.specs.Bodies.{munched, outs}
+use Rattle.tg_munch.specs.mirror.Bodies.{munched, outs}
 use Rattle.tg_irc.specs.Policies.{Rule}
 use Rattle.tg_regalloc.specs.declared.allocations.Allocation.{Allocation}
 use Rattle.tg_regalloc.specs.Allocations.{codes_of}
-use Rattle.tg_canon.specs.Drawing.{Drawn, DrawsFrom}
-use Rattle.tg_canon.specs.Canon.{linearized}
+use Rattle.tg_canon.specs.mirror.Drawing.{Drawn, DrawsFrom}
+use Rattle.tg_canon.specs.mirror.Canon.{linearized}
 use Rattle.tg_trace.specs.Block.{Block}
-use Rattle.tg_trace.specs.Cutting.{blocks_of}
-use Rattle.tg_trace.specs.Laying.{traced}
-use Rattle.tg_emit.specs.Lines.{assembly_of}
-use Rattle.tg_emit.specs.Text.{text_of}
+use Rattle.tg_trace.specs.mirror.Cutting.{blocks_of}
+use Rattle.tg_trace.specs.mirror.Laying.{traced}
+use Rattle.tg_emit.specs.mirror.Lines.{assembly_of}
+use Rattle.tg_emit.specs.mirror.Text.{text_of}
 use Rattle.tg_emit_laws.specs.Programs.{IsWholeProgram, AreTyped}
 use Rattle.tg_emit_laws.specs.Images.{program_written}
 use Rattle.tg_emit_laws.proofs.Soundness.{program_has_image}
@@ -42,7 +42,7 @@ use Rattle.tg_compile.specs.declared.programs.Placement.{Placement}
 use Rattle.tg_flatten_proof.specs.Flattened.{flattened}
 use Rattle.tg_code_bounds.specs.Allocating.{Chooses, IsAllocationOf}
 use Rattle.tg_compile.specs.Compiling.{fragments_of, CompileFunctions, HasImage, Compiles}
-use Rattle.tg_compile.specs.Passes.{allocation_of, CompileApart}
+use Rattle.tg_compile.specs.glue.Passes.{allocation_of, CompileApart}
 
 -- a program's functions and literals, before the runtime is after them
 abbrev pub tree_of : List Fragment → List Literal → Code Ts

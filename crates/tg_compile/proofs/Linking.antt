@@ -11,29 +11,29 @@ use Rattle.tg_state.specs.State.{most_bytes, padded}
 use Rattle.tg_tree.specs.declared.fragments.Literal.{Literal}
 use Rattle.tg_tree.specs.Tree as tree
 use Rattle.tg_tree.specs.Tree.{Ts, Function, Code}
-use Rattle.tg_tree.specs.Plain.{plain_literal}
+use Rattle.tg_tree.specs.glue.Plain.{plain_literal}
 use Rattle.tg_tree.specs.Named.{Named, function, literal, fault, temporary, constant, IsLinked}
 use Rattle.tg_instr.specs.declared.operands.Opnd.{Opnd}
 use Rattle.tg_instr.specs.declared.instr.Instr.{Instr}
 use Rattle.tg_instr.specs.declared.instr.Instr.TheVariants.{Sll, Address, Call, Fault}
 use Rattle.tg_instr.specs.declared.codes.Allocated.{Allocated}
 use Rattle.tg_instr.specs.Renaming.{renamed}
-use Rattle.tg_translate_laws.specs.Laws.{names}
-use Rattle.tg_canon.specs.Laws as canon
-use Rattle.tg_canon.specs.Canon.{linearized}
-use Rattle.tg_trace.specs.Laws as trace
-use Rattle.tg_munch.specs.Laws as munch
+use Rattle.tg_translate_laws.specs.laws.Laws.{names}
+use Rattle.tg_canon.specs.laws.Laws as canon
+use Rattle.tg_canon.specs.mirror.Canon.{linearized}
+use Rattle.tg_trace.specs.laws.Laws as trace
 use Rattle.tg_munch.specs.Naming.{names_allowed}
+use Rattle.tg_munch.specs.laws.Laws as munch
 use Rattle.tg_irc.specs.Policies.{Rule}
 use Rattle.tg_regalloc.specs.declared.allocations.Allocation.{Allocation}
-use Rattle.tg_regalloc.specs.Explained.{IgnoresOperands, AllocationsKeepTests}
+use Rattle.tg_regalloc.specs.laws.Explained.{IgnoresOperands, AllocationsKeepTests}
 use Rattle.tg_emit.specs.Conditions.{has_code, is_emittable}
 use Rattle.tg_emit_laws.specs.Programs.{IsWholeProgram, bytes_of, function_labels, literal_labels, is_among, labels_differ, names_those, calls_those}
 use Rattle.tg_code_bounds.specs.Allocating.{has_small_frame}
 use Rattle.tg_compile.specs.declared.programs.Placement.{Placement}
 use Rattle.tg_flatten_proof.specs.Flattened.{flattened}
 use Rattle.tg_code_bounds.specs.Allocating.{IsAllocationOf}
-use Rattle.tg_compile.specs.Passes.{CompileApart, allocation_of, is_there, have_codes, CodeNamesNoMore, AreLinked, AreSmall}
+use Rattle.tg_compile.specs.glue.Passes.{CompileApart, allocation_of, is_there, have_codes, CodeNamesNoMore, AreLinked, AreSmall}
 
 -- other operands change no name
 renamed_keeps : (p : Named → Bool) (one : Instr) (x y z : Opnd) →

@@ -8,12 +8,12 @@ use Rattle.tg_instr.specs.declared.operands.Opnd.{Opnd}
 use Rattle.tg_instr.specs.declared.operands.Opnd.TheVariants.{Temp, Reg}
 use Rattle.tg_instr.specs.Renaming.{named}
 use Rattle.tg_munch.specs.Naming as munch
-use Rattle.tg_munch.specs.Laws.{RegistersAreFixed, SlotsAreBelow}
+use Rattle.tg_munch.specs.laws.Laws.{RegistersAreFixed, SlotsAreBelow}
 use Rattle.tg_instr.specs.Codes.{has_register, names_registers}
 use Rattle.tg_regalloc.specs.Conditions.{is_fixed}
 use Rattle.tg_flatten_proof.specs.Flattened.{flattened}
 use Rattle.tg_code_bounds.specs.Allocating.{chosen}
-use Rattle.tg_compile.specs.Passes.{CodeNamesItsOwn}
+use Rattle.tg_compile.specs.glue.Passes.{CodeNamesItsOwn}
 
 -- a register that is read, or written, is one that code names before allocation
 read_is : (one : Option Opnd) → has_register munch.is_read one ≡ true →

@@ -5,9 +5,9 @@ use Rattle.std.specs.List.{zip}
 use Rattle.std.specs.FinSet.{from_list}
 use Rattle.tg_types.specs.Programs.{CheckedProgram, IsAccepted}
 use Rattle.tg_escape.specs.Links.{links_of}
-use Rattle.tg_code_bounds.specs.Laws.{AreAllocationsOf, ProgramCodeFits, ProgramFramesAreSmall}
+use Rattle.tg_code_bounds.specs.laws.Laws.{AreAllocationsOf, ProgramCodeFits, ProgramFramesAreSmall}
 use Rattle.tg_compile.specs.Compiling.{fragments_of}
-use Rattle.tg_compile.specs.Passes.{AreSmall, CodeIsSmall, allocation_of}
+use Rattle.tg_compile.specs.glue.Passes.{AreSmall, CodeIsSmall, allocation_of}
 use Rattle.tg_compile.proofs.Chain.{together}
 
 pub code_is_small : ProgramCodeFits → ProgramFramesAreSmall → (p : CheckedProgram) → IsAccepted p →

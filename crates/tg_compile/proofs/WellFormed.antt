@@ -11,21 +11,21 @@ use Rattle.tg_types.specs.Programs.{CheckedProgram, IsAccepted}
 use Rattle.tg_escape.specs.Escaping.{escapes_of}
 use Rattle.tg_escape.specs.Links.{links_of}
 use Rattle.tg_tree.specs.declared.fragments.Fragment.{Fragment}
-use Rattle.tg_tree.specs.Plain.{plain_fragment}
+use Rattle.tg_tree.specs.glue.Plain.{plain_fragment}
 use Rattle.tg_tree.specs.Tree.{Ts, Function}
 use Rattle.tg_tree.specs.Named.{Named, function, literal, fault, temporary, constant, named_stms, named_flat, HasItsTemps}
 use Rattle.tg_tree.specs.Shapes.{IsClosed, IsWellMarked}
-use Rattle.tg_translate.specs.Translate.{translated}
-use Rattle.tg_runtime.specs.Laws.{AreRoutines, is_own, AllAreRoutines}
-use Rattle.tg_runtime.specs.Routines.{runtime}
-use Rattle.tg_translate_laws.specs.Laws.{names, CheckedBodiesAreClosed, CheckedTemporariesAreDrawn, CheckedFramesAreSmall}
-use Rattle.tg_canon.specs.Laws.{GivesClosed, AreTempsBelow, TempsStay}
-use Rattle.tg_canon.specs.Canon.{linearized}
-use Rattle.tg_trace.specs.Cutting.{blocks_of}
-use Rattle.tg_trace.specs.Laws as trace
+use Rattle.tg_translate.specs.mirror.Translate.{translated}
+use Rattle.tg_runtime.specs.laws.Laws.{AreRoutines, is_own, AllAreRoutines}
+use Rattle.tg_runtime.specs.mirror.Routines.{runtime}
+use Rattle.tg_translate_laws.specs.laws.Laws.{names, CheckedBodiesAreClosed, CheckedTemporariesAreDrawn, CheckedFramesAreSmall}
+use Rattle.tg_canon.specs.laws.Laws.{GivesClosed, AreTempsBelow, TempsStay}
+use Rattle.tg_canon.specs.mirror.Canon.{linearized}
+use Rattle.tg_trace.specs.laws.Laws as trace
+use Rattle.tg_trace.specs.mirror.Cutting.{blocks_of}
 use Rattle.tg_flatten_proof.specs.Flattened.{flattened}
 use Rattle.tg_compile.specs.Compiling.{findings_of, fragments_of}
-use Rattle.tg_compile.specs.Passes.{IsWellFormed, FlatCodeIsWellMarked}
+use Rattle.tg_compile.specs.glue.Passes.{IsWellFormed, FlatCodeIsWellMarked}
 
 -- a function of the runtime, which has no slot
 abbrev has_few : Function Ts → Bool

@@ -9,17 +9,17 @@ use Rattle.tg_escape.specs.Escaping.{escapes_of}
 use Rattle.tg_escape.specs.Links.{links_of}
 use Rattle.tg_tree.specs.declared.fragments.Literal.{Literal}
 use Rattle.tg_tree.specs.Tree.{Ts, Function, Code}
-use Rattle.tg_tree.specs.Plain.{plain_literal}
-use Rattle.tg_translate.specs.Scopes.{Findings, found}
-use Rattle.tg_translate.specs.Translate.{translated}
+use Rattle.tg_tree.specs.glue.Plain.{plain_literal}
+use Rattle.tg_translate.specs.mirror.Scopes.{Findings, found}
+use Rattle.tg_translate.specs.mirror.Translate.{translated}
 use Rattle.tg_translate_laws.specs.Programs.{with_runtime}
 use Rattle.tg_asm_text.specs.Assembly.{Assembled, assembled}
 use Rattle.tg_irc.specs.Policies.{Rule}
 use Rattle.tg_regalloc.specs.declared.allocations.Allocation.{Allocation}
 use Rattle.tg_regalloc.specs.Allocations.{codes_of}
 use Rattle.tg_code_bounds.specs.Allocating.{IsAllocationOf}
-use Rattle.tg_emit.specs.Lines.{assembly_of}
-use Rattle.tg_emit.specs.Text.{text_of}
+use Rattle.tg_emit.specs.mirror.Lines.{assembly_of}
+use Rattle.tg_emit.specs.mirror.Text.{text_of}
 use Rattle.tg_emit_laws.specs.Programs.{IsWholeProgram, AreTyped}
 
 -- what is found of a program whose notes are these, before it is translated

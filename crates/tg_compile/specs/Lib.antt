@@ -1,2 +1,2 @@
 pub mod Compiling
-pub mod Passes
+pub mod glue

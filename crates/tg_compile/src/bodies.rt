@@ -1,9 +1,9 @@
 ghost use Rattle.std.specs.Prelude.{◌≡◌, IfOk};
-ghost use Rattle.tg_tree.specs.Lists.{code_of};
-ghost use Rattle.tg_tree.specs.Plain.{plain_fragment, plain_function, plain_ts};
+ghost use Rattle.tg_tree.specs.glue.Lists.{code_of};
+ghost use Rattle.tg_tree.specs.glue.Plain.{plain_fragment, plain_function, plain_ts};
 ghost use Rattle.tg_flatten_proof.specs.Flattened.{flattened};
 ghost use Rattle.tg_code_bounds.specs.Allocating.{Chooses, IsAllocationOf};
-ghost use Rattle.tg_compile.specs.Passes.{IsWellFormed};
+ghost use Rattle.tg_compile.specs.glue.Passes.{IsWellFormed};
 
 use crate::laws::{flat_code_is_well_marked, instructions_name_their_own};
 use std::alloc::Global;

@@ -1,7 +1,7 @@
 ghost use Rattle.std.specs.Prelude.{All};
-ghost use Rattle.tg_syntax.specs.Plain.{plain};
+ghost use Rattle.tg_syntax.specs.glue.Plain.{plain};
 ghost use Rattle.tg_compile.specs.Compiling.{fragments_of};
-ghost use Rattle.tg_compile.specs.Passes.{
+ghost use Rattle.tg_compile.specs.glue.Passes.{
   CodeIsSmall,
   CodeNamesItsOwn,
   CodeNamesNoMore,

@@ -1,15 +1,15 @@
 ghost use Rattle.std.specs.Prelude.{◌≡◌, ◌≤◌, All, IfOk, map};
 ghost use Rattle.std.specs.List.{zip};
 ghost use Rattle.tg_state.specs.State.{most_bytes};
-ghost use Rattle.tg_syntax.specs.Plain.{plain};
-ghost use Rattle.tg_tree.specs.Plain.{plain_fragment, plain_fragments};
+ghost use Rattle.tg_syntax.specs.glue.Plain.{plain};
+ghost use Rattle.tg_tree.specs.glue.Plain.{plain_fragment, plain_fragments};
 ghost use Rattle.tg_tree.specs.Named.{IsLinked};
-ghost use Rattle.tg_translate_laws.specs.Laws.{names};
-ghost use Rattle.tg_emit.specs.Lines.{assembly_of};
-ghost use Rattle.tg_emit.specs.Text.{text_of};
+ghost use Rattle.tg_translate_laws.specs.laws.Laws.{names};
+ghost use Rattle.tg_emit.specs.mirror.Lines.{assembly_of};
+ghost use Rattle.tg_emit.specs.mirror.Text.{text_of};
 ghost use Rattle.tg_emit_laws.specs.Programs.{AreTyped, IsWholeProgram, bytes_of};
 ghost use Rattle.tg_compile.specs.Compiling.{Compiles, LiteralsFit, fragments_of};
-ghost use Rattle.tg_compile.specs.Passes.{
+ghost use Rattle.tg_compile.specs.glue.Passes.{
   AreLinked,
   AreSmall,
   CompileApart,

@@ -8,31 +8,31 @@ use Rattle.tg_simulation.specs.Preserving.{Preserves}
 use Rattle.tg_frame.specs.Homes.{slot_bound}
 use Rattle.tg_tree.specs.Tree.{Ts, Function}
 use Rattle.tg_tree.specs.Running.{function_of}
-use Rattle.tg_canon.specs.Meaning.{canonical}
-use Rattle.tg_trace.specs.Carried.{in_blocks}
-use Rattle.tg_trace.specs.Traced.{laid}
+use Rattle.tg_canon.specs.laws.Meaning.{canonical}
+use Rattle.tg_trace.specs.laws.Carried.{in_blocks}
+use Rattle.tg_trace.specs.laws.Traced.{laid}
 use Rattle.tg_flatten_proof.specs.Flattened.{flattened}
 use Rattle.tg_instr.specs.declared.instr.Instr.{Instr}
 use Rattle.tg_instr.specs.declared.instr.Instr.TheVariants as instr
 use Rattle.tg_instr.specs.declared.codes.Allocated.{Allocated}
 use Rattle.tg_instr.specs.Codes.{names_registers}
 use Rattle.tg_instr.specs.Running.{everywhere, code_run}
-use Rattle.tg_munch_proof.specs.Chosen.{chosen}
+use Rattle.tg_munch_proof.specs.laws.Chosen.{chosen}
 use Rattle.tg_irc.specs.Policies.{Rule}
 use Rattle.tg_regalloc_proof.specs.Keeping.{AreHeld, Surroundings}
 use Rattle.tg_regalloc.specs.declared.allocations.Allocation.{Allocation}
 use Rattle.tg_regalloc.specs.Conditions.{is_fixed}
-use Rattle.tg_regalloc.specs.Growth.{most_steps}
-use Rattle.tg_regalloc_proof.specs.Laws.{Allocates, RegallocIsCorrect, functions_over}
+use Rattle.tg_regalloc.specs.laws.Growth.{most_steps}
+use Rattle.tg_regalloc_proof.specs.laws.Laws.{Allocates, RegallocIsCorrect, functions_over}
 use Rattle.tg_code_bounds.specs.Allocating.{IsAllocationOf}
-use Rattle.tg_emit.specs.Lines.{size_of}
-use Rattle.tg_compile.specs.Passes.{CodeNamesItsOwn}
+use Rattle.tg_emit.specs.mirror.Lines.{size_of}
+use Rattle.tg_compile.specs.glue.Passes.{CodeNamesItsOwn}
 use Rattle.tg_emit_proof.specs.Setting.{steps_of}
-use Rattle.tg_emit_proof.specs.Emission.{sizes_of, function_over}
+use Rattle.tg_emit_proof.specs.laws.Emission.{sizes_of, function_over}
 use Rattle.tg_emit_proof.proofs.Known.{found_there}
 use Rattle.tg_compile_proof.specs.Forms.{instructions, registers, frames}
 use Rattle.tg_compile_proof.specs.Forms.{instruction_form}
-use Rattle.tg_compile_proof.specs.Laws.{AllocationIsKept}
+use Rattle.tg_compile_proof.specs.laws.Laws.{AllocationIsKept}
 
 -- an instruction takes no more steps than are counted for it
 few_steps : (one : Instr) → steps_of one ≤ most_steps one

@@ -9,14 +9,14 @@ use Rattle.tg_syntax_laws.proofs.Standing.{tokens_stand}
 use Rattle.tg_syntax_laws.proofs.Orders.{apart}
 use Rattle.tg_syntax_laws.proofs.Begun.{in_order}
 use Rattle.tg_types.specs.Programs.{CheckedProgram, IsAccepted}
-use Rattle.tg_literal_bounds.specs.Laws.{TreesAreOfWords}
+use Rattle.tg_literal_bounds.specs.laws.Laws.{TreesAreOfWords}
 use Rattle.tg_irc.specs.Policies.{Rule as SpillRule}
 use Rattle.tg_regalloc.specs.declared.allocations.Allocation.{Allocation}
-use Rattle.tg_compile_proof.specs.Laws.{CompileIsCorrect}
+use Rattle.tg_compile_proof.specs.laws.Laws.{CompileIsCorrect}
 use Rattle.tg_correct.specs.Sources.{HasTree}
 use Rattle.tg_compile_proof.specs.Builds.{CompilesTo}
 use Rattle.tg_correct.specs.Assemblies.{IsAsMeant}
-use Rattle.tg_compile_proof.specs.TextLaws.{BuildIsCorrect}
+use Rattle.tg_compile_proof.specs.laws.TextLaws.{BuildIsCorrect}
 
 -- a text's tree is typed under the conditions that the check asks for
 pub names_within : (text : List ℕ) (names : List (List ℕ)) (tokens : List Spanned) (program : Exp) →

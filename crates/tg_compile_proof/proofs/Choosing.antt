@@ -10,21 +10,21 @@ use Rattle.tg_tree.specs.declared.fragments.Literal.{Literal}
 use Rattle.tg_tree.specs.Tree as tree
 use Rattle.tg_tree.specs.Tree.{Ts, Linear, Function}
 use Rattle.tg_tree.specs.Memory.{statics_of}
-use Rattle.tg_tree.specs.Plain.{plain_literal}
+use Rattle.tg_tree.specs.glue.Plain.{plain_literal}
 use Rattle.tg_tree.specs.Named.{named_ts, HasWords}
 use Rattle.tg_tree.specs.FrameSizes.{IsSizeOf}
-use Rattle.tg_canon.specs.Meaning.{canonical}
-use Rattle.tg_trace.specs.Carried.{in_blocks}
-use Rattle.tg_trace.specs.Traced.{laid}
+use Rattle.tg_canon.specs.laws.Meaning.{canonical}
+use Rattle.tg_trace.specs.laws.Carried.{in_blocks}
+use Rattle.tg_trace.specs.laws.Traced.{laid}
 use Rattle.tg_flatten_proof.specs.Flattened.{flattened}
 use Rattle.tg_emit.specs.Ranges.{LiteralFits}
-use Rattle.tg_munch_proof.specs.Chosen.{chosen, MayBeChosen, HasRoom, MunchKeepsWords}
-use Rattle.tg_compile_proof.specs.Lowering.{MayBeLowered, FlatCodeMayBeChosen}
-use Rattle.tg_emit_proof.specs.Emission.{FitRegions}
+use Rattle.tg_munch_proof.specs.laws.Chosen.{chosen, MayBeChosen, HasRoom, MunchKeepsWords}
+use Rattle.tg_compile_proof.specs.laws.Lowering.{MayBeLowered, FlatCodeMayBeChosen}
 use Rattle.tg_emit_proof.specs.LinesRun as lines
+use Rattle.tg_emit_proof.specs.laws.Emission.{FitRegions}
 use Rattle.tg_emit_proof.proofs.Statics as emitted
 use Rattle.tg_compile_proof.specs.Forms.{Compilation, IsCompiled, registers, flat_code, frames}
-use Rattle.tg_compile_proof.specs.Laws.{KeepsChoice, ChoiceIsKept}
+use Rattle.tg_compile_proof.specs.laws.Laws.{KeepsChoice, ChoiceIsKept}
 use Rattle.tg_compile_proof.proofs.Compiled.{PairAt, pair, sized, same_there, compiled_may_run}
 
 -- the flat code of a function stands at its place

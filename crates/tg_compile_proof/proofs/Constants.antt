@@ -9,16 +9,16 @@ use Rattle.tg_syntax.proofs.FunctionLaws.{program_size_is}
 use Rattle.tg_types.specs.declared.faults.TypeRule.TheVariants.{T22}
 use Rattle.tg_types.specs.Limits.{first_above}
 use Rattle.tg_types.specs.Programs.{CheckedProgram, IsAccepted}
-use Rattle.tg_types.specs.Laws.{CheckedHasType}
+use Rattle.tg_types.specs.laws.Laws.{CheckedHasType}
 use Rattle.tg_escape.specs.Escaping.{escapes_of}
 use Rattle.tg_escape.specs.Links.{links_of}
-use Rattle.tg_runtime.specs.Laws.{RuntimeHasWords}
-use Rattle.tg_runtime.specs.Routines.{runtime}
-use Rattle.tg_translate.specs.Translate.{translated}
-use Rattle.tg_translate_laws.specs.Laws.{CheckedConstantsAreWords, FieldsAreFew}
+use Rattle.tg_runtime.specs.laws.Laws.{RuntimeHasWords}
+use Rattle.tg_runtime.specs.mirror.Routines.{runtime}
+use Rattle.tg_translate.specs.mirror.Translate.{translated}
+use Rattle.tg_translate_laws.specs.laws.Laws.{CheckedConstantsAreWords, FieldsAreFew}
 use Rattle.tg_translate_laws.proofs.Bounding.{within_limit}
 use Rattle.tg_compile.specs.Compiling.{findings_of}
-use Rattle.tg_compile_proof.specs.Laws.{FragmentsHaveWords}
+use Rattle.tg_compile_proof.specs.laws.Laws.{FragmentsHaveWords}
 use Rattle.tg_compile_proof.proofs.Fields.{fields_are_below}
 
 -- what is in two lists, one after the other, is in one of them

@@ -11,9 +11,9 @@ use Rattle.tg_semantics.specs.MachineEnds.{machine_end}
 use Rattle.tg_semantics.specs.Direct.{evaluate}
 use Rattle.tg_isa.specs.Runs.{Execution, Progress, Ended}
 use Rattle.tg_correct.specs.Images.{EndsAs, IsCutShort}
-use Rattle.tg_correct.specs.EndLaws.{TellsMeaning, EndsTellMeaning}
+use Rattle.tg_correct.specs.laws.EndLaws.{TellsMeaning, EndsTellMeaning}
 use Rattle.tg_correct.specs.Ends.{EndsSo, EndIsMeant}
-use Rattle.tg_compile_proof.specs.TextLaws.{EndedIsMeant, RunningIsMeant}
+use Rattle.tg_compile_proof.specs.laws.TextLaws.{EndedIsMeant, RunningIsMeant}
 
 -- an end of the machine that may stand for an ending
 abbrev MayStand : RunEnd → Type 0

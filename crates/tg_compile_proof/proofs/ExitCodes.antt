@@ -15,10 +15,10 @@ use Rattle.tg_semantics.specs.Direct.{RunState, Result, gives, breaks, is_over, 
 use Rattle.tg_semantics.specs.Direct.{found, changed, direct, begin, outcome, evaluate}
 use Rattle.tg_translate_laws.specs.Strings.{strings}
 use Rattle.tg_translate_laws.proofs.Fine.{Each, each_append}
-use Rattle.tg_literal_bounds.specs.Laws.{IsTextOf, TreesAreOfWords, StringsAreShort}
+use Rattle.tg_literal_bounds.specs.laws.Laws.{IsTextOf, TreesAreOfWords, StringsAreShort}
 use Rattle.tg_correct.specs.Images.{AreSizes}
 use Rattle.tg_correct.specs.Sources.{IsSourceOf}
-use Rattle.tg_compile_proof.specs.TextLaws.{ExitsAreWords}
+use Rattle.tg_compile_proof.specs.laws.TextLaws.{ExitsAreWords}
 use Rattle.tg_compile_proof.proofs.SmallValues.{each_of_all, each_take, each_drop, each_set, each_get, IsByte, HasShortLength, IsShortString}
 use Rattle.tg_compile_proof.proofs.SmallValues.{IsSmallValue, IsSmallObject, IsFitExp, AreFitEntries, outermost_fit, IsFitJob}
 use Rattle.tg_compile_proof.proofs.SmallRuns.{Known, whatever, ExitIsWord, ActionsKeep, run_kept, program_kept}

@@ -39,7 +39,7 @@ use Rattle.tg_types.specs.Answered.{Accepts, meaning_at}
 use Rattle.tg_types.specs.Limits.{limit_fault}
 use Rattle.tg_types.specs.Programs.{CheckedProgram, IsAccepted}
 use Rattle.tg_types.proofs.Inversion.{steps, kept, given, presented, refused, noting, shape_added, shape_found}
-use Rattle.tg_translate.specs.Scopes.{field_number}
+use Rattle.tg_translate.specs.mirror.Scopes.{field_number}
 
 -- a place in a list of fields is one of them
 placed_below : (f from : ℕ) (fs : List (ℕ × Ty)) (k : ℕ × Ty) → placed f from fs ≡ Some k → k.0 < from + length fs

@@ -7,19 +7,19 @@ use Rattle.std.specs.List.{Contains}
 use Rattle.tg_simulation.proofs.Agreeing.{passes_compose}
 use Rattle.tg_tree.specs.Tree.{Ts, Linear, Function, Code}
 use Rattle.tg_tree.specs.Named.{Named, function, literal, fault, temporary, constant, named_ts, named_stms}
-use Rattle.tg_canon.specs.Canon.{linearized}
-use Rattle.tg_canon.specs.Laws as canon
-use Rattle.tg_canon.specs.Laws.{GivesCanonical, GivesClosed, TempsGrow, TempsStay}
-use Rattle.tg_trace.specs.Laws as trace
-use Rattle.tg_trace.specs.Laws.{BlocksAreFlat, BlocksAreWhole, CodeIsFlat, CodeIsWellMarked}
-use Rattle.tg_trace.specs.Cutting.{blocks_of}
+use Rattle.tg_canon.specs.laws.Laws as canon
+use Rattle.tg_canon.specs.laws.Laws.{GivesCanonical, GivesClosed, TempsGrow, TempsStay}
+use Rattle.tg_canon.specs.mirror.Canon.{linearized}
+use Rattle.tg_trace.specs.laws.Laws as trace
+use Rattle.tg_trace.specs.laws.Laws.{BlocksAreFlat, BlocksAreWhole, CodeIsFlat, CodeIsWellMarked}
+use Rattle.tg_trace.specs.mirror.Cutting.{blocks_of}
 use Rattle.tg_flatten_proof.specs.Flattened.{flattened, flattened_code}
-use Rattle.tg_flatten_proof.specs.Laws.{FlattenIsCorrect}
-use Rattle.tg_flatten_proof.specs.Laws as flattening
-use Rattle.tg_munch_proof.specs.Chosen as choosing
-use Rattle.tg_munch_proof.specs.Chosen.{MunchIsCorrect, MunchKeepsWords, MayBeChosen}
-use Rattle.tg_correct.specs.Laws.{unit_words, kept_words}
-use Rattle.tg_compile_proof.specs.Lowering.{MayBeLowered, MayRun, FlatCodeMayBeChosen, LoweringIsCorrect, LoweringKeepsWords}
+use Rattle.tg_flatten_proof.specs.laws.Laws.{FlattenIsCorrect}
+use Rattle.tg_flatten_proof.specs.laws.Laws as flattening
+use Rattle.tg_munch_proof.specs.laws.Chosen as choosing
+use Rattle.tg_munch_proof.specs.laws.Chosen.{MunchIsCorrect, MunchKeepsWords, MayBeChosen}
+use Rattle.tg_correct.specs.laws.Laws.{unit_words, kept_words}
+use Rattle.tg_compile_proof.specs.laws.Lowering.{MayBeLowered, MayRun, FlatCodeMayBeChosen, LoweringIsCorrect, LoweringKeepsWords}
 
 -- tests of names: constants that are words, and temporaries below a number
 abbrev has_word : Named → Bool

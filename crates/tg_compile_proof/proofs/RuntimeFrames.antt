@@ -10,17 +10,17 @@ use Rattle.tg_tree.specs.Sizes.{tree_length, tree_needs}
 use Rattle.tg_tree.specs.FrameSizes.{IsNested, innermost, calling}
 use Rattle.tg_flatten_proof.specs.Flattened.{MayBeFlattened}
 use Rattle.tg_instr.proofs.Tests.{all_at}
-use Rattle.tg_runtime.specs.Laws.{IsRoutine, AreRoutines, AllAreRoutines, is_own}
-use Rattle.tg_runtime.specs.Routines.{runtime}
+use Rattle.tg_runtime.specs.laws.Laws.{IsRoutine, AreRoutines, AllAreRoutines, is_own}
+use Rattle.tg_runtime.specs.mirror.Routines.{runtime}
 use Rattle.tg_irc.specs.Policies.{Rule}
 use Rattle.tg_regalloc.specs.declared.allocations.Allocation.{Allocation}
 use Rattle.tg_tree.specs.declared.fragments.Literal.{Literal}
-use Rattle.tg_translate.specs.Translate.{translated}
-use Rattle.tg_translate_laws.specs.Laws.{LabelsAreAbove}
-use Rattle.tg_code_bounds.specs.Laws.{FramesAreSmall}
+use Rattle.tg_translate.specs.mirror.Translate.{translated}
+use Rattle.tg_translate_laws.specs.laws.Laws.{LabelsAreAbove}
+use Rattle.tg_code_bounds.specs.laws.Laws.{FramesAreSmall}
 use Rattle.tg_compile.specs.Compiling.{findings_of}
 use Rattle.tg_compile_proof.specs.Forms.{Compilation, IsCompiled, frames}
-use Rattle.tg_compile_proof.specs.Laws.{compilation_of, RuntimeFramesFit}
+use Rattle.tg_compile_proof.specs.laws.Laws.{compilation_of, RuntimeFramesFit}
 use Rattle.tg_compile_proof.proofs.Compiled.{pair, size_is, same_there}
 use Rattle.tg_compile_proof.proofs.Constants.{either}
 

@@ -14,27 +14,27 @@ use Rattle.tg_escape.specs.Links.{links_of}
 use Rattle.tg_types.specs.Programs.{CheckedProgram, IsAccepted}
 use Rattle.tg_tree.specs.declared.fragments.Literal.{Literal}
 use Rattle.tg_tree.specs.Tree.{Ts, Function}
-use Rattle.tg_tree.specs.Plain.{plain_literal}
+use Rattle.tg_tree.specs.glue.Plain.{plain_literal}
 use Rattle.tg_tree.specs.Memory.{statics_of}
 use Rattle.tg_tree.specs.FrameSizes.{AreAllowed}
-use Rattle.tg_runtime.specs.Routines.{runtime}
-use Rattle.tg_translate.specs.Translate.{translated}
-use Rattle.tg_translate_laws.specs.Laws.{names, ProgramsAreLinked}
+use Rattle.tg_runtime.specs.mirror.Routines.{runtime}
+use Rattle.tg_translate.specs.mirror.Translate.{translated}
+use Rattle.tg_translate_laws.specs.laws.Laws.{names, ProgramsAreLinked}
 use Rattle.tg_translate_laws.proofs.Fine.{Each, each_append, each_contained}
 use Rattle.tg_translate_laws.proofs.Taking.{PassesNothing}
 use Rattle.tg_translate_laws.proofs.Measured.{nothing_is_passed}
 use Rattle.tg_runtime_proof.proofs.Running.{IsLow, runtime_low}
 use Rattle.tg_translate_proof.specs.Bounds.{measures_of, bound_by}
-use Rattle.tg_translate_proof.specs.Laws.{findings_of, trees_of, bound_in}
+use Rattle.tg_translate_proof.specs.laws.Laws.{findings_of, trees_of, bound_in}
 use Rattle.tg_irc.specs.Policies.{Rule}
 use Rattle.tg_regalloc.specs.declared.allocations.Allocation.{Allocation}
-use Rattle.tg_emit.specs.Lines.{size_of}
+use Rattle.tg_emit.specs.mirror.Lines.{size_of}
 use Rattle.tg_emit_laws.specs.Programs.{bytes_of}
 use Rattle.tg_code_bounds.specs.Allocating.{IsAllocationOf}
 use Rattle.tg_emit_proof.proofs.Known.{sizes_there}
-use Rattle.tg_stack_bounds.specs.Weights.{IsLight, IsWithinWeight, TreesAreLight, AreWithinWeight, ProgramFramesAreLight}
+use Rattle.tg_stack_bounds.specs.laws.Weights.{IsLight, IsWithinWeight, TreesAreLight, AreWithinWeight, ProgramFramesAreLight}
 use Rattle.tg_compile_proof.specs.Forms.{Compilation, IsCompiled, registers, frames}
-use Rattle.tg_compile_proof.specs.Laws.{compilation_of, FramesAreSizesOfTrees, RuntimeFramesFit}
+use Rattle.tg_compile_proof.specs.laws.Laws.{compilation_of, FramesAreSizesOfTrees, RuntimeFramesFit}
 use Rattle.tg_compile_proof.proofs.RuntimeFrames.{label_in}
 
 -- a function's frame has as many bytes as that of its allocation

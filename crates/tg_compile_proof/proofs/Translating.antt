@@ -5,12 +5,12 @@ use Rattle.std.specs.FinSet.{from_list}
 use Rattle.tg_state.specs.State.{most_bytes}
 use Rattle.tg_escape.specs.Links.{links_of}
 use Rattle.tg_tree.specs.Memory.{statics_of}
-use Rattle.tg_translate_laws.specs.Laws.{ProgramsAreLinked}
-use Rattle.tg_translate_proof.specs.Laws.{TranslateIsCorrect, trees_of}
-use Rattle.tg_stack_bounds.specs.Weights.{AcceptedTreesAreLight, ProgramFramesAreLight}
+use Rattle.tg_translate_laws.specs.laws.Laws.{ProgramsAreLinked}
+use Rattle.tg_translate_proof.specs.laws.Laws.{TranslateIsCorrect, trees_of}
+use Rattle.tg_stack_bounds.specs.laws.Weights.{AcceptedTreesAreLight, ProgramFramesAreLight}
 use Rattle.tg_compile_proof.specs.Forms.{Compilation, frames}
-use Rattle.tg_compile_proof.specs.Laws.{compilation_of, FramesAreSizesOfTrees, RuntimeFramesFit, FragmentsHaveWords}
-use Rattle.tg_compile_proof.specs.Laws.{ProgramsAreTranslated}
+use Rattle.tg_compile_proof.specs.laws.Laws.{compilation_of, FramesAreSizesOfTrees, RuntimeFramesFit, FragmentsHaveWords}
+use Rattle.tg_compile_proof.specs.laws.Laws.{ProgramsAreTranslated}
 use Rattle.tg_compile_proof.proofs.Sizes.{sizes_are_allowed, statics_are}
 
 pub programs_are_translated : TranslateIsCorrect → AcceptedTreesAreLight → ProgramFramesAreLight → ProgramsAreLinked → FramesAreSizesOfTrees →

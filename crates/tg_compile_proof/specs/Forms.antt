@@ -7,7 +7,7 @@ use Rattle.tg_simulation.specs.Runs.{Run}
 use Rattle.tg_simulation.specs.Ran.{Ran}
 use Rattle.tg_tree.specs.declared.fragments.Literal.{Literal}
 use Rattle.tg_tree.specs.Tree.{Ts, Linear, Function, Code}
-use Rattle.tg_tree.specs.Plain.{plain_literal}
+use Rattle.tg_tree.specs.glue.Plain.{plain_literal}
 use Rattle.tg_tree.specs.Units.{Trees}
 use Rattle.tg_tree.specs.Running.{tree_run}
 use Rattle.tg_tree.specs.Flat.{flat_run}
@@ -16,13 +16,13 @@ use Rattle.tg_instr.specs.declared.instr.Instr.{Instr}
 use Rattle.tg_instr.specs.declared.codes.Allocated.{Allocated}
 use Rattle.tg_instr.specs.Lengths.{most_words}
 use Rattle.tg_instr.specs.Running.{everywhere, code_run}
-use Rattle.tg_munch_proof.specs.Chosen.{chosen_code}
+use Rattle.tg_munch_proof.specs.laws.Chosen.{chosen_code}
 use Rattle.tg_irc.specs.Policies.{Rule}
 use Rattle.tg_regalloc.specs.declared.allocations.Allocation.{Allocation}
 use Rattle.tg_regalloc.specs.Allocations.{codes_of}
 use Rattle.tg_emit_laws.specs.Programs.{IsWholeProgram, AreTyped}
 use Rattle.tg_compile.specs.Compiling.{CompileFunctions}
-use Rattle.tg_emit_proof.specs.Emission.{sizes_of, registers_run, emitted_image, assembled_run}
+use Rattle.tg_emit_proof.specs.laws.Emission.{sizes_of, registers_run, emitted_image, assembled_run}
 
 -- A program of trees, with an allocation for each function by a policy's rule, and its literals.
 pub record Compilation : Type 0 where

@@ -1,5 +1,3 @@
 pub mod Builds
-pub mod TextLaws
-pub mod Lowering
 pub mod Forms
-pub mod Laws
+pub mod laws

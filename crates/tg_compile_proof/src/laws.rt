@@ -1,4 +1,4 @@
-ghost use Rattle.tg_compile_proof.specs.Laws.{
+ghost use Rattle.tg_compile_proof.specs.laws.Laws.{
   AllocationIsKept,
   ChoiceIsKept,
   CompiledAgrees,
@@ -10,12 +10,12 @@ ghost use Rattle.tg_compile_proof.specs.Laws.{
   ProgramsAreTranslated,
   RuntimeFramesFit,
 };
-ghost use Rattle.tg_compile_proof.specs.Lowering.{
+ghost use Rattle.tg_compile_proof.specs.laws.Lowering.{
   FlatCodeMayBeChosen,
   LoweringIsCorrect,
   LoweringKeepsWords,
 };
-ghost use Rattle.tg_compile_proof.specs.TextLaws.{
+ghost use Rattle.tg_compile_proof.specs.laws.TextLaws.{
   BuildIsCorrect,
   EndedIsMeant,
   ExitsAreWords,

@@ -6,7 +6,7 @@ use Rattle.tg_simulation.specs.Preserving.{Preserves}
 use Rattle.tg_simulation.specs.Agreement.{Source, IsCut, IsSame, Agrees}
 use Rattle.tg_simulation.proofs.Agreeing.{passes_compose, following_agrees, following_fills, agreement_goes_on}
 use Rattle.tg_simulation.proofs.Agreeing.{full_stack_goes_on}
-use Rattle.tg_correct.specs.Laws.{PassesAgree, ArePreserved}
+use Rattle.tg_correct.specs.laws.Laws.{PassesAgree, ArePreserved}
 
 abbrev composed_work : ℕ
 composed_work = 3328

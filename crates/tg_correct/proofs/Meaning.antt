@@ -14,12 +14,12 @@ use Rattle.tg_semantics.specs.Values.{Ending}
 use Rattle.tg_semantics.specs.MachineEnds.{machine_end, as_source}
 use Rattle.tg_semantics.specs.Direct.{evaluate}
 use Rattle.tg_semantics.specs.Passing.{evaluate_passing}
-use Rattle.tg_semantics.specs.Laws.{FormsAgree}
+use Rattle.tg_semantics.specs.laws.Laws.{FormsAgree}
 use Rattle.tg_isa.specs.Runs.{Execution, Progress, Running, Ended, begun, answers, run}
 use Rattle.tg_isa.specs.ImageRuns.{machine_run, IsRunOf}
 use Rattle.tg_isa.specs.ImageRuns.{RunsByFuel, MachineEndsByItsWork}
 use Rattle.tg_correct.specs.Images.{runs_to, DoesAll, EndsAs, IsRunning, IsCutShort, most_steps, RunsAsMeant}
-use Rattle.tg_correct.specs.Laws.{AgreementIsMeant}
+use Rattle.tg_correct.specs.laws.Laws.{AgreementIsMeant}
 
 ended_is : {e f : RunEnd} → ran.Ended e ≡ ran.Ended f → e ≡ f
 ended_is q = cc

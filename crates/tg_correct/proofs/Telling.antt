@@ -10,7 +10,7 @@ use Rattle.tg_semantics.specs.MachineEnds.{machine_end}
 use Rattle.tg_isa.specs.Effects.{step}
 use Rattle.tg_isa.specs.Runs.{Execution, Progress, Running, Ended, proceed, run}
 use Rattle.tg_correct.specs.Images.{EndsAs, IsCutShort, most_steps, RunsAsMeant}
-use Rattle.tg_correct.specs.EndLaws.{TellsMeaning, EndsTellMeaning}
+use Rattle.tg_correct.specs.laws.EndLaws.{TellsMeaning, EndsTellMeaning}
 
 abbrev go_on : ℕ → Progress → Progress
 go_on k (Running v) = run k v

@@ -1,6 +1,5 @@
 pub mod Images
-pub mod EndLaws
-pub mod Laws
 pub mod Sources
 pub mod Assemblies
 pub mod Ends
+pub mod laws

@@ -1,5 +1,5 @@
-ghost use Rattle.tg_correct.specs.EndLaws.{EndsTellMeaning};
-ghost use Rattle.tg_correct.specs.Laws.{AgreementIsMeant, PassesAgree};
+ghost use Rattle.tg_correct.specs.laws.EndLaws.{EndsTellMeaning};
+ghost use Rattle.tg_correct.specs.laws.Laws.{AgreementIsMeant, PassesAgree};
 
 use tg_isa::machine_runs_by_fuel;
 use tg_semantics::forms_agree;

@@ -24,7 +24,7 @@ use Rattle.tg_driver.specs.declared.answers.Answer.TheVariants.{Faulty, Written,
 use Rattle.tg_correct.specs.Assemblies.{IsAsMeant}
 use Rattle.tg_driver.specs.Calls.{Stream, stream_of, Streams, Stays, Untouched, Shelved, IsUnread, Call, Takes, nothing, all, part}
 use Rattle.tg_driver.specs.OfFiles.{OfFile, unreadable, read, OrMemory, unread_answer, HasStarted, StaysBeforeStart, UntouchedBeforeStart}
-use Rattle.tg_driver.specs.Found.{IsRefused}
+use Rattle.tg_driver.specs.glue.Found.{IsRefused}
 use Rattle.tg_driver.specs.Runs.{RunRelation, IsRunOrMemory}
 use Rattle.tg_driver.specs.CheckMode.{IsChecked, ByCheck}
 use Rattle.tg_driver.specs.Writing.{TakesText, TextRelation, IsWritten, ByWriting}
@@ -34,7 +34,7 @@ use Rattle.tg_driver.specs.Endings.{end_status}
 use Rattle.tg_driver.specs.ExecMode.{IsExecuted, ByExec}
 use Rattle.tg_driver.specs.Modes.{InMode, LeavesAlone}
 use Rattle.tg_driver.specs.FormatMode.{IsFormatted, ByFormat}
-use Rattle.tg_driver.specs.Laws.{ReadsFile}
+use Rattle.tg_driver.specs.laws.Laws.{ReadsFile}
 use Rattle.tg_driver.specs.Telling.{IsBeforeStart, IsReported, itself, no_memory}
 use Rattle.tg_driver.specs.Answered.{IsDue, StaysInGen, NoneUnasked, told_runs, usage, asked, Answers}
 use Rattle.tg_driver.specs.Watching.{NoneBeforeEnd}

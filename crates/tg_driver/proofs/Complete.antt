@@ -28,7 +28,8 @@ use Rattle.tg_driver.specs.Modes.{InMode, most_of}
 use Rattle.tg_driver.specs.Statuses.{status_of, line_of}
 use Rattle.tg_driver.specs.Watching.{HasToldRun, if_watched, run_in}
 use Rattle.tg_driver.specs.Answered.{IsDue, told_runs, usage, no_memory, asked, Answers}
-use Rattle.tg_driver.specs.Laws.{HoldsFile, ReadsFile, IsGood, Gives, EndsAsTold, EndsAndTells, IsFaultyOrWritten, EndsGenerated, Settles, settled_runs, IsSettled}
+use Rattle.tg_driver.specs.laws.Laws.{HoldsFile, ReadsFile, IsGood, Gives, EndsAsTold, EndsAndTells, IsFaultyOrWritten, EndsGenerated, Settles, settled_runs}
+use Rattle.tg_driver.specs.laws.Laws.{IsSettled}
 use Rattle.tg_driver.proofs.ExactRuns.{ends_as_told, ends_faultless, exact_reports}
 use Rattle.tg_driver.proofs.Watched.{run_more, exec_more}
 use Rattle.tg_driver.proofs.SourcesOnce.{meant_source, listed_source}

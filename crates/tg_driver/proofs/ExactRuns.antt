@@ -13,7 +13,7 @@ use Rattle.tg_watch.specs.Watching.{Report}
 use Rattle.tg_driver.specs.Calls.{Streams, HasFailed}
 use Rattle.tg_driver.specs.Runs.{RunRelation, HasRun, end_in, world_in, IsExact}
 use Rattle.tg_driver.specs.Watching.{HasToldRun, reports_on}
-use Rattle.tg_driver.specs.Laws.{IsFaultless, EndsAsTold}
+use Rattle.tg_driver.specs.laws.Laws.{IsFaultless, EndsAsTold}
 use Rattle.tg_driver.specs.declared.answers.Answer.TheVariants.{Finished}
 
 -- the outcome, by its parts

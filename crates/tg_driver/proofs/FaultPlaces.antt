@@ -15,7 +15,7 @@ use Rattle.tg_types.specs.Accepted.{finding, at_fault}
 use Rattle.tg_driver.specs.declared.faults.Rule.{Rule}
 use Rattle.tg_correct.specs.Sources.{HasTokens, HasTree}
 use Rattle.tg_driver.specs.Faults.{HasFault, lexical, syntactic, ill_typed}
-use Rattle.tg_driver.specs.Readings.{HasBadTokens, HasBadTypes}
+use Rattle.tg_driver.specs.glue.Readings.{HasBadTokens, HasBadTypes}
 use Rattle.tg_driver.proofs.ProgramsWithin.{AreWithin, tokens_within, type_fault_within, type_fault_small}
 
 -- what was read and what is left are the whole

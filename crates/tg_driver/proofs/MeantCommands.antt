@@ -8,7 +8,7 @@ use Rattle.tg_command.specs.Counts.{IsWithin, GivesCount, heap_limits, stack_lim
 use Rattle.tg_command.specs.Commands.{Asked, Ask}
 use Rattle.tg_correct.specs.Images.{AreSizes}
 use Rattle.tg_correct.specs.Assemblies.{IsAsMeant}
-use Rattle.tg_compile_proof.specs.TextLaws.{EndedIsMeant, RunningIsMeant}
+use Rattle.tg_compile_proof.specs.laws.TextLaws.{EndedIsMeant, RunningIsMeant}
 use Rattle.tg_driver.specs.declared.answers.Answer.{Answer}
 use Rattle.tg_driver.specs.declared.answers.Answer.TheVariants.{Faulty, Written, Unwritten, Finished, OutOfMemory}
 use Rattle.tg_driver.specs.Calls.{Stream, stream_of, HasFailed, Streams, Call, Takes, nothing, all, part}
@@ -19,8 +19,8 @@ use Rattle.tg_driver.specs.RunMode.{IsRun}
 use Rattle.tg_driver.specs.GenMode.{IsGenerated}
 use Rattle.tg_driver.specs.Modes.{InMode, most_of}
 use Rattle.tg_driver.specs.Answered.{told_runs, Answers}
-use Rattle.tg_driver.specs.Laws.{ReadsFile, IsGood, Gives}
-use Rattle.tg_driver.specs.MeantCommands.{BuildsByMeaning, RunsByMeaning, GeneratesByMeaning, ByMeaning, DoesAsMeant}
+use Rattle.tg_driver.specs.laws.Laws.{ReadsFile, IsGood, Gives}
+use Rattle.tg_driver.specs.laws.MeantCommands.{BuildsByMeaning, RunsByMeaning, GeneratesByMeaning, ByMeaning, DoesAsMeant}
 use Rattle.tg_driver.proofs.Complete.{to_text, given, in_its_mode, none_taken, passed, rose_later, write_failed}
 use Rattle.tg_driver.proofs.Watched.{in_mode_more}
 use Rattle.tg_driver.proofs.MeantEnds.{runs_are_meant, generated_are_meant}

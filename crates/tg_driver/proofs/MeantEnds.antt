@@ -22,10 +22,10 @@ use Rattle.tg_machine.specs.Ran.{Stops, still, ended, read_failed, write_failed,
 use Rattle.tg_correct.specs.Images.{AreSizes}
 use Rattle.tg_correct.specs.Ends.{EndIsMeant}
 use Rattle.tg_correct.specs.Assemblies.{IsAsMeant}
-use Rattle.tg_compile_proof.specs.TextLaws.{EndedIsMeant, RunningIsMeant, ExitsAreWords}
+use Rattle.tg_compile_proof.specs.laws.TextLaws.{EndedIsMeant, RunningIsMeant, ExitsAreWords}
 use Rattle.tg_driver.specs.Calls.{Streams}
-use Rattle.tg_driver.specs.MeantEnds.{EndsByMeaning, RunsAreMeant, GeneratedAreMeant, streams_until}
-use Rattle.tg_driver.specs.MeantEnds.{ending_status, StatusesAreMeant}
+use Rattle.tg_driver.specs.laws.MeantEnds.{EndsByMeaning, RunsAreMeant, GeneratedAreMeant, streams_until}
+use Rattle.tg_driver.specs.laws.MeantEnds.{ending_status, StatusesAreMeant}
 use Rattle.tg_driver.specs.Endings.{end_status}
 use Rattle.tg_driver.specs.Runs.{HasRun}
 
@@ -70,7 +70,7 @@ module _ (ends : EndedIsMeant) (goes_on : RunningIsMeant) where
       let same : r.input_before ≡ answers bytes = subst T tells r.told in
       let S : List (Option ℕ) → Type 0 = λ i. Stops steps (begun (initial_machine image.code image.statics image.entry heap stack) i) end r.last r.front in
       let Q : Assembled → Type 0 =
-          λ (i : Assembled). Stops steps (begun (initial_machine i.code i.statics i.entry heap stack) (answers bytes)) end r.last r.front in
+      λ (i : Assembled). Stops steps (begun (initial_machine i.code i.statics i.entry heap stack) (answers bytes)) end r.last r.front in
       let stops = subst Q (one_image assembly (image_of image) m.image assembles m.assembles) (subst S same r.stops) in
       let W : List ℕ → Type 0 = λ w. Appends (s.out.told s.out.before) (s.out.told s.out.after) w in
       let none = no_front steps _ end r.last r.front read written r.stops in

@@ -15,7 +15,7 @@ use Rattle.tg_driver.specs.OfFiles.{HasStarted}
 use Rattle.tg_driver.specs.Calls.{Streams}
 use Rattle.tg_driver.specs.Runs.{RunRelation}
 use Rattle.tg_driver.specs.Watching.{HasToldRun, run_in}
-use Rattle.tg_driver.specs.Laws.{IsFaultless}
+use Rattle.tg_driver.specs.laws.Laws.{IsFaultless}
 use Rattle.tg_driver.specs.CheckMode.{IsChecked}
 use Rattle.tg_driver.specs.Writing.{IsWritable}
 use Rattle.tg_driver.specs.RunMode.{IsRun}

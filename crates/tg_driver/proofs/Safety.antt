@@ -36,11 +36,11 @@ use Rattle.tg_driver.specs.ExecMode.{IsExecuted}
 use Rattle.tg_driver.specs.GenMode.{no_input, summary, IsGenerated}
 use Rattle.tg_driver.specs.FormatMode.{Formats, IsFormatted}
 use Rattle.tg_driver.specs.Modes.{InMode, ReadsNoInput, most_of}
-use Rattle.tg_driver.specs.Laws.{ReadsFile}
+use Rattle.tg_driver.specs.laws.Laws.{ReadsFile}
 use Rattle.tg_driver.specs.Telling.{IsTold}
 use Rattle.tg_driver.specs.Answered.{IsDue, told_runs, usage, no_memory, asked, Answers}
-use Rattle.tg_driver.specs.Safe.{LeavesUnread, IsFileUnread, IsImageOf, IsOutput, HasToWrite, WritesFront}
-use Rattle.tg_driver.specs.Safe.{IsCausedEnd, IsCaused, IsExit, SomeFailed, IsSafe}
+use Rattle.tg_driver.specs.laws.Safe.{LeavesUnread, IsFileUnread, IsImageOf, IsOutput, HasToWrite, WritesFront}
+use Rattle.tg_driver.specs.laws.Safe.{IsCausedEnd, IsCaused, IsExit, SomeFailed, IsSafe}
 use Rattle.tg_driver.proofs.AnswerLemmas.{left_alone, stays_in_gen}
 use Rattle.tg_driver.proofs.Watched.{due_more}
 use Rattle.tg_driver.proofs.Complete.{none_taken, rose_later, no_read, Summed, cut, summed, summed_by}

@@ -14,19 +14,19 @@ use Rattle.tg_types.proofs.NeverStuck.{accepted_never_stuck}
 use Rattle.tg_irc.specs.Policies.{Rule as SpillRule}
 use Rattle.tg_regalloc.specs.declared.allocations.Allocation.{Allocation}
 use Rattle.tg_regalloc_listing.specs.Listing.{listed}
-use Rattle.tg_literal_bounds.specs.Laws.{StaticsFitSegment}
+use Rattle.tg_literal_bounds.specs.laws.Laws.{StaticsFitSegment}
 use Rattle.tg_compile.specs.Compiling.{LiteralsFit, findings_of, Compiles, HasImage}
-use Rattle.tg_driver.specs.Meanings.{SourcesAreNeverStuck}
+use Rattle.tg_driver.specs.laws.Meanings.{SourcesAreNeverStuck}
 use Rattle.tg_correct.specs.Sources.{IsSource, IsSourceOf}
 use Rattle.tg_correct.specs.Assemblies.{IsAsMeant}
 use Rattle.tg_compile_proof.specs.Builds.{CompilesTo}
-use Rattle.tg_compile_proof.specs.TextLaws.{BuildIsCorrect}
+use Rattle.tg_compile_proof.specs.laws.TextLaws.{BuildIsCorrect}
 use Rattle.tg_compile_proof.proofs.Building as built
 use Rattle.tg_driver.specs.AllocMode.{Lists}
 use Rattle.tg_driver.specs.declared.writing.Wanted.{Wanted}
 use Rattle.tg_driver.specs.declared.writing.Wanted.TheVariants.{Assembly, Allocations}
-use Rattle.tg_driver.specs.Texts.{wanted_text, writes_of}
-use Rattle.tg_driver.specs.Readings.{HasNamedTree, IsTypeFaultOf}
+use Rattle.tg_driver.specs.glue.Texts.{wanted_text, writes_of}
+use Rattle.tg_driver.specs.glue.Readings.{HasNamedTree, IsTypeFaultOf}
 use Rattle.tg_compile.proofs.Chain.{compiled_has_image}
 
 pub names_within : (text : List ℕ) (names : List (List ℕ)) (program : Exp) → HasNamedTree text names program → NamesWithin (length names) program

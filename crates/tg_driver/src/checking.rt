@@ -1,11 +1,11 @@
 ghost use Rattle.std.specs.Prelude.{◌≡◌, ⊤};
-ghost use Rattle.tg_syntax.specs.Plain.{plain};
+ghost use Rattle.tg_syntax.specs.glue.Plain.{plain};
 ghost use Rattle.tg_command.specs.Commands.{asked_of};
 ghost use Rattle.tg_driver.specs.Calls.{shelf_of};
 ghost use Rattle.tg_driver.specs.CheckMode.{IsChecked};
-ghost use Rattle.tg_driver.specs.Found.{IsRefused};
 ghost use Rattle.tg_driver.specs.OfFiles.{OfFile, OrMemory};
-ghost use Rattle.tg_driver.specs.Readings.{HasNamedTree, IsRefusalOf};
+ghost use Rattle.tg_driver.specs.glue.Found.{IsRefused};
+ghost use Rattle.tg_driver.specs.glue.Readings.{HasNamedTree, IsRefusalOf};
 
 use crate::answers::{Answer, unread};
 use crate::faults::{Fault, Rule};

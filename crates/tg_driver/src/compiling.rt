@@ -1,8 +1,8 @@
 ghost use Rattle.std.specs.Prelude.{◌≡◌, ℕ, List, IfOk};
-ghost use Rattle.tg_syntax.specs.Plain.{plain};
+ghost use Rattle.tg_syntax.specs.glue.Plain.{plain};
 ghost use Rattle.tg_compile_proof.specs.Builds.{CompilesTo};
 ghost use Rattle.tg_correct.specs.Sources.{IsSource};
-ghost use Rattle.tg_driver.specs.Readings.{HasNamedTree, IsCompiled};
+ghost use Rattle.tg_driver.specs.glue.Readings.{HasNamedTree, IsCompiled};
 
 use crate::faults::Rule;
 use crate::reading::{NamedProgram, ill_typed, parse_source};

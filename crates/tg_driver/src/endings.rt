@@ -7,7 +7,7 @@ ghost use Rattle.tg_driver.specs.Endings.{
   end_status,
 };
 ghost use Rattle.tg_watch.specs.Words.{word_in_hex};
-ghost use Rattle.tg_driver.specs.Plainly.{IsPlain, IsOwnBreak};
+ghost use Rattle.tg_driver.specs.glue.Plainly.{IsPlain, IsOwnBreak};
 
 use tg_base::{Failed, Sink, write_all};
 use tg_state::RunEnd;

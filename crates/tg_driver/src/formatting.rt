@@ -3,7 +3,7 @@ ghost use Rattle.tg_command.specs.Commands.{asked_of};
 ghost use Rattle.tg_driver.specs.Calls.{shelf_of, stream_of};
 ghost use Rattle.tg_driver.specs.FormatMode.{Formats, IsFormatted, IsRefusedUntyped};
 ghost use Rattle.tg_driver.specs.OfFiles.{OfFile, OrMemory, StaysBeforeStart};
-ghost use Rattle.tg_driver.specs.Readings.{IsUntypedRefusalOf};
+ghost use Rattle.tg_driver.specs.glue.Readings.{IsUntypedRefusalOf};
 
 use crate::answers::{Answer, unread};
 use crate::checking::refused;

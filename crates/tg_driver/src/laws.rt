@@ -9,15 +9,15 @@ ghost use Rattle.tg_driver.specs.Answered.{Answers};
 ghost use Rattle.tg_driver.specs.Calls.{Call, Stream, Streams};
 ghost use Rattle.tg_driver.specs.ExecMode.{IsExecuted};
 ghost use Rattle.tg_driver.specs.FormatMode.{Formats, IsFormatted, TakeOneText};
-ghost use Rattle.tg_driver.specs.Laws.{Gives, IsFaultless, IsGood, IsSettled};
-ghost use Rattle.tg_driver.specs.Meanings.{SourcesAreNeverStuck};
-ghost use Rattle.tg_driver.specs.MeantCommands.{DoesAsMeant};
-ghost use Rattle.tg_driver.specs.MeantEnds.{GeneratedAreMeant, RunsAreMeant, StatusesAreMeant};
 ghost use Rattle.tg_driver.specs.Modes.{IsDueOfText, most_of};
 ghost use Rattle.tg_driver.specs.OfFiles.{HasStarted};
 ghost use Rattle.tg_driver.specs.Runs.{HasRun, IsExact};
-ghost use Rattle.tg_driver.specs.Safe.{IsSafe};
 ghost use Rattle.tg_driver.specs.Watching.{HasToldRun, reports_on};
+ghost use Rattle.tg_driver.specs.laws.Laws.{Gives, IsFaultless, IsGood, IsSettled};
+ghost use Rattle.tg_driver.specs.laws.Meanings.{SourcesAreNeverStuck};
+ghost use Rattle.tg_driver.specs.laws.MeantCommands.{DoesAsMeant};
+ghost use Rattle.tg_driver.specs.laws.MeantEnds.{GeneratedAreMeant, RunsAreMeant, StatusesAreMeant};
+ghost use Rattle.tg_driver.specs.laws.Safe.{IsSafe};
 
 use tg_compile_proof::{ends_are_as_meant, exits_are_words};
 

@@ -1,6 +1,6 @@
 ghost use Rattle.std.specs.Prelude.{ℕ, List};
 ghost use Rattle.tg_correct.specs.Sources.{HasTokens};
-ghost use Rattle.tg_driver.specs.Readings.{
+ghost use Rattle.tg_driver.specs.glue.Readings.{
   IsLexFaultOf,
   IsLexed,
   IsParsed,

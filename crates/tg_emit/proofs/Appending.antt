@@ -6,8 +6,8 @@ use Rattle.tg_tree.specs.declared.fragments.Literal.{Literal}
 use Rattle.tg_instr.specs.declared.instr.Instr.{Instr}
 use Rattle.tg_instr.specs.declared.codes.Allocated.{Allocated}
 use Rattle.tg_emit.specs.declared.assembly.Line.{Line}
-use Rattle.tg_emit.specs.Lines.{instruction_lines, code_lines, function_lines, functions_lines, literal_lines, literals_lines, words_of, words}
-use Rattle.tg_emit.specs.Text.{further_numbers}
+use Rattle.tg_emit.specs.mirror.Lines.{instruction_lines, code_lines, function_lines, functions_lines, literal_lines, literals_lines, words_of, words}
+use Rattle.tg_emit.specs.mirror.Text.{further_numbers}
 use Rattle.std.specs.Fmt.{decimal}
 
 -- a list that was made for a prefix of the parts, and then for one part more

@@ -8,8 +8,8 @@ use Rattle.tg_instr.specs.declared.operands.Opnd.TheVariants.{Reg}
 use Rattle.tg_instr.specs.declared.instr.Instr.{Instr}
 use Rattle.tg_instr.specs.declared.instr.Instr.TheVariants.{Addiu, FrameLoad, FrameStore, FrameAddress, Address, Mark, Jump, Branch, Call, Return, Move}
 use Rattle.tg_emit.specs.declared.assembly.Line.TheVariants.{Label, One, La, Statics}
-use Rattle.tg_emit.specs.Lines.{alone, entry, load_at, store_at, code_lines, words}
-use Rattle.tg_emit.specs.Text.{text_of}
+use Rattle.tg_emit.specs.mirror.Lines.{alone, entry, load_at, store_at, code_lines, words}
+use Rattle.tg_emit.specs.mirror.Text.{text_of}
 
 -- a slot beyond the reach of a field: $at gets 65536 and $sp, and the field is -25536
 far_slot : load_at 8 40000 ≡ alone (row.Lui 1 1) ∷ alone (row.Addu 1 1 29) ∷ alone (row.Lw 8 40000 1) ∷ []

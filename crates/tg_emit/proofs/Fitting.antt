@@ -11,9 +11,9 @@ use Rattle.tg_instr.proofs.Tests.{left_holds, right_holds, both_hold}
 use Rattle.tg_emit.specs.Conditions.{fits_frame}
 use Rattle.std.specs.Prelude.{Some, Result, Ok, Err, OnOk}
 use Rattle.tg_isa.specs.declared.mips.Mips.{Mips}
-use Rattle.tg_emit.specs.Lines.{size_of, alone, row_lines, instruction_lines}
 use Rattle.tg_emit.specs.Ranges.{NumbersFit}
-use Rattle.tg_emit.specs.Rows.{row_of}
+use Rattle.tg_emit.specs.mirror.Lines.{size_of, alone, row_lines, instruction_lines}
+use Rattle.tg_emit.specs.mirror.Rows.{row_of}
 
 fits_one : (slots size : ℕ) → 4 * slots ≤ size → (one : Instr) → IsTrue (has_slots_below slots one) → IsTrue (fits_frame size one)
 fits_one slots size h (FrameLoad to k) below = grind (arith, nat_tests)

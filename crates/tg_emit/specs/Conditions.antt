@@ -8,7 +8,7 @@ use Rattle.tg_instr.specs.declared.instr.Instr.TheVariants.{Fault, FrameLoad, Fr
 use Rattle.tg_instr.specs.declared.codes.Allocated.{Allocated}
 use Rattle.tg_emit.specs.declared.assembly.Line.{Line}
 use Rattle.tg_emit.specs.declared.assembly.Line.TheVariants.{Label, One, La, Statics}
-use Rattle.tg_emit.specs.Lines.{size_of}
+use Rattle.tg_emit.specs.mirror.Lines.{size_of}
 
 -- the code of a `break` has 20 bits
 abbrev pub has_code : Instr → Bool

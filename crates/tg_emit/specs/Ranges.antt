@@ -6,7 +6,7 @@ use Rattle.tg_instr.specs.declared.instr.Instr.{Instr}
 use Rattle.tg_instr.specs.declared.instr.Instr.TheVariants.{FrameLoad, FrameStore, FrameAddress}
 use Rattle.tg_instr.specs.declared.instr.Instr.TheVariants.{Address, Mark, Jump, Branch, Call}
 use Rattle.tg_instr.specs.declared.codes.Allocated.{Allocated}
-use Rattle.tg_emit.specs.Rows.{register_of, row_of}
+use Rattle.tg_emit.specs.mirror.Rows.{register_of, row_of}
 
 -- the fields of an instruction that is a row
 abbrev pub RowFits : Instr → Type 0

@@ -2,9 +2,14 @@ ghost use Rattle.std.specs.Prelude.{◌≡◌, ◌<◌, ◌^◌, ◌++◌, IsTru
 ghost use Rattle.tg_emit.specs.Conditions.{has_code, fits_frame, is_emittable};
 ghost use Rattle.std.specs.List.{All, list_all};
 ghost use Rattle.tg_emit.specs.Ranges.{FunctionFits, InstructionFits, NumbersFit, RowFits};
-ghost use Rattle.tg_emit.specs.Lines.{branch_lines, code_lines, function_lines, instruction_lines};
-ghost use Rattle.tg_emit.specs.Names.{mark_name, behind_name};
-ghost use Rattle.tg_emit.specs.Rows.{branch_of, opposite_branch_of, register_of};
+ghost use Rattle.tg_emit.specs.mirror.Lines.{
+  branch_lines,
+  code_lines,
+  function_lines,
+  instruction_lines,
+};
+ghost use Rattle.tg_emit.specs.mirror.Names.{mark_name, behind_name};
+ghost use Rattle.tg_emit.specs.mirror.Rows.{branch_of, opposite_branch_of, register_of};
 
 use crate::assembly::Line;
 use crate::frames::{above_stack, alone, entry, load, push, size, slot_offset, store};

@@ -1,6 +1,6 @@
 ghost use Rattle.std.specs.Prelude.{◌≡◌, ◌<◌, ◌≤◌, ◌^◌, ◌++◌, ◌∷◌, [], ◌+◌, ◌*◌, ◌/◌, OnOk};
 ghost use Rattle.tg_isa.specs.declared.mips.Mips.TheVariants.{Lui, Addu};
-ghost use Rattle.tg_emit.specs.Lines.{
+ghost use Rattle.tg_emit.specs.mirror.Lines.{
   alone as alone_line,
   in_at,
   above_stack as lines_above_stack,

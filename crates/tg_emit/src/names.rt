@@ -1,6 +1,6 @@
 ghost use Rattle.std.specs.Prelude.{◌≡◌, IfOk, OnOk, ◌++◌, codes, ◌<◌, ◌^◌};
 ghost use Rattle.std.specs.Fmt.{decimal};
-ghost use Rattle.tg_emit.specs.Names.{function_name, mark_name, behind_name, literal_name};
+ghost use Rattle.tg_emit.specs.mirror.Names.{function_name, mark_name, behind_name, literal_name};
 
 use itoa::Buffer;
 use std::alloc::Global;

@@ -1,6 +1,6 @@
 ghost use Rattle.std.specs.Prelude.{◌≡◌, ◌<◌, ◌^◌};
 ghost use Rattle.tg_emit.specs.Ranges.{RowFits};
-ghost use Rattle.tg_emit.specs.Rows.{
+ghost use Rattle.tg_emit.specs.mirror.Rows.{
   register_of,
   row_of,
   branch_of,

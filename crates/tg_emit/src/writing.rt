@@ -4,7 +4,7 @@ ghost use Rattle.tg_asm_text.specs.Operands.{is_label};
 ghost use Rattle.tg_asm_text.specs.Writing.{takes_label, line_of};
 ghost use Rattle.tg_emit.specs.declared.assembly.Line.TheVariants.{Label};
 ghost use Rattle.tg_emit.specs.Conditions.{has_labels};
-ghost use Rattle.tg_emit.specs.Text.{
+ghost use Rattle.tg_emit.specs.mirror.Text.{
   bytes_text,
   further_numbers,
   is_in_statics,

@@ -13,7 +13,7 @@ use Rattle.tg_asm_text.specs.Placement.{Positions, AtWord, positions_from, label
 use Rattle.tg_asm_text.specs.Texts as texts
 use Rattle.tg_emit.specs.declared.assembly.Line.{Line}
 use Rattle.tg_emit.specs.declared.assembly.Line.TheVariants.{Label, One, La, Statics}
-use Rattle.tg_emit.specs.Lines.{words}
+use Rattle.tg_emit.specs.mirror.Lines.{words}
 use Rattle.tg_emit_laws.specs.Images.{written_line, IsCode, AreCode}
 use Rattle.tg_emit_laws.proofs.Apart.{names_of}
 

@@ -11,7 +11,7 @@ use Rattle.tg_instr.specs.declared.operands.Opnd.TheVariants.{Reg}
 use Rattle.tg_instr.specs.declared.instr.Instr.{Instr}
 use Rattle.tg_instr.specs.declared.instr.Instr.TheVariants.{Addiu, Address, Mark, Jump, Branch, Call, Return}
 use Rattle.tg_tree.specs.declared.fragments.Literal.{Literal}
-use Rattle.tg_emit.specs.Lines.{entry, code_lines}
+use Rattle.tg_emit.specs.mirror.Lines.{entry, code_lines}
 use Rattle.tg_emit_laws.specs.Programs.{labels_differ, is_among, names_those, bytes_of}
 use Rattle.tg_emit_laws.specs.Images.{written_line, statics_written}
 

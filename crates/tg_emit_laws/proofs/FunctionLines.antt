@@ -15,10 +15,10 @@ use Rattle.tg_instr.specs.Codes.{is_mark, leads_to_marks, is_end, ends_well}
 use Rattle.tg_instr.proofs.Tests.{left_holds, right_holds}
 use Rattle.tg_emit.specs.declared.assembly.Line.{Line}
 use Rattle.tg_emit.specs.declared.assembly.Line.TheVariants.{Label}
-use Rattle.tg_emit.specs.Names.{function_name, mark_name}
+use Rattle.tg_emit.specs.mirror.Names.{function_name, mark_name}
 use Rattle.tg_emit.specs.Ranges.{InstructionFits, FunctionFits}
 use Rattle.tg_emit.specs.Conditions.{has_code, is_emittable}
-use Rattle.tg_emit.specs.Lines.{alone, lowered, size_of, instruction_lines, code_lines, function_lines, words}
+use Rattle.tg_emit.specs.mirror.Lines.{alone, lowered, size_of, instruction_lines, code_lines, function_lines, words}
 use Rattle.tg_emit_laws.specs.Programs.{names_those, calls_those}
 use Rattle.tg_emit_laws.proofs.NameTexts.{function_label}
 use Rattle.tg_emit_laws.proofs.Apart.{Stands, stands_left, stands_right, each_append}

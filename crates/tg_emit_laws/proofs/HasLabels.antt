@@ -10,8 +10,8 @@ use Rattle.tg_instr.proofs.Tests.{both_hold, all_append}
 use Rattle.tg_emit.specs.declared.assembly.Line.{Line}
 use Rattle.tg_emit.specs.declared.assembly.Line.TheVariants.{Label, One, La, Statics}
 use Rattle.tg_emit.specs.Conditions.{has_labels, only_if}
-use Rattle.tg_emit.specs.Lines.{functions_lines, literals_lines, is_long}
 use Rattle.tg_emit.specs.Ranges.{FunctionFits, LiteralFits}
+use Rattle.tg_emit.specs.mirror.Lines.{functions_lines, literals_lines, is_long}
 use Rattle.tg_emit_laws.specs.Images.{EmittedHasLabels, IsCode, AreCode}
 use Rattle.tg_emit_laws.proofs.NameTexts.{literal_label}
 use Rattle.tg_emit_laws.proofs.ProgramLines.{all_emitted, code_of_functions}

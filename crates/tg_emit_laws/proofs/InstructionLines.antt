@@ -16,11 +16,11 @@ use Rattle.tg_instr.specs.declared.instr.Test.{Test}
 use Rattle.tg_instr.specs.declared.instr.Instr.TheVariants.{Address, Mark, Jump, Branch, Call, Fault, Return}
 use Rattle.tg_instr.specs.Codes.{is_mark, leads_to_marks, is_end}
 use Rattle.tg_emit.specs.declared.assembly.Line.TheVariants.{Label}
-use Rattle.tg_emit.specs.Names.{function_name, mark_name, behind_name, literal_name}
-use Rattle.tg_emit.specs.Rows.{register_of, branch_on, branch_of, opposite_branch_of}
+use Rattle.tg_emit.specs.mirror.Names.{function_name, mark_name, behind_name, literal_name}
+use Rattle.tg_emit.specs.mirror.Rows.{register_of, branch_on, branch_of, opposite_branch_of}
 use Rattle.tg_emit.specs.Ranges.{InstructionFits}
 use Rattle.tg_emit.specs.Conditions.{has_code}
-use Rattle.tg_emit.specs.Lines.{alone, above_stack, branch_lines, instruction_lines, words}
+use Rattle.tg_emit.specs.mirror.Lines.{alone, above_stack, branch_lines, instruction_lines, words}
 use Rattle.tg_emit_laws.specs.Programs.{is_among, names_those}
 use Rattle.tg_emit_laws.proofs.NameTexts.{function_label, mark_label, behind_label, literal_label}
 use Rattle.tg_emit_laws.proofs.Apart.{Stands}

@@ -10,9 +10,9 @@ use Rattle.tg_instr.specs.declared.instr.Instr.TheVariants.{Mark, Branch}
 use Rattle.tg_instr.specs.declared.codes.Allocated.{Allocated}
 use Rattle.tg_instr.specs.Codes.{is_mark, marks_differ}
 use Rattle.tg_instr.proofs.Tests.{left_holds, right_holds}
-use Rattle.tg_emit.specs.Names.{function_name, literal_name}
+use Rattle.tg_emit.specs.mirror.Names.{function_name, literal_name}
 use Rattle.tg_emit.specs.Ranges.{InstructionFits, LiteralFits}
-use Rattle.tg_emit.specs.Lines.{function_lines, functions_lines}
+use Rattle.tg_emit.specs.mirror.Lines.{function_lines, functions_lines}
 use Rattle.tg_emit_laws.specs.Programs.{function_labels, literal_labels, is_among, labels_differ}
 use Rattle.tg_emit_laws.proofs.NameTexts.{not_same, first_byte, is_separator, same_parts, mark_tails, behind_tails, literal_differ, literal_apart}
 use Rattle.tg_emit_laws.proofs.Apart.{Differ, Apart, each_append, each_weaker, each_map, differ_append, apart_by, differ_behind}

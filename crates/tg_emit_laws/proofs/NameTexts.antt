@@ -7,7 +7,7 @@ use Rattle.std.proofs.lemmas.Bool.Decides.{nat_tests}
 use Rattle.tg_asm_text.specs.Lines.{front, back, is_in_range, begins_label, is_past_label}
 use Rattle.tg_asm_text.specs.Operands.{is_label}
 use Rattle.tg_asm_text.proofs.WordCuts.{none_of, begins, none_append, none_cons, first_not, rest_not, front_until, back_until}
-use Rattle.tg_emit.specs.Names.{function_name, mark_name, behind_name, literal_name}
+use Rattle.tg_emit.specs.mirror.Names.{function_name, mark_name, behind_name, literal_name}
 
 -- decimal digits
 abbrev is_past_digits : ℕ → Bool

@@ -13,10 +13,10 @@ use Rattle.tg_instr.specs.declared.instr.Instr.{Instr}
 use Rattle.tg_instr.specs.declared.instr.Instr.TheVariants.{FrameLoad, FrameStore, FrameAddress, Address, Mark, Jump, Branch, Call, Fault, Return}
 use Rattle.tg_emit.specs.declared.assembly.Line.{Line}
 use Rattle.tg_emit.specs.declared.assembly.Line.TheVariants.{Label, One, La, Statics}
-use Rattle.tg_emit.specs.Rows.{register_of, row_of}
+use Rattle.tg_emit.specs.mirror.Rows.{register_of, row_of}
 use Rattle.tg_emit.specs.Ranges.{InstructionFits}
 use Rattle.tg_emit.specs.Conditions.{has_code}
-use Rattle.tg_emit.specs.Lines.{alone, in_at, above_stack, lowered, load_at, store_at, slot_offset, row_lines, instruction_lines}
+use Rattle.tg_emit.specs.mirror.Lines.{alone, in_at, above_stack, lowered, load_at, store_at, slot_offset, row_lines, instruction_lines}
 use Rattle.tg_emit_laws.specs.Images.{AreCode}
 use Rattle.tg_emit_laws.proofs.CodeLines.{coded_in, given_in}
 use Rattle.tg_emit_laws.proofs.Apart.{each_append}

@@ -5,10 +5,10 @@ use Rattle.std.specs.List.{AllByRecursion, list_all}
 use Rattle.tg_asm_text.specs.Placement.{Positions, WordsReach}
 use Rattle.tg_instr.specs.declared.codes.Allocated.{Allocated}
 use Rattle.tg_instr.proofs.Tests.{left_holds, right_holds}
-use Rattle.tg_emit.specs.Names.{function_name}
+use Rattle.tg_emit.specs.mirror.Names.{function_name}
 use Rattle.tg_emit.specs.Ranges.{FunctionFits}
 use Rattle.tg_emit.specs.Conditions.{is_emittable}
-use Rattle.tg_emit.specs.Lines.{function_lines, functions_lines, words}
+use Rattle.tg_emit.specs.mirror.Lines.{function_lines, functions_lines, words}
 use Rattle.tg_emit_laws.specs.Programs.{function_labels, is_among, calls_those}
 use Rattle.tg_emit_laws.proofs.Apart.{each_append}
 use Rattle.tg_emit_laws.specs.Images.{IsCode, AreCode}

@@ -17,9 +17,9 @@ use Rattle.tg_asm_text.proofs.TextLines.{lines_have_image}
 use Rattle.tg_tree.specs.declared.fragments.Literal.{Literal}
 use Rattle.tg_instr.specs.declared.codes.Allocated.{Allocated}
 use Rattle.tg_emit.specs.declared.assembly.Line.{Line}
-use Rattle.tg_emit.specs.Names.{function_name, literal_name}
+use Rattle.tg_emit.specs.mirror.Names.{function_name, literal_name}
 use Rattle.tg_emit.specs.Ranges.{FunctionFits, LiteralFits}
-use Rattle.tg_emit.specs.Lines.{function_lines, functions_lines, is_long, words}
+use Rattle.tg_emit.specs.mirror.Lines.{function_lines, functions_lines, is_long, words}
 use Rattle.tg_emit_laws.specs.Programs.{function_labels, literal_labels, is_among, bytes_of, IsWholeProgram, AreTyped}
 use Rattle.tg_emit_laws.specs.Images.{statics_written, program_written, words_before, AreCode, ProgramIsCode, ProgramIsSound}
 use Rattle.tg_emit_laws.specs.Images.{ProgramHasImage, ProgramEntersBody}

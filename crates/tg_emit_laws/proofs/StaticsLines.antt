@@ -12,8 +12,8 @@ use Rattle.tg_asm_text.specs.Placement.{Position, Positions, positions_from, nex
 use Rattle.tg_asm_text.specs.Placement.{last_byte, DataStand, ItemsStand}
 use Rattle.tg_asm_text.specs.Texts as texts
 use Rattle.tg_tree.specs.declared.fragments.Literal.{Literal}
-use Rattle.tg_emit.specs.Names.{literal_name}
 use Rattle.tg_emit.specs.Ranges.{LiteralFits}
+use Rattle.tg_emit.specs.mirror.Names.{literal_name}
 use Rattle.tg_emit_laws.specs.Programs.{bytes_of}
 use Rattle.tg_emit_laws.specs.Images.{bytes_line, literals_written, statics_written}
 use Rattle.tg_emit_laws.proofs.NameTexts.{literal_label}

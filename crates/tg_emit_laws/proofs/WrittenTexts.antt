@@ -11,9 +11,9 @@ use Rattle.tg_tree.specs.declared.fragments.Literal.{Literal}
 use Rattle.tg_instr.specs.declared.codes.Allocated.{Allocated}
 use Rattle.tg_emit.specs.declared.assembly.Line.{Line}
 use Rattle.tg_emit.specs.declared.assembly.Line.TheVariants.{Label, One, La, Statics}
-use Rattle.tg_emit.specs.Names.{literal_name}
-use Rattle.tg_emit.specs.Lines.{literals_lines, functions_lines, assembly_of, is_long}
-use Rattle.tg_emit.specs.Text.{further_numbers, bytes_text, line_text, is_in_statics, switched, lines_text, text_of}
+use Rattle.tg_emit.specs.mirror.Names.{literal_name}
+use Rattle.tg_emit.specs.mirror.Lines.{literals_lines, functions_lines, assembly_of, is_long}
+use Rattle.tg_emit.specs.mirror.Text.{further_numbers, bytes_text, line_text, is_in_statics, switched, lines_text, text_of}
 use Rattle.tg_emit_laws.specs.Images.{bytes_line, written_line, literals_written, statics_written, program_written, IsCode, AreCode}
 
 further_same : (bytes : List ℕ) → further_numbers bytes ≡ further (map decimal bytes)

@@ -14,9 +14,9 @@ use Rattle.tg_tree.specs.declared.fragments.Literal.{Literal}
 use Rattle.tg_instr.specs.declared.codes.Allocated.{Allocated}
 use Rattle.tg_emit.specs.declared.assembly.Line.{Line}
 use Rattle.tg_emit.specs.declared.assembly.Line.TheVariants.{Label, One, La, Statics}
-use Rattle.tg_emit.specs.Names.{literal_name}
-use Rattle.tg_emit.specs.Lines.{words, function_lines, functions_lines, is_long, assembly_of}
-use Rattle.tg_emit.specs.Text.{text_of}
+use Rattle.tg_emit.specs.mirror.Names.{literal_name}
+use Rattle.tg_emit.specs.mirror.Lines.{words, function_lines, functions_lines, is_long, assembly_of}
+use Rattle.tg_emit.specs.mirror.Text.{text_of}
 use Rattle.tg_emit.specs.Conditions.{has_labels, is_emittable}
 use Rattle.tg_emit_laws.specs.Programs.{IsWholeProgram, AreTyped}
 

@@ -8,8 +8,8 @@ use Rattle.tg_instr.specs.declared.instr.Instr.{Instr}
 use Rattle.tg_instr.specs.declared.instr.Instr.TheVariants.{Address, Call}
 use Rattle.tg_instr.specs.declared.codes.Allocated.{Allocated}
 use Rattle.tg_emit.specs.Conditions.{is_emittable}
-use Rattle.tg_emit.specs.Lines.{words, functions_lines, is_long}
 use Rattle.tg_emit.specs.Ranges.{FunctionFits, LiteralFits}
+use Rattle.tg_emit.specs.mirror.Lines.{words, functions_lines, is_long}
 
 abbrev pub function_labels : List Allocated → List ℕ
 function_labels [] = []

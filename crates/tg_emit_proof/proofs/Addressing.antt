@@ -6,7 +6,7 @@ use Rattle.tg_base.specs.Words.{add}
 use Rattle.tg_state.specs.State.{MachineState, register, set_register, statics_base}
 use Rattle.tg_state.specs.Services as machine_does
 use Rattle.tg_simulation.specs.Ran.{Wrong, stops, works}
-use Rattle.tg_simulation.specs.Simulating.{Comes}
+use Rattle.tg_simulation.specs.laws.Simulating.{Comes}
 use Rattle.tg_simulation.proofs.Simulations.{simulates_wrong, comes_on}
 use Rattle.tg_isa.specs.declared.mips.Mips.TheVariants as row
 use Rattle.tg_tree.specs.Memory.{literal_address}
@@ -19,12 +19,12 @@ use Rattle.tg_instr.specs.declared.instr.Instr.TheVariants as instr
 use Rattle.tg_instr.specs.Shapes.{Operand}
 use Rattle.tg_instr.specs.Contents.{Word, set}
 use Rattle.tg_instr.proofs.Tests.{left_holds}
-use Rattle.tg_emit.specs.Names.{literal_name}
-use Rattle.tg_emit.specs.Lines.{alone}
+use Rattle.tg_emit.specs.mirror.Names.{literal_name}
+use Rattle.tg_emit.specs.mirror.Lines.{alone}
 use Rattle.tg_instr.specs.Codes.{is_allocated}
 use Rattle.tg_emit_proof.specs.LinesRun.{address_from, goes_halfway}
 use Rattle.tg_emit_proof.specs.Setting.{Setting, from}
-use Rattle.tg_emit_proof.specs.Situation.{onward, LinesFollow, InstructionGoesOn}
+use Rattle.tg_emit_proof.specs.glue.Situation.{onward, LinesFollow, InstructionGoesOn}
 use Rattle.tg_emit_proof.proofs.Basics.{no_true}
 use Rattle.tg_emit_proof.proofs.Each.{fits_here}
 use Rattle.tg_emit_proof.proofs.Registers.{sizes_stay, memory_stays, with_number, numbered}

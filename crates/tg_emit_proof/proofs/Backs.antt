@@ -6,9 +6,9 @@ use Rattle.tg_isa.specs.declared.mips.Mips.TheVariants as row
 use Rattle.tg_emit.specs.declared.assembly.Line.{Line}
 use Rattle.tg_emit.specs.declared.assembly.Line.TheVariants.{Label, One, La, Statics}
 use Rattle.tg_emit_proof.specs.LinesRun.{Returns, behind_call, calls, left, at_zero}
-use Rattle.tg_emit_proof.specs.Laws.{AreReturns}
+use Rattle.tg_emit_proof.specs.laws.Laws.{AreReturns}
 use Rattle.tg_emit_proof.specs.Setting.{Setting}
-use Rattle.tg_emit_proof.specs.Standing.{CallsComeBack}
+use Rattle.tg_emit_proof.specs.glue.Standing.{CallsComeBack}
 use Rattle.tg_emit_proof.proofs.Basics.{same_number}
 
 module _ (n : ℕ) (returns : Returns) (are : AreReturns n returns) where

@@ -12,7 +12,7 @@ use Rattle.tg_state.specs.State.{MachineState, register, initial_machine, floor,
 use Rattle.tg_state.specs.State.{padded, word_at}
 use Rattle.tg_simulation.specs.Runs.{Run}
 use Rattle.tg_simulation.specs.Ran.{Ran, Ended}
-use Rattle.tg_simulation.specs.Simulating.{Simulates}
+use Rattle.tg_simulation.specs.laws.Simulating.{Simulates}
 use Rattle.tg_simulation.specs.Preserving.{Preserves}
 use Rattle.tg_simulation.proofs.Simulations.{simulation_preserves, simulates_wrong, simulates_coming, simulates_stopping}
 use Rattle.tg_isa.specs.declared.mips.Mips.TheVariants as row
@@ -25,15 +25,15 @@ use Rattle.tg_instr.specs.declared.instr.Instr.{Instr}
 use Rattle.tg_instr.specs.Contents.{Nothing, Word, no_contents, at_entry}
 use Rattle.tg_instr.specs.Running.{CodePoint, code_run, with_frame}
 use Rattle.tg_emit.specs.declared.assembly.Line.{Line}
-use Rattle.tg_emit.specs.Names.{function_name}
-use Rattle.tg_emit.specs.Lines.{alone, lowered, code_lines}
+use Rattle.tg_emit.specs.mirror.Names.{function_name}
+use Rattle.tg_emit.specs.mirror.Lines.{alone, lowered, code_lines}
 use Rattle.tg_simulation.specs.Bytes.{AreBytes}
 use Rattle.tg_emit_proof.specs.LinesRun.{behind, lines_run, statics_of, left, at_zero}
 use Rattle.tg_emit_proof.specs.Setting.{entry_steps, emitted_units, Setting, from, back_to, going_to, later}
 use Rattle.tg_emit_proof.specs.Setting.{begin_with}
-use Rattle.tg_emit_proof.specs.Standing.{Finds, IsHeld, HasRegisters, AreWhole, HasMemory, HasSizes, HasFrame}
-use Rattle.tg_emit_proof.specs.Standing.{BackGoesOn, Stands}
-use Rattle.tg_emit_proof.specs.Situation.{HasSize, IsEmitted, point}
+use Rattle.tg_emit_proof.specs.glue.Standing.{Finds, IsHeld, HasRegisters, AreWhole, HasMemory, HasSizes, HasFrame}
+use Rattle.tg_emit_proof.specs.glue.Standing.{BackGoesOn, Stands}
+use Rattle.tg_emit_proof.specs.glue.Situation.{HasSize, IsEmitted, point}
 use Rattle.tg_emit_proof.proofs.Calling.{linked, linked_there, entry_registers}
 use Rattle.tg_emit_proof.proofs.Entering.{in_stack_there, full_there, lower, entry_comes, entry_is_full}
 use Rattle.tg_emit_proof.proofs.Frames.{found_in, owns_slots, opened}

@@ -12,7 +12,7 @@ use Rattle.tg_state.specs.declared.ends.RunEnd.TheVariants.{StackFull}
 use Rattle.tg_state.specs.State.{MachineState, register, set_register, floor, stack_top, load_word, word_at}
 use Rattle.tg_simulation.specs.Runs.{Run}
 use Rattle.tg_simulation.specs.Ran.{Ran, Ended, stops, works}
-use Rattle.tg_simulation.specs.Simulating.{Simulates, Comes}
+use Rattle.tg_simulation.specs.laws.Simulating.{Simulates, Comes}
 use Rattle.tg_simulation.proofs.Simulations.{simulates_less, simulates_wrong, comes_on}
 use Rattle.tg_isa.specs.declared.mips.Mips.TheVariants as row
 use Rattle.tg_tree.specs.Memory.{Unset, Closed}
@@ -28,14 +28,14 @@ use Rattle.tg_instr.specs.Contents.{Content, Nothing, Word, Found, Contents, hel
 use Rattle.tg_instr.specs.Contents.{left_unset, at_entry, after_call}
 use Rattle.tg_instr.specs.Running.{CodePoint, with_frame}
 use Rattle.tg_emit.specs.declared.assembly.Line.{Line}
-use Rattle.tg_emit.specs.Lines.{alone, lowered, code_lines}
-use Rattle.tg_emit.specs.Names.{function_name}
+use Rattle.tg_emit.specs.mirror.Lines.{alone, lowered, code_lines}
+use Rattle.tg_emit.specs.mirror.Names.{function_name}
 use Rattle.tg_instr.specs.Codes.{is_allocated}
 use Rattle.tg_emit_proof.specs.LinesRun.{behind as lines_behind, calls, left}
 use Rattle.tg_emit_proof.specs.Setting.{Setting, from, back_to, going_to, later, begin_with}
-use Rattle.tg_emit_proof.specs.Standing.{Finds, IsHeld, IsHanded, HasRegisters, HasMemory, HasFrame, FunctionStands}
-use Rattle.tg_emit_proof.specs.Standing.{BackGoesOn, Stands}
-use Rattle.tg_emit_proof.specs.Situation.{HasSize, point, At, onward, LinesFollow, InstructionGoesOn}
+use Rattle.tg_emit_proof.specs.glue.Standing.{Finds, IsHeld, IsHanded, HasRegisters, HasMemory, HasFrame, FunctionStands}
+use Rattle.tg_emit_proof.specs.glue.Standing.{BackGoesOn, Stands}
+use Rattle.tg_emit_proof.specs.glue.Situation.{HasSize, point, At, onward, LinesFollow, InstructionGoesOn}
 use Rattle.tg_emit_proof.proofs.Basics.{no_true}
 use Rattle.tg_emit_proof.proofs.Registers.{not_at, other_register, sizes_stay, memory_stays, moved_count}
 use Rattle.tg_emit_proof.proofs.Registers.{moved_words, moved_stack, moved_other}

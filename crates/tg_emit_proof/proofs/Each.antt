@@ -21,10 +21,10 @@ use Rattle.tg_instr.specs.declared.instr.Instr.TheVariants as instr
 use Rattle.tg_instr.specs.Shapes.{unless_zero, with_sign}
 use Rattle.tg_instr.proofs.Tests.{left_holds, right_holds}
 use Rattle.tg_emit.specs.Ranges.{InstructionFits}
-use Rattle.tg_emit.specs.Rows.{register_of}
+use Rattle.tg_emit.specs.mirror.Rows.{register_of}
 use Rattle.tg_instr.specs.Codes.{is_allocated, is_register_of}
 use Rattle.tg_emit_proof.specs.Setting.{Setting, from}
-use Rattle.tg_emit_proof.specs.Situation.{At, InstructionGoesOn}
+use Rattle.tg_emit_proof.specs.glue.Situation.{At, InstructionGoesOn}
 use Rattle.tg_emit_proof.proofs.Basics.{some_is}
 use Rattle.tg_emit_proof.proofs.Reaching.{load_there, load_byte_there, store_there, store_byte_there}
 use Rattle.tg_emit_proof.proofs.Registers.{IsNamed, given_step}

@@ -12,10 +12,10 @@ use Rattle.tg_instr.specs.declared.codes.Allocated.{Allocated}
 use Rattle.tg_emit_laws.specs.Images.{ProgramIsCode, ProgramIsSound, ProgramHasImage}
 use Rattle.tg_simulation.specs.Bytes.{IsPrefix}
 use Rattle.tg_emit_proof.specs.LinesRun.{lines_run}
-use Rattle.tg_emit_proof.specs.Laws.{returns_in, HasImage, LinesRunOnTheMachine, PlacesAreReturns}
+use Rattle.tg_emit_proof.specs.laws.Laws.{returns_in, HasImage, LinesRunOnTheMachine, PlacesAreReturns}
 use Rattle.tg_emit_proof.specs.Setting.{entry_steps}
-use Rattle.tg_emit_proof.specs.Emission.{MayRun, lines_of, registers_run, emitted_image, assembled_run}
-use Rattle.tg_emit_proof.specs.Emission.{EmissionKeepsRuns, EmitIsCorrect, RunsAgree, EmissionAgrees}
+use Rattle.tg_emit_proof.specs.laws.Emission.{MayRun, lines_of, registers_run, emitted_image, assembled_run}
+use Rattle.tg_emit_proof.specs.laws.Emission.{EmissionKeepsRuns, EmitIsCorrect, RunsAgree, EmissionAgrees}
 use Rattle.tg_emit_proof.proofs.Known.{setting, known}
 use Rattle.tg_emit_proof.proofs.Statics.{statics_are}
 use Rattle.tg_emit_proof.proofs.Beginning.{emitted_runs_keep}

@@ -14,13 +14,13 @@ use Rattle.tg_state.specs.State.{heap_base, statics_base}
 use Rattle.tg_state.specs.Services as machine
 use Rattle.tg_simulation.specs.Ran as ran
 use Rattle.tg_simulation.specs.Ran.{stops}
-use Rattle.tg_simulation.specs.Simulating.{Comes}
+use Rattle.tg_simulation.specs.laws.Simulating.{Comes}
 use Rattle.tg_simulation.proofs.Simulations.{comes_on}
 use Rattle.tg_isa.specs.declared.mips.Mips.TheVariants as row
 use Rattle.tg_isa.specs.Effects.{put, effective_address}
 use Rattle.tg_isa.proofs.Anywhere.{load_word_seen}
 use Rattle.tg_emit.specs.declared.assembly.Line.{Line}
-use Rattle.tg_emit.specs.Lines.{alone, in_at, lowered}
+use Rattle.tg_emit.specs.mirror.Lines.{alone, in_at, lowered}
 use Rattle.tg_emit_proof.specs.Setting.{Setting, from}
 use Rattle.tg_emit_proof.proofs.Registers.{other_register, moved, moved_stack}
 use Rattle.tg_emit_proof.proofs.Rows.{row_comes, row_ends, comes_more}

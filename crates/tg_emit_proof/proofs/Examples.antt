@@ -8,7 +8,7 @@ use Rattle.tg_isa.specs.declared.mips.Mips.TheVariants as row
 use Rattle.tg_tree.specs.declared.fragments.Literal.{Literal}
 use Rattle.tg_emit.specs.declared.assembly.Line.{Line}
 use Rattle.tg_emit.specs.declared.assembly.Line.TheVariants.{Label, One, La}
-use Rattle.tg_emit.specs.Lines.{alone}
+use Rattle.tg_emit.specs.mirror.Lines.{alone}
 use Rattle.tg_emit_proof.specs.LinesRun.{Returns, lines_run}
 
 -- whatever the words after calls are: 12, 16, ..

@@ -10,7 +10,7 @@ use Rattle.tg_isa.specs.Table.{word_of, IsRow}
 use Rattle.tg_isa.specs.Effects.{fetch}
 use Rattle.tg_asm_text.specs.Placement.{offset_to}
 use Rattle.tg_isa.proofs.Inverse.{decode_of-word_of}
-use Rattle.tg_isa.specs.Anywhere.{on}
+use Rattle.tg_isa.specs.laws.Anywhere.{on}
 
 -- the machine's place of a word of the code
 abbrev pub place_at : (word : ℕ) → ℕ

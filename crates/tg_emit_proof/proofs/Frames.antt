@@ -9,7 +9,7 @@ use Rattle.tg_tree.specs.Tree.{Function}
 use Rattle.tg_instr.specs.declared.instr.Instr.{Instr}
 use Rattle.tg_instr.specs.Running.{lay_out, with_frame}
 use Rattle.tg_emit_proof.specs.Setting.{later}
-use Rattle.tg_emit_proof.specs.Standing.{Finds, IsStackWord, IsCell, HasMemory, HasFrame}
+use Rattle.tg_emit_proof.specs.glue.Standing.{Finds, IsStackWord, IsCell, HasMemory, HasFrame}
 use Rattle.tg_emit_proof.proofs.Basics.{no_true, same_number}
 
 -- whether an address is a slot of a frame, or a word at its low end

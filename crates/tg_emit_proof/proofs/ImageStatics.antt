@@ -17,15 +17,15 @@ use Rattle.tg_asm_text.specs.Texts as texts
 use Rattle.tg_tree.specs.declared.fragments.Literal.{Literal}
 use Rattle.tg_emit.specs.declared.assembly.Line.{Line}
 use Rattle.tg_emit.specs.declared.assembly.Line.TheVariants.{Label, One, La, Statics}
-use Rattle.tg_emit.specs.Names.{literal_name}
-use Rattle.tg_emit.specs.Lines.{words}
+use Rattle.tg_emit.specs.mirror.Names.{literal_name}
+use Rattle.tg_emit.specs.mirror.Lines.{words}
 use Rattle.tg_emit.specs.Ranges.{LiteralFits}
 use Rattle.tg_emit_laws.specs.Images.{written_line, bytes_line, literals_written, statics_written, AreCode}
 use Rattle.tg_emit_laws.proofs.Apart.{Stands, stands_right, names_of, Differ, found}
 use Rattle.tg_emit_laws.proofs.CodeLines.{labels_from, code_positions, code_bytes}
 use Rattle.tg_emit_laws.proofs.StaticsLines.{position_names}
 use Rattle.tg_emit_proof.specs.LinesRun.{address_from, statics_of}
-use Rattle.tg_emit_proof.specs.Laws.{written, HasImage}
+use Rattle.tg_emit_proof.specs.laws.Laws.{written, HasImage}
 use Rattle.tg_emit_proof.proofs.PlacedWords.{StaticsAre}
 
 abbrev read_bytes : List ℕ → List Datum

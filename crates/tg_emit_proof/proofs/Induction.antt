@@ -1,7 +1,7 @@
 -- The induction over code and fuel, where each instruction goes on.
 use Rattle.std.proofs.Common.{ℕ, zero, suc, ◌<◌, ◌-◌, List, [], ◌∷◌, refl, arith}
 use Rattle.tg_state.specs.State.{MachineState, stack_top}
-use Rattle.tg_simulation.specs.Simulating.{Simulates}
+use Rattle.tg_simulation.specs.laws.Simulating.{Simulates}
 use Rattle.tg_simulation.proofs.Simulations.{simulates_wrong, simulates_along}
 use Rattle.tg_tree.specs.Actions.{World, Activation}
 use Rattle.tg_tree.specs.Tree.{Function}
@@ -11,8 +11,8 @@ use Rattle.tg_instr.specs.Meaning.{Back}
 use Rattle.tg_emit.specs.declared.assembly.Line.{Line}
 use Rattle.tg_instr.proofs.CodeRuns.{code_steps}
 use Rattle.tg_emit_proof.specs.Setting.{emitted_units, Setting, from, code_from}
-use Rattle.tg_emit_proof.specs.Standing.{Finds, BackGoesOn, Stands, CodeGoesOn, CodeGoesOnByFuel}
-use Rattle.tg_emit_proof.specs.Situation.{IsEmitted, point, InstructionsGoOn}
+use Rattle.tg_emit_proof.specs.glue.Standing.{Finds, BackGoesOn, Stands, CodeGoesOn, CodeGoesOnByFuel}
+use Rattle.tg_emit_proof.specs.glue.Situation.{IsEmitted, point, InstructionsGoOn}
 
 module _ (g : Setting) (known : IsEmitted g) (parts : InstructionsGoOn g) where
   abbrev Goes : (credit n : ℕ) → Type 0

@@ -2,8 +2,8 @@
 use Rattle.std.proofs.Common.{ℕ}
 use Rattle.tg_instr.specs.declared.instr.Instr.TheVariants as instr
 use Rattle.tg_emit_proof.specs.Setting.{Setting, from}
-use Rattle.tg_emit_proof.specs.Standing.{CodeGoesOn}
-use Rattle.tg_emit_proof.specs.Situation.{IsEmitted, InstructionsGoOn}
+use Rattle.tg_emit_proof.specs.glue.Standing.{CodeGoesOn}
+use Rattle.tg_emit_proof.specs.glue.Situation.{IsEmitted, InstructionsGoOn}
 use Rattle.tg_emit_proof.proofs.Induction.{code_goes_on}
 use Rattle.tg_emit_proof.proofs.Each.{add_goes, sub_goes, addu_goes, subu_goes, and_goes, or_goes, xor_goes}
 use Rattle.tg_emit_proof.proofs.Each.{nor_goes, slt_goes, sltu_goes, sll_goes, srl_goes, sra_goes, addi_goes}

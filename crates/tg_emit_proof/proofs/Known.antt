@@ -10,17 +10,17 @@ use Rattle.std.specs.List.{AllByRecursion, Contains, list_all}
 use Rattle.std.proofs.lemmas.List.Elements.{recursion_from_All}
 use Rattle.tg_state.specs.State.{padded, statics_base}
 use Rattle.tg_tree.specs.declared.fragments.Literal.{Literal}
+use Rattle.tg_tree.specs.glue.Plain.{plain_literal}
 use Rattle.tg_tree.specs.Memory.{literal_from}
-use Rattle.tg_tree.specs.Plain.{plain_literal}
 use Rattle.tg_tree.specs.Running.{function_of}
 use Rattle.tg_tree.specs.Tree.{Function}
 use Rattle.tg_instr.specs.declared.instr.Instr.{Instr}
 use Rattle.tg_instr.specs.declared.codes.Allocated.{Allocated}
 use Rattle.tg_instr.proofs.Tests.{left_holds, right_holds, all_at}
 use Rattle.tg_emit.specs.Conditions.{is_emittable, has_code}
-use Rattle.tg_emit.specs.Lines.{size_of, is_long}
-use Rattle.tg_emit.specs.Names.{literal_name}
 use Rattle.tg_emit.specs.Ranges.{FunctionFits, InstructionFits, LiteralFits}
+use Rattle.tg_emit.specs.mirror.Lines.{size_of, is_long}
+use Rattle.tg_emit.specs.mirror.Names.{literal_name}
 use Rattle.tg_emit_laws.proofs.Apart.{Differ}
 use Rattle.tg_emit_laws.proofs.CodeLines.{given_in}
 use Rattle.tg_emit_laws.proofs.NameTexts.{mark_tails}
@@ -29,11 +29,11 @@ use Rattle.tg_emit_laws.proofs.ProgramLines.{all_emitted}
 use Rattle.tg_emit_laws.specs.Programs.{bytes_of, function_labels, is_among, labels_differ}
 use Rattle.tg_instr.specs.Codes.{is_of_colours}
 use Rattle.tg_emit_proof.specs.LinesRun.{Returns, address_from, calls}
-use Rattle.tg_emit_proof.specs.Laws.{AreReturns}
+use Rattle.tg_emit_proof.specs.laws.Laws.{AreReturns}
 use Rattle.tg_emit_proof.specs.Setting.{Setting}
-use Rattle.tg_emit_proof.specs.Emission.{function_over, code_over, sizes_of, MayRun, FitRegions, lines_of}
-use Rattle.tg_emit_proof.specs.Standing.{FunctionStands}
-use Rattle.tg_emit_proof.specs.Situation.{HasSize, IsEmitted}
+use Rattle.tg_emit_proof.specs.laws.Emission.{function_over, code_over, sizes_of, MayRun, FitRegions, lines_of}
+use Rattle.tg_emit_proof.specs.glue.Standing.{FunctionStands}
+use Rattle.tg_emit_proof.specs.glue.Situation.{HasSize, IsEmitted}
 use Rattle.tg_emit_proof.proofs.Basics.{no_true, some_is}
 use Rattle.tg_emit_proof.proofs.Backs.{calls_come_back}
 use Rattle.tg_emit_proof.proofs.Placed.{function_stands, label_leads}

@@ -7,7 +7,7 @@ use Rattle.tg_base.specs.Words.{less}
 use Rattle.tg_state.specs.State.{MachineState, register}
 use Rattle.tg_simulation.specs.Runs.{Run}
 use Rattle.tg_simulation.specs.Ran.{Ran, works}
-use Rattle.tg_simulation.specs.Simulating.{Comes}
+use Rattle.tg_simulation.specs.laws.Simulating.{Comes}
 use Rattle.tg_simulation.proofs.Simulations.{simulates_less, simulates_wrong, comes_itself}
 use Rattle.tg_isa.specs.declared.mips.Mips.{Mips}
 use Rattle.tg_isa.specs.declared.mips.Mips.TheVariants as row
@@ -29,14 +29,14 @@ use Rattle.tg_instr.specs.Running as code
 use Rattle.tg_instr.specs.Running.{CodePoint}
 use Rattle.tg_emit.specs.declared.assembly.Line.{Line}
 use Rattle.tg_emit.specs.declared.assembly.Line.TheVariants.{Label, One, La, Statics}
-use Rattle.tg_emit.specs.Names.{mark_name, behind_name}
-use Rattle.tg_emit.specs.Lines.{code_lines, branch_lines}
-use Rattle.tg_emit.specs.Rows.{register_of, branch_on, branch_of, opposite_branch_of}
+use Rattle.tg_emit.specs.mirror.Names.{mark_name, behind_name}
+use Rattle.tg_emit.specs.mirror.Lines.{code_lines, branch_lines}
+use Rattle.tg_emit.specs.mirror.Rows.{register_of, branch_on, branch_of, opposite_branch_of}
 use Rattle.tg_emit_proof.specs.LinesRun.{behind as lines_behind, leads_if, leads_unless, row_does, way, left, Leads}
 use Rattle.tg_emit_proof.specs.LinesRun.{Untaken}
 use Rattle.tg_emit_proof.specs.Setting.{Setting, from, jump_in, around}
-use Rattle.tg_emit_proof.specs.Standing.{BackGoesOn, Stands}
-use Rattle.tg_emit_proof.specs.Situation.{point, At, onward, acts, LinesFollow, InstructionGoesOn}
+use Rattle.tg_emit_proof.specs.glue.Standing.{BackGoesOn, Stands}
+use Rattle.tg_emit_proof.specs.glue.Situation.{point, At, onward, acts, LinesFollow, InstructionGoesOn}
 use Rattle.tg_emit_proof.proofs.Registers.{IsNamed}
 use Rattle.tg_emit_proof.proofs.Basics.{some_is}
 use Rattle.tg_emit_proof.proofs.Rows.{Turns, done, comes_by, turns_once, turns_more, turns_by, turn_goes_on}

@@ -24,7 +24,7 @@ use Rattle.tg_emit.specs.declared.assembly.Line.TheVariants.{Label, One, La, Sta
 use Rattle.tg_emit_proof.specs.LinesRun.{Place, left, at_zero, Returns, calls, behind, behind_call, place_of, address_from}
 use Rattle.tg_emit_proof.specs.LinesRun.{leads_if, leads_unless, way, Did, Goes, Ends, Reads, Writes, Strays, onward}
 use Rattle.tg_emit_proof.specs.LinesRun.{goes_to, goes_halfway, row_does, lines_do, step_of, lines_going}
-use Rattle.tg_isa.specs.Anywhere.{on, step_on, IsStraight}
+use Rattle.tg_isa.specs.laws.Anywhere.{on, step_on, IsStraight}
 use Rattle.tg_isa.proofs.Anywhere.{set_on, answered_on, effect_on}
 use Rattle.tg_emit_proof.proofs.Fetching.{place_at, fetch_is, next_is, branch_is, jump_is}
 

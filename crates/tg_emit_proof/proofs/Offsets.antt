@@ -8,13 +8,13 @@ use Rattle.std.specs.Prelude.{IsTrue, Ok, if◌then◌else◌, slice_set, nat_lt
 use Rattle.tg_base.specs.Words.{add, extended}
 use Rattle.tg_state.specs.State.{MachineState, register, set_register, load_word, store_word}
 use Rattle.tg_state.specs.Services as machine
-use Rattle.tg_simulation.specs.Simulating.{Comes}
+use Rattle.tg_simulation.specs.laws.Simulating.{Comes}
 use Rattle.tg_simulation.proofs.Simulations.{comes_on}
 use Rattle.tg_isa.specs.declared.mips.Mips.TheVariants as row
 use Rattle.tg_isa.specs.Effects.{effect, put, stored, effective_address}
 use Rattle.tg_isa.proofs.Anywhere.{load_word_seen}
 use Rattle.tg_emit.specs.declared.assembly.Line.{Line}
-use Rattle.tg_emit.specs.Lines.{alone, in_at, above_stack, load_at, store_at}
+use Rattle.tg_emit.specs.mirror.Lines.{alone, in_at, above_stack, load_at, store_at}
 use Rattle.tg_instr.specs.Codes.{is_allocated}
 use Rattle.tg_emit_proof.specs.Setting.{Setting, from}
 use Rattle.tg_emit_proof.proofs.Registers.{other_register, with_number}

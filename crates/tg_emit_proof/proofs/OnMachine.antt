@@ -1,5 +1,5 @@
 -- The machine's run of an image is the run of the lines that it is made of.
-use Rattle.tg_emit_proof.specs.Laws.{LinesRunOnTheMachine}
+use Rattle.tg_emit_proof.specs.laws.Laws.{LinesRunOnTheMachine}
 use Rattle.tg_emit_proof.proofs.PlacedWords.{lines_run_there}
 use Rattle.tg_emit_proof.proofs.ImageStatics.{statics_are}
 

@@ -4,7 +4,7 @@ use Rattle.std.proofs.Common.{◌∙◌, subst, arith, append_assoc, Bool, true,
 use Rattle.std.specs.Prelude.{IsTrue, if◌then◌else◌, slice_set}
 use Rattle.tg_state.specs.State.{MachineState, set_register, stack_top}
 use Rattle.tg_simulation.specs.Ran.{Wrong, stops}
-use Rattle.tg_simulation.specs.Simulating.{Comes}
+use Rattle.tg_simulation.specs.laws.Simulating.{Comes}
 use Rattle.tg_simulation.proofs.Simulations.{simulates_paying, simulates_coming, simulates_wrong, simulates_with_credit}
 use Rattle.tg_tree.specs.Actions.{World, charged}
 use Rattle.tg_instr.specs.declared.operands.Opnd.TheVariants.{Reg}
@@ -12,12 +12,12 @@ use Rattle.tg_instr.specs.declared.instr.Instr.{Instr}
 use Rattle.tg_instr.specs.Shapes.{Operand}
 use Rattle.tg_instr.specs.Contents.{Content, Contents, set}
 use Rattle.tg_emit.specs.declared.assembly.Line.{Line}
-use Rattle.tg_emit.specs.Lines.{instruction_lines, code_lines}
+use Rattle.tg_emit.specs.mirror.Lines.{instruction_lines, code_lines}
 use Rattle.tg_simulation.specs.Bytes.{AreBytes}
 use Rattle.tg_instr.specs.Codes.{is_allocated}
 use Rattle.tg_emit_proof.specs.Setting.{Setting, from}
-use Rattle.tg_emit_proof.specs.Standing.{IsHeld, HasRegisters, HasMemory, HasSizes, Stands}
-use Rattle.tg_emit_proof.specs.Situation.{point, At, onward, LinesFollow}
+use Rattle.tg_emit_proof.specs.glue.Standing.{IsHeld, HasRegisters, HasMemory, HasSizes, Stands}
+use Rattle.tg_emit_proof.specs.glue.Situation.{point, At, onward, LinesFollow}
 use Rattle.tg_emit_proof.proofs.Registers.{got, sizes_stay, memory_stays}
 
 -- lines that are a part of lines

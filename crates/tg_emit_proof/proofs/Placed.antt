@@ -12,15 +12,15 @@ use Rattle.tg_instr.specs.Running as code
 use Rattle.tg_isa.specs.declared.mips.Mips.TheVariants as row
 use Rattle.tg_emit.specs.declared.assembly.Line.{Line}
 use Rattle.tg_emit.specs.declared.assembly.Line.TheVariants.{Label, One, La, Statics}
-use Rattle.tg_emit.specs.Names.{function_name, mark_name}
-use Rattle.tg_emit.specs.Lines.{alone, lowered, size_of, instruction_lines, code_lines, function_lines}
-use Rattle.tg_emit.specs.Lines.{functions_lines}
+use Rattle.tg_emit.specs.mirror.Names.{function_name, mark_name}
+use Rattle.tg_emit.specs.mirror.Lines.{alone, lowered, size_of, instruction_lines, code_lines, function_lines}
+use Rattle.tg_emit.specs.mirror.Lines.{functions_lines}
 use Rattle.tg_emit_laws.proofs.Apart.{Differ}
 use Rattle.tg_emit_laws.proofs.CodeLines.{given_in, given_append}
 use Rattle.tg_emit_proof.specs.LinesRun.{behind, left}
 use Rattle.tg_emit_proof.specs.Setting.{Setting, later}
-use Rattle.tg_emit_proof.specs.Emission.{function_over}
-use Rattle.tg_emit_proof.specs.Standing.{FunctionStands}
+use Rattle.tg_emit_proof.specs.laws.Emission.{function_over}
+use Rattle.tg_emit_proof.specs.glue.Standing.{FunctionStands}
 use Rattle.tg_emit_proof.proofs.Basics.{some_is}
 
 -- A label leads to what comes after the first line that gives it.

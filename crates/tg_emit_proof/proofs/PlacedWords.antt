@@ -22,14 +22,14 @@ use Rattle.tg_isa.specs.ImageRuns.{machine_run}
 use Rattle.tg_tree.specs.declared.fragments.Literal.{Literal}
 use Rattle.tg_emit.specs.declared.assembly.Line.{Line}
 use Rattle.tg_emit.specs.declared.assembly.Line.TheVariants.{Label, One, La, Statics}
-use Rattle.tg_emit.specs.Lines.{words}
+use Rattle.tg_emit.specs.mirror.Lines.{words}
 use Rattle.tg_emit_laws.specs.Images.{statics_written, AreCode}
 use Rattle.tg_emit_laws.proofs.CodeLines.{coded_in, labels_from, coded_words, code_words, code_positions}
 use Rattle.tg_emit_laws.proofs.StaticsLines.{statics_code}
 use Rattle.tg_emit_proof.specs.LinesRun.{Place, left, Returns, calls, behind, behind_call, address_from, statics_of}
 use Rattle.tg_emit_proof.specs.LinesRun.{lines_run, going_from}
-use Rattle.tg_emit_proof.specs.Laws.{word_behind, returns_in, written, HasImage}
-use Rattle.tg_isa.specs.Anywhere.{on}
+use Rattle.tg_emit_proof.specs.laws.Laws.{word_behind, returns_in, written, HasImage}
+use Rattle.tg_isa.specs.laws.Anywhere.{on}
 use Rattle.tg_emit_proof.proofs.Fetching.{place_at}
 use Rattle.tg_emit_proof.proofs.Machine.{IsWord, ComesBack, StandAt, IsAt, Stands, runs}
 

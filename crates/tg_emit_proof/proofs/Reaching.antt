@@ -13,7 +13,7 @@ use Rattle.tg_tree.specs.Memory.{Memory, Cell, Closed, Unset, Has, Kept, or_heap
 use Rattle.tg_tree.specs.Memory.{cell_byte, store_in, store_byte_in, put_open, put_byte, put}
 use Rattle.tg_tree.specs.Memory.{byte_of, with_byte}
 use Rattle.tg_emit_proof.specs.Setting.{Setting}
-use Rattle.tg_emit_proof.specs.Standing.{Finds, IsStackWord, is_at, IsCell, HasMemory, HasSizes}
+use Rattle.tg_emit_proof.specs.glue.Standing.{Finds, IsStackWord, is_at, IsCell, HasMemory, HasSizes}
 use Rattle.tg_emit_proof.proofs.Basics.{some_is}
 use Rattle.tg_emit_proof.proofs.Regions.{offset_is, offset_in, offset_below, byte_fits, word_fits, byte_in_word}
 use Rattle.tg_emit_proof.proofs.Regions.{set_length, set_bytes, set_word_length, set_word_bytes}

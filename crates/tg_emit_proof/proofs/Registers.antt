@@ -19,7 +19,7 @@ use Rattle.tg_instr.specs.Shapes.{Operand}
 use Rattle.tg_instr.specs.Contents.{Content, Word, Contents, set, held}
 use Rattle.tg_instr.specs.Codes.{is_allocated, is_register_of}
 use Rattle.tg_emit_proof.specs.Setting.{Setting}
-use Rattle.tg_emit_proof.specs.Standing.{Finds, IsHeld, HasRegisters, HasMemory, HasSizes}
+use Rattle.tg_emit_proof.specs.glue.Standing.{Finds, IsHeld, HasRegisters, HasMemory, HasSizes}
 use Rattle.tg_emit_proof.proofs.Basics.{no_true}
 
 -- a register that code may name

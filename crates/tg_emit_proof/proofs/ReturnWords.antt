@@ -6,9 +6,9 @@ use Rattle.std.specs.Prelude.{if◌then◌else◌}
 use Rattle.tg_isa.specs.declared.mips.Mips.TheVariants as row
 use Rattle.tg_emit.specs.declared.assembly.Line.{Line}
 use Rattle.tg_emit.specs.declared.assembly.Line.TheVariants.{Label, One, La, Statics}
-use Rattle.tg_emit.specs.Lines.{words}
+use Rattle.tg_emit.specs.mirror.Lines.{words}
 use Rattle.tg_emit_proof.specs.LinesRun.{calls}
-use Rattle.tg_emit_proof.specs.Laws.{word_behind, PlacesAreReturns}
+use Rattle.tg_emit_proof.specs.laws.Laws.{word_behind, PlacesAreReturns}
 
 behind_first : (at : ℕ) (ls : List Line) (k : ℕ) → k < calls ls → (at < word_behind at ls k)
     × (word_behind at ls k ≤ at + words ls)

@@ -8,7 +8,7 @@ use Rattle.std.specs.List.{AllByRecursion}
 use Rattle.tg_base.specs.Words.{add}
 use Rattle.tg_state.specs.State.{MachineState, register}
 use Rattle.tg_simulation.specs.Ran.{Wrong, stops, works}
-use Rattle.tg_simulation.specs.Simulating.{Simulates, Comes}
+use Rattle.tg_simulation.specs.laws.Simulating.{Simulates, Comes}
 use Rattle.tg_simulation.proofs.Simulations.{comes_on, simulates_coming, simulates_paying, simulates_wrong}
 use Rattle.tg_isa.specs.declared.mips.Mips.TheVariants as row
 use Rattle.tg_tree.specs.Actions.{Activation, charged}
@@ -19,12 +19,12 @@ use Rattle.tg_instr.specs.Uses.{given_back}
 use Rattle.tg_instr.specs.Contents.{Content, Nothing, Word, Found, Contents, held, handed, is_found, gives_back}
 use Rattle.tg_instr.proofs.Tests.{left_holds, right_holds}
 use Rattle.tg_emit.specs.declared.assembly.Line.{Line}
-use Rattle.tg_emit.specs.Lines.{alone, above_stack}
+use Rattle.tg_emit.specs.mirror.Lines.{alone, above_stack}
 use Rattle.tg_instr.specs.Codes.{is_allocated}
 use Rattle.tg_emit_proof.specs.LinesRun.{goes_to, Place}
 use Rattle.tg_emit_proof.specs.Setting.{Setting, from, back_to, going_to}
-use Rattle.tg_emit_proof.specs.Standing.{IsHeld, IsHanded, HasRegisters, IsBack}
-use Rattle.tg_emit_proof.specs.Situation.{At, acts, LinesFollow}
+use Rattle.tg_emit_proof.specs.glue.Standing.{IsHeld, IsHanded, HasRegisters, IsBack}
+use Rattle.tg_emit_proof.specs.glue.Situation.{At, acts, LinesFollow}
 use Rattle.tg_emit_proof.proofs.Registers.{not_at, sizes_stay, memory_stays, moved, moved_count, moved_words}
 use Rattle.tg_emit_proof.proofs.Registers.{moved_stack, moved_other}
 use Rattle.tg_emit_proof.proofs.Offsets.{above_comes}

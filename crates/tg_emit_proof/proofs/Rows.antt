@@ -8,7 +8,7 @@ use Rattle.tg_state.specs.Services.{answered}
 use Rattle.tg_simulation.specs.Runs.{Run}
 use Rattle.tg_simulation.specs.Ran as ran
 use Rattle.tg_simulation.specs.Ran.{Ran, Wrong, stops, works, writes}
-use Rattle.tg_simulation.specs.Simulating.{Simulates, Comes}
+use Rattle.tg_simulation.specs.laws.Simulating.{Simulates, Comes}
 use Rattle.tg_simulation.proofs.Simulations.{simulates_stopping, simulates_paying, simulates_coming, simulates_with_credit}
 use Rattle.tg_tree.specs.Actions.{World, charged}
 use Rattle.tg_tree.specs.Running.{with_fuel}

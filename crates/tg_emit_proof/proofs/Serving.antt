@@ -16,7 +16,7 @@ use Rattle.tg_state.specs.Services as machine_does
 use Rattle.tg_state.specs.Services.{Step, whole_words, text_at, write_text, answered}
 use Rattle.tg_simulation.specs.Runs.{Run}
 use Rattle.tg_simulation.specs.Ran.{Ran, Ended, works, writes}
-use Rattle.tg_simulation.specs.Simulating.{Comes}
+use Rattle.tg_simulation.specs.laws.Simulating.{Comes}
 use Rattle.tg_simulation.proofs.Simulations.{simulates_wrong, simulates_paying, simulates_coming, simulates_writing}
 use Rattle.tg_isa.specs.declared.mips.Mips.TheVariants as row
 use Rattle.tg_isa.specs.Effects.{effect}
@@ -28,13 +28,13 @@ use Rattle.tg_tree.specs.Memory.{Memory}
 use Rattle.tg_instr.specs.declared.operands.Opnd.TheVariants.{Reg}
 use Rattle.tg_instr.specs.declared.instr.Instr.{Instr}
 use Rattle.tg_instr.specs.declared.instr.Instr.TheVariants as instr
-use Rattle.tg_emit.specs.Lines.{alone}
+use Rattle.tg_emit.specs.mirror.Lines.{alone}
 use Rattle.tg_instr.specs.Shapes.{Operand}
 use Rattle.tg_instr.specs.Contents.{Word, set}
 use Rattle.tg_emit_proof.specs.LinesRun.{onward as does_onward, left}
 use Rattle.tg_emit_proof.specs.Setting.{Setting, from}
-use Rattle.tg_emit_proof.specs.Standing.{Finds, HasRegisters, HasMemory, HasSizes}
-use Rattle.tg_emit_proof.specs.Situation.{At, onward, LinesFollow, InstructionGoesOn}
+use Rattle.tg_emit_proof.specs.glue.Standing.{Finds, HasRegisters, HasMemory, HasSizes}
+use Rattle.tg_emit_proof.specs.glue.Situation.{At, onward, LinesFollow, InstructionGoesOn}
 use Rattle.tg_emit_proof.proofs.Rows.{done}
 use Rattle.tg_emit_proof.proofs.Onward.{own, behind, here_is, stands_behind, puts}
 use Rattle.tg_emit_proof.proofs.Reaching.{load_byte_there}

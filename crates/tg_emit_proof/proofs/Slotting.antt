@@ -8,7 +8,7 @@ use Rattle.tg_state.specs.State as machine
 use Rattle.tg_state.specs.State.{MachineState, register, set_register, stack_top}
 use Rattle.tg_state.specs.Services as machine_does
 use Rattle.tg_simulation.specs.Ran.{Wrong, stops}
-use Rattle.tg_simulation.specs.Simulating.{Comes}
+use Rattle.tg_simulation.specs.laws.Simulating.{Comes}
 use Rattle.tg_simulation.proofs.Simulations.{simulates_wrong}
 use Rattle.tg_isa.specs.declared.mips.Mips.TheVariants as row
 use Rattle.tg_isa.specs.Effects.{effect, put, stored, effective_address}
@@ -23,11 +23,11 @@ use Rattle.tg_instr.specs.Shapes.{Operand, Hi, Lo}
 use Rattle.tg_instr.specs.Contents.{Content, Nothing, Word, Found, set, held, content_of, cell_of}
 use Rattle.tg_instr.specs.Meaning.{with_content}
 use Rattle.tg_instr.proofs.Tests.{left_holds}
-use Rattle.tg_emit.specs.Lines.{load_at, store_at, slot_offset}
+use Rattle.tg_emit.specs.mirror.Lines.{load_at, store_at, slot_offset}
 use Rattle.tg_instr.specs.Codes.{is_allocated}
 use Rattle.tg_emit_proof.specs.Setting.{Setting, from}
-use Rattle.tg_emit_proof.specs.Standing.{IsHeld, HasRegisters, IsStackWord, is_at, IsCell, HasMemory, HasSizes}
-use Rattle.tg_emit_proof.specs.Situation.{At, onward, LinesFollow, InstructionGoesOn}
+use Rattle.tg_emit_proof.specs.glue.Standing.{IsHeld, HasRegisters, IsStackWord, is_at, IsCell, HasMemory, HasSizes}
+use Rattle.tg_emit_proof.specs.glue.Situation.{At, onward, LinesFollow, InstructionGoesOn}
 use Rattle.tg_emit_proof.proofs.Registers.{not_at, other_register, at_free}
 use Rattle.tg_emit_proof.proofs.Rows.{row_comes}
 use Rattle.tg_emit_proof.proofs.Offsets.{with_at, far_load, far_store}

@@ -7,14 +7,14 @@ use Rattle.std.specs.Prelude.{All}
 use Rattle.std.specs.List.{AllByRecursion}
 use Rattle.tg_state.specs.State.{padded, most_bytes}
 use Rattle.tg_tree.specs.declared.fragments.Literal.{Literal}
+use Rattle.tg_tree.specs.glue.Plain.{plain_literal}
 use Rattle.tg_tree.specs.Memory as memory
-use Rattle.tg_tree.specs.Plain.{plain_literal}
 use Rattle.tg_emit.specs.Ranges.{LiteralFits}
 use Rattle.tg_emit_laws.specs.Programs.{bytes_of}
 use Rattle.tg_instr.specs.declared.codes.Allocated.{Allocated}
 use Rattle.tg_emit_proof.specs.LinesRun.{statics_of}
-use Rattle.tg_emit_proof.specs.Emission.{MayRun}
-use Rattle.tg_emit_proof.specs.Standing.{AreWhole}
+use Rattle.tg_emit_proof.specs.laws.Emission.{MayRun}
+use Rattle.tg_emit_proof.specs.glue.Standing.{AreWhole}
 
 same_statics : (ls : List Literal) → statics_of ls ≡ memory.statics_of (map plain_literal ls)
 same_statics [] = refl

@@ -11,7 +11,7 @@ use Rattle.tg_state.specs.State.{MachineState, register, set_register}
 use Rattle.tg_state.specs.Services as machine_does
 use Rattle.tg_simulation.specs.Runs.{Run}
 use Rattle.tg_simulation.specs.Ran.{Ran, Stop, Ended, Wrong, WantsFuel, stops}
-use Rattle.tg_simulation.specs.Simulating.{Comes}
+use Rattle.tg_simulation.specs.laws.Simulating.{Comes}
 use Rattle.tg_simulation.proofs.Simulations.{simulates_wrong}
 use Rattle.tg_isa.specs.declared.mips.Mips.{Mips}
 use Rattle.tg_isa.specs.Effects.{effect}
@@ -25,13 +25,13 @@ use Rattle.tg_instr.specs.Shapes.{Operand, Hi, Lo, From0, From1, From2, Halves, 
 use Rattle.tg_instr.specs.Contents.{Content, Nothing, Word, Found, set, held}
 use Rattle.tg_instr.specs.Meaning.{with_content, with_content_word}
 use Rattle.tg_instr.proofs.Tests.{left_holds, right_holds}
-use Rattle.tg_emit.specs.Rows.{register_of}
-use Rattle.tg_emit.specs.Lines.{alone}
+use Rattle.tg_emit.specs.mirror.Rows.{register_of}
+use Rattle.tg_emit.specs.mirror.Lines.{alone}
 use Rattle.tg_instr.specs.Codes.{is_allocated, is_of_colours}
 use Rattle.tg_emit_proof.specs.LinesRun.{way, Straight}
 use Rattle.tg_emit_proof.specs.Setting.{Setting, from}
-use Rattle.tg_emit_proof.specs.Standing.{IsHeld, HasRegisters}
-use Rattle.tg_emit_proof.specs.Situation.{At, onward, acts, LinesFollow}
+use Rattle.tg_emit_proof.specs.glue.Standing.{IsHeld, HasRegisters}
+use Rattle.tg_emit_proof.specs.glue.Situation.{At, onward, acts, LinesFollow}
 use Rattle.tg_emit_proof.proofs.Basics.{no_true}
 use Rattle.tg_emit_proof.proofs.Rows.{row_comes, row_ends, ends_so}
 use Rattle.tg_emit_proof.proofs.Onward.{own, behind, here_is, comes_behind, puts}

@@ -1,6 +1,4 @@
 pub mod LinesRun
-pub mod Laws
 pub mod Setting
-pub mod Standing
-pub mod Emission
-pub mod Situation
+pub mod glue
+pub mod laws

@@ -21,8 +21,8 @@ use Rattle.tg_isa.specs.ImageRuns.{first_byte, later_bytes}
 use Rattle.tg_tree.specs.declared.fragments.Literal.{Literal}
 use Rattle.tg_emit.specs.declared.assembly.Line.{Line}
 use Rattle.tg_emit.specs.declared.assembly.Line.TheVariants.{Label, One, La, Statics}
-use Rattle.tg_emit.specs.Names.{literal_name}
-use Rattle.tg_emit.specs.Lines.{alone}
+use Rattle.tg_emit.specs.mirror.Names.{literal_name}
+use Rattle.tg_emit.specs.mirror.Lines.{alone}
 
 -- Where a run is: what is left of the lines, or place 0, at which a run ends.
 pub data Place : Type 0 where

@@ -1,5 +1,9 @@
-ghost use Rattle.tg_emit_proof.specs.Emission.{EmissionAgrees, EmitIsCorrect, EmissionKeepsRuns};
-ghost use Rattle.tg_emit_proof.specs.Laws.{LinesRunOnTheMachine, PlacesAreReturns};
+ghost use Rattle.tg_emit_proof.specs.laws.Emission.{
+  EmissionAgrees,
+  EmitIsCorrect,
+  EmissionKeepsRuns,
+};
+ghost use Rattle.tg_emit_proof.specs.laws.Laws.{LinesRunOnTheMachine, PlacesAreReturns};
 
 use tg_emit_laws::program_has_image;
 use tg_isa::machine_runs_by_fuel;

@@ -6,7 +6,7 @@ use Rattle.tg_syntax.specs.Tree.{Field, Index, Exps, no_exps, exp, Inits, no_ini
 use Rattle.tg_syntax.specs.Tree.{no_functions, function}
 use Rattle.tg_escape.specs.Uses.{DeclaredAs, Seen, Use, declare_variable, declare_params, declare_functions, declare_all, used, uses, place_uses}
 use Rattle.tg_escape.specs.Uses.{exps_uses, inits_uses, decs_uses, functions_uses}
-use Rattle.tg_escape.specs.Laws.{UsesJoin}
+use Rattle.tg_escape.specs.laws.Laws.{UsesJoin}
 
 -- what stands before a list stands before it alone
 abbrev Joins : (List Use → List Use) → Type 0

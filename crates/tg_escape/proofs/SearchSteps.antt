@@ -13,13 +13,13 @@ use Rattle.tg_syntax.specs.declared.trees.FunDecs.{FunDecs as CodeFunDecs, out-F
 use Rattle.tg_syntax.specs.declared.tokens.Ident.{Ident}
 use Rattle.tg_syntax.specs.declared.trees.Param.{Param}
 use Rattle.tg_syntax.specs.Tree.{Exp, Decs, no_decs, types, variable, functions, FunDecs, no_functions, function}
-use Rattle.tg_syntax.specs.Plain.{plain, plain_exps, plain_inits, plain_functions, plain_dec}
-use Rattle.tg_syntax.specs.Lists.{exps_of, inits_of, decs_of, functions_of}
+use Rattle.tg_syntax.specs.glue.Plain.{plain, plain_exps, plain_inits, plain_functions, plain_dec}
+use Rattle.tg_syntax.specs.glue.Lists.{exps_of, inits_of, decs_of, functions_of}
 use Rattle.tg_syntax.proofs.ListLaws.{plain_exps-items, plain_inits-items, plain_functions-items}
 use Rattle.tg_escape.specs.declared.searches.Search.{Search}
 use Rattle.tg_escape.specs.Uses.{Seen, Use, a_function, declare, declare_variable, declare_params, declare_functions, declare_all, uses, exps_uses}
 use Rattle.tg_escape.specs.Uses.{inits_uses, decs_uses, functions_uses, function_uses, uses_of}
-use Rattle.tg_escape.specs.Searches.{Finds, FindsUses, FindsDeclared, Declares, with_uses}
+use Rattle.tg_escape.specs.glue.Searches.{Finds, FindsUses, FindsDeclared, Declares, with_uses}
 
 -- nothing is used, and nothing is declared
 pub nothing : {s : Search} → Finds s s s.table (λ after. after)

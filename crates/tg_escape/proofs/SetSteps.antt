@@ -9,7 +9,7 @@ use Rattle.tg_escape.specs.declared.found.Found.{Found}
 use Rattle.tg_escape.specs.Uses.{Use}
 use Rattle.tg_escape.specs.Escaping.{escapes_by}
 use Rattle.tg_escape.specs.Links.{links_by}
-use Rattle.tg_escape.specs.Searches.{with_all, with_use, with_uses}
+use Rattle.tg_escape.specs.glue.Searches.{with_all, with_use, with_uses}
 
 same_test : (ks : List ℕ) (q : ℕ) → list_any (eq_by_cmp nat_cmp q) ks ≡ list_any (nat_eq q) ks
 same_test [] q = refl

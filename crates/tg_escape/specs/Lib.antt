@@ -1,6 +1,5 @@
 pub mod Uses
 pub mod Escaping
 pub mod Links
-pub mod Declarations
-pub mod Searches
-pub mod Laws
+pub mod glue
+pub mod laws

@@ -1,7 +1,7 @@
 ghost use Rattle.std.specs.Prelude.{◌≡◌};
 ghost use Rattle.tg_escape.specs.Uses.{a_variable, a_function};
 ghost use Rattle.tg_escape.specs.Links.{level_of};
-ghost use Rattle.tg_escape.specs.Declarations.{variable_outside};
+ghost use Rattle.tg_escape.specs.glue.Declarations.{variable_outside};
 
 use std::marker::Model;
 
@@ -24,7 +24,7 @@ impl Model for Declaration {
 
     ghost Value = { DeclaredAs };
 
-    ghost use Rattle.tg_escape.specs.Declarations.{declared_as};
+    ghost use Rattle.tg_escape.specs.glue.Declarations.{declared_as};
 
     ghost view = { λ d. declared_as d.meaning };
 }

@@ -2,7 +2,7 @@ ghost use Rattle.std.specs.Prelude.{◌≡◌, ◌-◌, OnOk, length, slice_rang
 ghost use Rattle.std.specs.FinSet as set;
 ghost use Rattle.tg_escape.specs.Uses.{Use};
 ghost use Rattle.tg_escape.specs.Escaping.{escaping};
-ghost use Rattle.tg_escape.specs.Searches.{with_all, with_use};
+ghost use Rattle.tg_escape.specs.glue.Searches.{with_all, with_use};
 
 use crate::declarations::Declaration;
 use crate::sets::{Escapes, Links};

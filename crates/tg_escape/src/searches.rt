@@ -1,14 +1,20 @@
 ghost use Rattle.std.specs.Prelude.{◌≡◌, length, OnOk, IfOk};
 ghost use Rattle.std.specs.FinSet.{from_list};
-ghost use Rattle.tg_syntax.specs.Plain.{plain, plain_lvalue, plain_exps, plain_inits, plain_dec};
-ghost use Rattle.tg_syntax.specs.Plain.{plain_functions};
-ghost use Rattle.tg_syntax.specs.Lists.{decs_of};
+ghost use Rattle.tg_syntax.specs.glue.Plain.{
+  plain,
+  plain_lvalue,
+  plain_exps,
+  plain_inits,
+  plain_dec,
+  plain_functions,
+};
+ghost use Rattle.tg_syntax.specs.glue.Lists.{decs_of};
 ghost use Rattle.tg_syntax.specs.Tree.{no_decs};
 ghost use Rattle.tg_symbols.specs.Tables.{looked_up};
 ghost use Rattle.tg_escape.specs.Uses as uses;
 ghost use Rattle.tg_escape.specs.Escaping.{escapes_of};
 ghost use Rattle.tg_escape.specs.Links.{links_of};
-ghost use Rattle.tg_escape.specs.Searches.{FindsUses, FindsDeclared, Declares};
+ghost use Rattle.tg_escape.specs.glue.Searches.{FindsUses, FindsDeclared, Declares};
 
 use crate::declarations::Declaration;
 use crate::found::Found;

@@ -1,8 +1,8 @@
 -- What the instructions of the program do, and its image, computed.
 use Rattle.std.proofs.Common.{refl}
 use Rattle.std.specs.Fmt.{digits}
-use Rattle.tg_munch.specs.Choosing.{◌>>=◌}
-use Rattle.tg_example.specs.Laws.{InstructionsEnd, FramesEnd, ImageEnds}
+use Rattle.tg_munch.specs.mirror.Choosing.{◌>>=◌}
+use Rattle.tg_example.specs.laws.Laws.{InstructionsEnd, FramesEnd, ImageEnds}
 
 pub instructions_end : InstructionsEnd
 unfolding ◌>>=◌

@@ -1,3 +1,3 @@
 pub mod Program
 pub mod Stages
-pub mod Laws
+pub mod laws

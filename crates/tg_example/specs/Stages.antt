@@ -15,13 +15,13 @@ use Rattle.tg_tree.specs.Units.{Trees}
 use Rattle.tg_tree.specs.Running.{tree_run, canonical_run}
 use Rattle.tg_tree.specs.Flat.{flat_run}
 use Rattle.tg_runtime.specs.declared.routines.Routine.TheVariants.{Exit}
-use Rattle.tg_runtime.specs.Labels.{label_of}
-use Rattle.tg_runtime.specs.Routines.{runtime}
-use Rattle.tg_translate.specs.Scopes.{Findings}
-use Rattle.tg_translate.specs.Translate.{translated}
-use Rattle.tg_canon.specs.Canon.{linearized}
-use Rattle.tg_trace.specs.Cutting.{blocks_of}
-use Rattle.tg_trace.specs.Laying.{traced}
+use Rattle.tg_runtime.specs.mirror.Labels.{label_of}
+use Rattle.tg_runtime.specs.mirror.Routines.{runtime}
+use Rattle.tg_translate.specs.mirror.Scopes.{Findings}
+use Rattle.tg_translate.specs.mirror.Translate.{translated}
+use Rattle.tg_canon.specs.mirror.Canon.{linearized}
+use Rattle.tg_trace.specs.mirror.Cutting.{blocks_of}
+use Rattle.tg_trace.specs.mirror.Laying.{traced}
 use Rattle.tg_asm_text.specs.declared.keywords.Segment.TheVariants as segment
 use Rattle.tg_asm_text.specs.Placement.{image_of}
 use Rattle.tg_asm_text.specs.Assembly.{Assembled}
@@ -31,9 +31,9 @@ use Rattle.tg_state.specs.State.{initial_machine}
 use Rattle.tg_instr.specs.declared.instr.Instr.{Instr}
 use Rattle.tg_instr.specs.Lengths.{words_of}
 use Rattle.tg_instr.specs.Running.{everywhere, code_run}
-use Rattle.tg_munch.specs.Bodies.{munched, outs}
-use Rattle.tg_regalloc.specs.InFrame.{code_in_frame}
-use Rattle.tg_emit.specs.Lines.{entry, code_lines}
+use Rattle.tg_munch.specs.mirror.Bodies.{munched, outs}
+use Rattle.tg_regalloc.specs.mirror.InFrame.{code_in_frame}
+use Rattle.tg_emit.specs.mirror.Lines.{entry, code_lines}
 use Rattle.tg_emit_laws.specs.Images.{written_line}
 
 -- what is found of a program, by its notes, its escaping variables and its links

@@ -4,18 +4,18 @@ use Rattle.std.specs.List.{Contains, AllByRecursion}
 use Rattle.std.proofs.lemmas.List.Elements.{Contains-append_right}
 use Rattle.tg_simulation.proofs.Agreeing.{passes_compose}
 use Rattle.tg_tree.specs.Tree.{Function}
-use Rattle.tg_canon.specs.Canon.{linearized}
-use Rattle.tg_canon.specs.Laws.{GivesCanonical, GivesClosed}
-use Rattle.tg_canon.specs.Meaning as canon
-use Rattle.tg_canon.specs.Meaning.{canonical, canonical_code}
+use Rattle.tg_canon.specs.laws.Laws.{GivesCanonical, GivesClosed}
+use Rattle.tg_canon.specs.laws.Meaning as canon
+use Rattle.tg_canon.specs.laws.Meaning.{canonical, canonical_code}
+use Rattle.tg_canon.specs.mirror.Canon.{linearized}
 use Rattle.tg_trace.specs.Block.{Block}
-use Rattle.tg_trace.specs.Laws as trace
-use Rattle.tg_trace.specs.Laws.{BlocksAreWhole}
-use Rattle.tg_trace.specs.Heads.{BlocksAreEntered}
-use Rattle.tg_trace.specs.Carried.{in_blocks, code_in_blocks, IsCanonicalFunction, BlocksAreCorrect}
-use Rattle.tg_trace.specs.Traced.{MayBeLaid, TracesAreCorrect}
+use Rattle.tg_trace.specs.laws.Laws as trace
+use Rattle.tg_trace.specs.laws.Laws.{BlocksAreWhole}
+use Rattle.tg_trace.specs.laws.Heads.{BlocksAreEntered}
+use Rattle.tg_trace.specs.laws.Carried.{in_blocks, code_in_blocks, IsCanonicalFunction, BlocksAreCorrect}
+use Rattle.tg_trace.specs.laws.Traced.{MayBeLaid, TracesAreCorrect}
 use Rattle.tg_flatten_proof.specs.Flattened.{MayBeFlattened}
-use Rattle.tg_flatten_proof.specs.Laws.{FlattenIsCorrect, LengthStays, NeedsStay}
+use Rattle.tg_flatten_proof.specs.laws.Laws.{FlattenIsCorrect, LengthStays, NeedsStay}
 
 -- what holds of each function, and of what it becomes
 all_of : {A : Type 0} (P : A → Type 0) (xs : List A) → ((x : A) → Contains xs x → P x) → AllByRecursion P xs

@@ -2,9 +2,9 @@
 use Rattle.std.specs.Prelude.{List}
 use Rattle.tg_tree.specs.Tree.{Ts, Linear, Function, Code}
 use Rattle.tg_tree.specs.Shapes.{IsClosed}
-use Rattle.tg_canon.specs.Meaning.{canonical, canonical_code, HasOwnTemps}
-use Rattle.tg_trace.specs.Carried.{in_blocks, code_in_blocks}
-use Rattle.tg_trace.specs.Traced.{laid, laid_all}
+use Rattle.tg_canon.specs.laws.Meaning.{canonical, canonical_code, HasOwnTemps}
+use Rattle.tg_trace.specs.laws.Carried.{in_blocks, code_in_blocks}
+use Rattle.tg_trace.specs.laws.Traced.{laid, laid_all}
 
 abbrev pub flattened : Function Ts → Function (List Linear)
 flattened f = laid (in_blocks (canonical f))

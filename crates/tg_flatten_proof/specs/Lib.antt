@@ -1,3 +1,2 @@
 pub mod Flattened
-pub mod Laws
-pub mod Programs
+pub mod laws

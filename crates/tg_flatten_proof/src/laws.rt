@@ -1,10 +1,10 @@
-ghost use Rattle.tg_flatten_proof.specs.Laws.{
+ghost use Rattle.tg_flatten_proof.specs.laws.Laws.{
   LengthStays,
   NeedsAreLeft,
   NeedsStay,
   FlattenIsCorrect,
 };
-ghost use Rattle.tg_flatten_proof.specs.Programs.{AddingEndsAlike, CountingEndsAlike};
+ghost use Rattle.tg_flatten_proof.specs.laws.Programs.{AddingEndsAlike, CountingEndsAlike};
 
 use tg_trace::{blocks_are_correct, blocks_are_well_formed, traces_are_correct};
 

@@ -16,9 +16,9 @@ use Rattle.tg_tree.specs.Running.{with_fuel, outermost, body_point, enter, going
 use Rattle.tg_tree.specs.Carrying.{CallsSimulate, EntriesPay, BodyCarried, AllCarried, none, one}
 use Rattle.tg_tree.proofs.TreeRuns.{trees_step}
 use Rattle.tg_tree.proofs.Linking.{calls_carried, programs_carried}
-use Rattle.tg_fold.specs.Folding.{folded}
-use Rattle.tg_fold.specs.Laws.{folded_function}
-use Rattle.tg_fold.specs.Meaning.{folded_code, runner, added_work}
+use Rattle.tg_fold.specs.laws.Laws.{folded_function}
+use Rattle.tg_fold.specs.laws.Meaning.{folded_code, runner, added_work}
+use Rattle.tg_fold.specs.mirror.Folding.{folded}
 use Rattle.tg_fold.proofs.Paying.{Sim, along}
 use Rattle.tg_fold.proofs.Copying.{loop_at, all_passed_run}
 use Rattle.tg_fold.proofs.Doing.{Scene, GoSim, NextSim, BackSim, run_sim}

@@ -8,8 +8,8 @@ use Rattle.tg_tree.specs.Tree.{Not, Both, Either, Ts, Move, Store, StoreByte, Do
 use Rattle.tg_tree.specs.Shapes.{BreaksWithin, BreaksWithinStms, BreaksWithinTx, BreaksWithinTxs, BreaksWithinCond, EndsFunction, LastEndsFunction, IsClosed}
 use Rattle.tg_fold.specs.Sides.{constants}
 use Rattle.tg_fold.specs.Copies.{copy, takes_copy, renamed, renamed_stms, renamed_tx, renamed_txs, renamed_cond}
-use Rattle.tg_fold.specs.Folding.{word_of, constant_or, operated, Tested, Known, Open, compared_by, compared, negated}
-use Rattle.tg_fold.specs.Folding.{both_of, either_of, chosen, passed, passed_on, folded_tx, folded_txs, tested, folded, each_folded}
+use Rattle.tg_fold.specs.mirror.Folding.{word_of, constant_or, operated, Tested, Known, Open, compared_by, compared, negated}
+use Rattle.tg_fold.specs.mirror.Folding.{both_of, either_of, chosen, passed, passed_on, folded_tx, folded_txs, tested, folded, each_folded}
 
 module _ (a b : ℕ) where
   mutual

@@ -18,7 +18,7 @@ use Rattle.tg_tree.specs.Meaning.{Enter, Point, value, values, test, run, run_al
 use Rattle.tg_tree.specs.Running.{with_fuel, enter, step, going}
 use Rattle.tg_fold.specs.Copies.{assigns, assigns_stms, assigns_tx, assigns_txs, assigns_cond, copy, takes_copy, instead}
 use Rattle.tg_fold.specs.Copies.{renamed, renamed_stms, renamed_tx, renamed_txs, renamed_cond}
-use Rattle.tg_fold.specs.Folding.{passed, passed_on}
+use Rattle.tg_fold.specs.mirror.Folding.{passed, passed_on}
 use Rattle.tg_fold.proofs.Leaving.{either_false, turned, takes}
 
 abbrev pub around : Activation → Out → Back → Around

@@ -21,8 +21,8 @@ use Rattle.tg_tree.specs.Actions.{World, Temps, set_temp, Activation, Around, Ac
 use Rattle.tg_tree.specs.Actions.{give, service, with_text, text_from, read_byte}
 use Rattle.tg_tree.specs.Meaning.{Enter, Point, value, values, test, run, run_all}
 use Rattle.tg_tree.specs.Carrying.{EntersSimulate}
-use Rattle.tg_fold.specs.Folding.{given_word, word_of, constant_or, operated, Tested, Known, Open, compared_by, compared, negated, never, always}
-use Rattle.tg_fold.specs.Folding.{both_of, either_of, chosen, passed_on, folded_tx, folded_txs, tested, folded, each_folded}
+use Rattle.tg_fold.specs.mirror.Folding.{given_word, word_of, constant_or, operated, Tested, Known, Open, compared_by, compared, negated, never, always}
+use Rattle.tg_fold.specs.mirror.Folding.{both_of, either_of, chosen, passed_on, folded_tx, folded_txs, tested, folded, each_folded}
 use Rattle.tg_fold.proofs.Sides.{AreSides, two, others, sides}
 use Rattle.tg_fold.proofs.Paying.{Sim, pays, pays_more, pays_all, works_less, works_none_more, pays_alone, charged_add}
 use Rattle.tg_fold.proofs.Shrinking.{TestShrinks, hoisted_less, joined_less, operator_less, folded_tx_shrinks, folded_txs_shrink, tested_shrinks}

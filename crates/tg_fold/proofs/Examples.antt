@@ -14,7 +14,7 @@ use Rattle.tg_tree.specs.Units.{Trees}
 use Rattle.tg_tree.specs.Forms.{sequence, nothing}
 use Rattle.tg_tree.specs.Running.{tree_run}
 use Rattle.tg_tree.specs.Sizes.{statement_length}
-use Rattle.tg_fold.specs.Folding.{Tested, Known, Open, never, always, tested, folded_tx, folded}
+use Rattle.tg_fold.specs.mirror.Folding.{Tested, Known, Open, never, always, tested, folded_tx, folded}
 use Rattle.tg_fold.specs.Folded.{IsFoldedTx, IsFolded}
 
 -- an operator on two constants

@@ -4,11 +4,11 @@ use Rattle.std.specs.Prelude.{Option, reverse}
 use Rattle.std.proofs.lemmas.List.{reverse-append}
 use Rattle.tg_tree.specs.declared.trees.Ts.{Ts as CodeTs}
 use Rattle.tg_tree.specs.Tree.{Stms, no_stms, stm}
-use Rattle.tg_tree.specs.Plain.{plain_ts}
-use Rattle.tg_tree.specs.Lists.{stms_of, join_stms}
+use Rattle.tg_tree.specs.glue.Plain.{plain_ts}
+use Rattle.tg_tree.specs.glue.Lists.{stms_of, join_stms}
 use Rattle.tg_tree.proofs.ListLaws.{stms_of-push, join_stms-assoc, join_stms-none}
 use Rattle.tg_fold.specs.Copies.{copy}
-use Rattle.tg_fold.specs.Folding.{passed, passed_on}
+use Rattle.tg_fold.specs.mirror.Folding.{passed, passed_on}
 
 -- one more
 pub one_passed : (done left : List CodeTs) (before : Option (ℕ × ℕ)) {old more : List CodeTs} {after : Option (ℕ × ℕ)} {all : Stms} (s next : CodeTs) →

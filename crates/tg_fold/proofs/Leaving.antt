@@ -10,8 +10,8 @@ use Rattle.tg_tree.specs.Operators.{Given, word, stops_by, operate}
 use Rattle.tg_fold.specs.Sides.{constants}
 use Rattle.tg_fold.specs.Copies.{assigns, assigns_stms, assigns_tx, assigns_txs, assigns_cond, reads, reads_stms, reads_tx, reads_txs, reads_cond}
 use Rattle.tg_fold.specs.Copies.{copy, takes_copy, instead, renamed, renamed_stms, renamed_tx, renamed_txs, renamed_cond}
-use Rattle.tg_fold.specs.Folding.{given_word, word_of, constant_or, operated, Tested, Known, Open, compared_by, compared, negated}
-use Rattle.tg_fold.specs.Folding.{both_of, either_of, chosen, passed, passed_on, folded_tx, folded_txs, tested, folded, each_folded}
+use Rattle.tg_fold.specs.mirror.Folding.{given_word, word_of, constant_or, operated, Tested, Known, Open, compared_by, compared, negated}
+use Rattle.tg_fold.specs.mirror.Folding.{both_of, either_of, chosen, passed, passed_on, folded_tx, folded_txs, tested, folded, each_folded}
 use Rattle.tg_fold.specs.Folded.{StopsOn, ComesOut, IsKnownAs, LeavesCopy, IsFolded, AreFolded, IsFoldedTx, AreFoldedTxs, IsFoldedCond}
 
 pub either_false : (a b : Bool) → (a || b) ≡ false → (a ≡ false) × (b ≡ false)

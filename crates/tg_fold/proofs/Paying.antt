@@ -2,7 +2,7 @@
 use Rattle.std.proofs.Common.{◌≡◌, ℕ, ◌+◌, ◌≤◌, sym, subst, arith}
 use Rattle.tg_simulation.specs.Runs.{Run}
 use Rattle.tg_simulation.specs.Ran.{Ran}
-use Rattle.tg_simulation.specs.Simulating.{Simulates}
+use Rattle.tg_simulation.specs.laws.Simulating.{Simulates}
 use Rattle.tg_tree.specs.Actions.{charged}
 use Rattle.tg_tree.proofs.FlatValues.{works_none, works_add}
 

@@ -3,8 +3,8 @@ use Rattle.std.proofs.Common.{◌<◌, ◌^◌, List, [], arith}
 use Rattle.std.specs.List.{Contains}
 use Rattle.tg_tree.specs.Tree.{Ts, Function}
 use Rattle.tg_tree.specs.Named.{Named, function, literal, fault, temporary, constant, named_ts, HasItsTemps}
-use Rattle.tg_fold.specs.Folding.{folded}
-use Rattle.tg_fold.specs.Laws.{folded_function, IsNoConstant, AreWords}
+use Rattle.tg_fold.specs.laws.Laws.{folded_function, IsNoConstant, AreWords}
+use Rattle.tg_fold.specs.mirror.Folding.{folded}
 use Rattle.tg_tree.proofs.OperatorWords.{operate_word}
 use Rattle.tg_tree.proofs.NamesPassing.{body_passes, body_names}
 use Rattle.tg_fold.proofs.Naming.{folded_passes}

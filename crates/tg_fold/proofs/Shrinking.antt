@@ -12,8 +12,8 @@ use Rattle.tg_tree.specs.Units.{Trees, hoisted_units, joined_units, shift_units,
 use Rattle.tg_tree.specs.Sizes.{expression_length, arguments_length, condition_length, statement_length, statements_length, in_trees}
 use Rattle.tg_tree.specs.Sizes.{expression_needs, arguments_needs, condition_needs, statement_needs, statements_needs}
 use Rattle.tg_fold.specs.Copies.{copy, takes_copy, renamed, renamed_stms, renamed_tx, renamed_txs, renamed_cond}
-use Rattle.tg_fold.specs.Folding.{given_word, word_of, constant_or, operated, Tested, Known, Open, compared_by, compared, negated}
-use Rattle.tg_fold.specs.Folding.{both_of, either_of, chosen, passed, passed_on, folded_tx, folded_txs, tested, folded, each_folded}
+use Rattle.tg_fold.specs.mirror.Folding.{given_word, word_of, constant_or, operated, Tested, Known, Open, compared_by, compared, negated}
+use Rattle.tg_fold.specs.mirror.Folding.{both_of, either_of, chosen, passed, passed_on, folded_tx, folded_txs, tested, folded, each_folded}
 use Rattle.tg_fold.proofs.Sides.{AreSides, two, others, sides}
 
 -- Units.

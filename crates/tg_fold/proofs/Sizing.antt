@@ -5,8 +5,8 @@ use Rattle.tg_tree.specs.Shapes.{is_flat, is_flat_condition}
 use Rattle.tg_tree.specs.Units.{Trees}
 use Rattle.tg_tree.specs.Sizes.{expression_length, expression_needs, condition_length, condition_needs, statement_length, statement_needs, in_trees}
 use Rattle.tg_tree.specs.Sizes.{tree_length, tree_needs}
-use Rattle.tg_fold.specs.Folding.{Open, folded_tx, tested, folded}
-use Rattle.tg_fold.specs.Laws.{IsNoLarger, folded_function}
+use Rattle.tg_fold.specs.laws.Laws.{IsNoLarger, folded_function}
+use Rattle.tg_fold.specs.mirror.Folding.{Open, folded_tx, tested, folded}
 use Rattle.tg_fold.proofs.Shrinking.{CondShrinks, TestShrinks, folded_tx_shrinks, tested_shrinks, folded_shrinks}
 
 pub expressions_shrink : (x : Tx) → IsNoLarger (expression_length Trees x) (expression_length Trees (folded_tx x)) (expression_needs in_trees x)

@@ -1,7 +1,6 @@
 pub mod Sides
 pub mod Copies
-pub mod Folding
 pub mod Folded
-pub mod Views
-pub mod Laws
-pub mod Meaning
+pub mod glue
+pub mod laws
+pub mod mirror

@@ -1,9 +1,9 @@
 ghost use Rattle.std.specs.Prelude.{◌≡◌, ◌%◌, ◌<◌, IfOk};
 ghost use Rattle.tg_base.specs.Words as words;
 ghost use Rattle.tg_tree.specs.Operators.{operate, holds};
-ghost use Rattle.tg_tree.specs.Plain.{plain_tx};
+ghost use Rattle.tg_tree.specs.glue.Plain.{plain_tx};
 ghost use Rattle.tg_fold.specs.Sides as sides;
-ghost use Rattle.tg_fold.specs.Folding as folding;
+ghost use Rattle.tg_fold.specs.mirror.Folding as folding;
 
 use std::alloc::Global;
 use tg_base::{

@@ -1,4 +1,4 @@
-ghost use Rattle.tg_fold.specs.Laws.{
+ghost use Rattle.tg_fold.specs.laws.Laws.{
   ClosedStays,
   ConditionsShrink,
   ExpressionsShrink,
@@ -11,7 +11,7 @@ ghost use Rattle.tg_fold.specs.Laws.{
   TempsStay,
   WordsStay,
 };
-ghost use Rattle.tg_fold.specs.Meaning.{BodiesAreCarried, CallsAreCarried, FoldIsCorrect};
+ghost use Rattle.tg_fold.specs.laws.Meaning.{BodiesAreCarried, CallsAreCarried, FoldIsCorrect};
 
 /// The law that nothing is left to fold in a folded body.
 pub fn folding_is_folded()

@@ -1,8 +1,8 @@
 //! Folding on trees (Appel, chapter 17): constants, known conditions, copies of temporaries.
 //!
 //! Operators on constants, conditions that are known, and copies between temporaries. What the pass
-//! makes of a body is defined in `specs/Folding.antt`, a function on plain trees; a folded body
-//! does what the body did and is no larger. No command runs it yet.
+//! makes of a body is defined in `specs/mirror/Folding.antt`, a function on plain trees; a folded
+//! body does what the body did and is no larger. No command runs it yet.
 #![tactic(auto)]
 
 mod constants;

@@ -1,8 +1,8 @@
 ghost use Rattle.std.specs.Prelude.{◌≡◌, IfOk, reverse};
-ghost use Rattle.tg_tree.specs.Plain.{plain_tx, plain_cond, plain_ts};
-ghost use Rattle.tg_tree.specs.Lists.{txs_of, stms_of};
-ghost use Rattle.tg_fold.specs.Folding as folding;
-ghost use Rattle.tg_fold.specs.Views.{plain_tested};
+ghost use Rattle.tg_tree.specs.glue.Plain.{plain_tx, plain_cond, plain_ts};
+ghost use Rattle.tg_tree.specs.glue.Lists.{txs_of, stms_of};
+ghost use Rattle.tg_fold.specs.glue.Views.{plain_tested};
+ghost use Rattle.tg_fold.specs.mirror.Folding as folding;
 
 use crate::constants::operated;
 use crate::passing::pass_on;

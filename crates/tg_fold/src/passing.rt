@@ -1,8 +1,8 @@
 ghost use Rattle.std.specs.Prelude.{◌≡◌, None, IfOk, reverse};
-ghost use Rattle.tg_tree.specs.Plain.{plain_ts};
-ghost use Rattle.tg_tree.specs.Lists.{stms_of};
-ghost use Rattle.tg_fold.specs.Folding as folding;
-ghost use Rattle.tg_fold.specs.Views.{plain_copy};
+ghost use Rattle.tg_tree.specs.glue.Plain.{plain_ts};
+ghost use Rattle.tg_tree.specs.glue.Lists.{stms_of};
+ghost use Rattle.tg_fold.specs.glue.Views.{plain_copy};
+ghost use Rattle.tg_fold.specs.mirror.Folding as folding;
 
 use crate::reading::{CopyOf, copy, takes_copy};
 use crate::renaming::rename;

@@ -1,8 +1,8 @@
 ghost use Rattle.std.specs.Prelude.{◌≡◌, ◌||◌};
-ghost use Rattle.tg_tree.specs.Plain.{plain_tx, plain_cond, plain_ts};
-ghost use Rattle.tg_tree.specs.Lists.{txs_of, stms_of};
+ghost use Rattle.tg_tree.specs.glue.Plain.{plain_tx, plain_cond, plain_ts};
+ghost use Rattle.tg_tree.specs.glue.Lists.{txs_of, stms_of};
 ghost use Rattle.tg_fold.specs.Copies as copies;
-ghost use Rattle.tg_fold.specs.Views.{plain_copy};
+ghost use Rattle.tg_fold.specs.glue.Views.{plain_copy};
 
 use tg_base::Temp;
 use tg_tree::{Cond, Stms, Ts, Tx, Txs};

@@ -1,6 +1,6 @@
 ghost use Rattle.std.specs.Prelude.{◌≡◌, ◌<◌, IfOk};
-ghost use Rattle.tg_tree.specs.Plain.{plain_tx, plain_cond, plain_ts};
-ghost use Rattle.tg_tree.specs.Lists.{txs_of, stms_of};
+ghost use Rattle.tg_tree.specs.glue.Plain.{plain_tx, plain_cond, plain_ts};
+ghost use Rattle.tg_tree.specs.glue.Lists.{txs_of, stms_of};
 ghost use Rattle.tg_fold.specs.Copies as copies;
 
 use crate::reading::CopyOf;

@@ -1,7 +1,7 @@
 ghost use Rattle.std.specs.Prelude.{◌≡◌, IfOk};
-ghost use Rattle.tg_tree.specs.Plain.{plain_tx, plain_cond, plain_ts};
-ghost use Rattle.tg_fold.specs.Folding as folding;
-ghost use Rattle.tg_fold.specs.Views.{plain_tested};
+ghost use Rattle.tg_tree.specs.glue.Plain.{plain_tx, plain_cond, plain_ts};
+ghost use Rattle.tg_fold.specs.glue.Views.{plain_tested};
+ghost use Rattle.tg_fold.specs.mirror.Folding as folding;
 
 use crate::constants::{constants, holds};
 use std::alloc::Global;

@@ -13,12 +13,12 @@ use Rattle.tg_tree.specs.Tree.{Ts, Function, Code}
 use Rattle.tg_tree.specs.Units.{Trees}
 use Rattle.tg_tree.specs.Sizes.{tree_length, tree_needs}
 use Rattle.tg_tree.specs.Running.{tree_run}
-use Rattle.tg_runtime.specs.Routines.{runtime}
-use Rattle.tg_translate.specs.Translate.{translated}
+use Rattle.tg_runtime.specs.mirror.Routines.{runtime}
+use Rattle.tg_translate.specs.mirror.Translate.{translated}
 use Rattle.tg_translate.proofs.ExampleTrees.{sp, id, x, i, k, g, findings, num, get, set, call, seq, text, exit, binary, plus, let_var, block}
 use Rattle.tg_translate.proofs.ExampleTrees.{counts_to_three, fields_added, elements_added, element_after_the_last, factorial_of_four, sum_by_links}
-use Rattle.tg_fold.specs.Laws.{folded_function}
-use Rattle.tg_fold.specs.Meaning.{folded_code}
+use Rattle.tg_fold.specs.laws.Laws.{folded_function}
+use Rattle.tg_fold.specs.laws.Meaning.{folded_code}
 
 abbrev say : Exp → Exp
 say e = call 30 (e ∷ [])

@@ -6,7 +6,7 @@ use Rattle.tg_syntax.specs.declared.tokens.Token.{Token}
 use Rattle.tg_syntax.specs.declared.tokens.Token.TheVariants.{Word, Sign, Ident, Int, Text, End}
 use Rattle.tg_format.specs.Canonical.{indentation, quoted_byte, quoted_text}
 use Rattle.tg_format.specs.Writable.{HasSpelling, AreWritable}
-use Rattle.tg_format.specs.Reached.{IsNamed, AreNamed}
+use Rattle.tg_format.specs.glue.Reached.{IsNamed, AreNamed}
 
 pub one_deeper : (k : ℕ) → indentation (k + 1) ≡ indentation k ++ 32 ∷ 32 ∷ []
 one_deeper zero = refl

@@ -1,3 +1,3 @@
 pub mod Canonical
 pub mod Writable
-pub mod Reached
+pub mod glue

@@ -1,6 +1,6 @@
 ghost use Rattle.std.specs.Prelude.{◌≡◌, ◌<◌, ◌≤◌, ◌+◌, ◌^◌, ◌++◌, OnOk};
 ghost use Rattle.tg_format.specs.Canonical as canonical;
-ghost use Rattle.tg_format.specs.Reached.{behind_of};
+ghost use Rattle.tg_format.specs.glue.Reached.{behind_of};
 
 use crate::kinds;
 use tg_base::Memory;

@@ -2,7 +2,7 @@ ghost use Rattle.std.specs.Prelude.{◌≡◌, ◌++◌, OnOk};
 ghost use Rattle.std.specs.Fmt.{decimal};
 ghost use Rattle.tg_syntax.specs.Spellings as spelled;
 ghost use Rattle.tg_format.specs.Canonical as canonical;
-ghost use Rattle.tg_format.specs.Reached.{IsNamed};
+ghost use Rattle.tg_format.specs.glue.Reached.{IsNamed};
 
 use crate::strings::put_string;
 use itoa::Buffer;

@@ -11,7 +11,7 @@ use Rattle.tg_syntax.specs.declared.tokens.Spanned.{Spanned}
 use Rattle.tg_syntax.specs.Lexing.{Lexes, ends, blank, comment, token}
 use Rattle.tg_format.specs.Canonical.{tokens_of}
 use Rattle.tg_format.specs.Writable.{HasSpelling, AreWritable}
-use Rattle.tg_format_laws.specs.Laws.{LexedAreWritable}
+use Rattle.tg_format_laws.specs.laws.Laws.{LexedAreWritable}
 
 abbrev AreBytes : List ℕ → Type 0
 AreBytes bytes = All (λ b. b < 256) bytes

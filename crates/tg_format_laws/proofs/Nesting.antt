@@ -2,7 +2,7 @@
 use Rattle.std.proofs.Common.{ℕ, ◌≡◌, ◌≤◌, List, [], ◌∷◌, sym, ap, subst}
 use Rattle.tg_syntax.specs.declared.tokens.Spanned.{Spanned}
 use Rattle.tg_syntax.specs.Nesting.{NestsWithin, after_token, nesting_of}
-use Rattle.tg_format_laws.specs.Laws.{SameNesting}
+use Rattle.tg_format_laws.specs.laws.Laws.{SameNesting}
 use Rattle.tg_format_laws.proofs.Alike.{HaveSameTokens, are_alike}
 
 nests_alike : (limit : ℕ) (counts : List ℕ) (xs ts : List Spanned) → HaveSameTokens xs ts → NestsWithin limit counts ts → NestsWithin limit counts xs

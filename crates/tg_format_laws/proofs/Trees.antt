@@ -24,7 +24,7 @@ use Rattle.tg_syntax.specs.Grammar.{any_many, AreInits, one_init, more_inits, Ar
 use Rattle.tg_syntax.specs.Grammar.{dec_function, AreDecs, decs_none, decs_more, IsProgram, program}
 use Rattle.tg_format_laws.specs.Spans.{no_span, spanless_ident, spanless_param, spanless_form, spanless_type, without_spans, spanless_place, spanless_exps}
 use Rattle.tg_format_laws.specs.Spans.{spanless_inits, spanless_decs}
-use Rattle.tg_format_laws.specs.Laws.{SameTree, IsProgramLike}
+use Rattle.tg_format_laws.specs.laws.Laws.{SameTree, IsProgramLike}
 use Rattle.tg_format_laws.proofs.Alike.{HaveSameTokens, are_alike, none_like, First, first, Parts, parts, Cut, cut}
 use Rattle.tg_format_laws.proofs.SpanlessLists.{same_tail, same_short, both, all_three, spanless_dec, params_grow, exps_grow, inits_grow, decs_grow}
 

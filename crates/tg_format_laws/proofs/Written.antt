@@ -10,7 +10,7 @@ use Rattle.tg_lexer.proofs.Onces.{lexes_once}
 use Rattle.tg_format.specs.Canonical.{canonical, tokens_of, text_behind, at_start, behind_one, space_before, gap_behind, line, indentation, spelling, Behind}
 use Rattle.tg_format.specs.Canonical.{is_minus, is_unary_minus, ends_operand, begins_line, ends_line, are_close, depth_after}
 use Rattle.tg_format.specs.Writable.{HasSpelling, AreWritable}
-use Rattle.tg_format_laws.specs.Laws.{ReadsAgain, SameTokens, FormattingAgain}
+use Rattle.tg_format_laws.specs.laws.Laws.{ReadsAgain, SameTokens, FormattingAgain}
 use Rattle.tg_format_laws.proofs.Following.{and_left, MayFollow, behind_stands, spelled, longest, no_comment}
 
 -- blanks mean nothing

@@ -1,4 +1,4 @@
-ghost use Rattle.tg_format_laws.specs.Laws.{
+ghost use Rattle.tg_format_laws.specs.laws.Laws.{
   FormattingAgain,
   LexedAreWritable,
   SameNesting,

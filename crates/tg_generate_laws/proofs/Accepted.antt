@@ -12,7 +12,7 @@ use Rattle.tg_types.specs.Checks.{Noted}
 use Rattle.tg_types.specs.Accepted.{finding, finding_of, within_limits, accepted}
 use Rattle.tg_generate.specs.Generated.{generated}
 use Rattle.tg_correct.specs.Sources.{IsSource}
-use Rattle.tg_generate_laws.specs.Laws.{GeneratedIsAccepted}
+use Rattle.tg_generate_laws.specs.laws.Laws.{GeneratedIsAccepted}
 use Rattle.tg_generate_laws.proofs.Lexemes.{spelled, past, tokens_at, lexes, names_in, idents_are}
 use Rattle.tg_generate_laws.proofs.Lines.{program, program_spelled}
 use Rattle.tg_generate_laws.proofs.Names.{names_of, program_fit, program_named}

@@ -1,4 +1,4 @@
-ghost use Rattle.tg_generate_laws.specs.Laws.{GeneratedIsAccepted};
+ghost use Rattle.tg_generate_laws.specs.laws.Laws.{GeneratedIsAccepted};
 
 /// The law that the generated programs of 1 to 1000 functions are accepted. It does nothing.
 pub fn generated_is_accepted()

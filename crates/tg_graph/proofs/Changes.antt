@@ -7,7 +7,7 @@ use Rattle.std.proofs.lemmas.Bool.{cases_eq, cases_lt, eq-eqb, ne_eqb, lt-ltb, l
 use Rattle.std.proofs.lemmas.List.{get_or-set_other, length-set, map-set, get_or-map, length_push, get_or_past, get_or-set_same}
 use Rattle.std.proofs.lemmas.List.Folds.{list_any-append}
 use Rattle.tg_graph.specs.Interference.{colours, is_among, with_neighbour}
-use Rattle.tg_graph.specs.Keeping.{counted_up}
+use Rattle.tg_graph.specs.glue.Keeping.{counted_up}
 
 swapped : (a b : Bool) → (a || (b || false)) ≡ (b || a)
 swapped true true = refl

@@ -1,9 +1,9 @@
 -- Graphs and lists computed.
 use Rattle.std.proofs.Common.{◌≡◌, true, false, [], ◌∷◌, Some, None, refl}
 use Rattle.tg_graph.specs.declared.worklists.Worklist.TheVariants.{Simplify, Spill}
-use Rattle.tg_graph.specs.Bits.{bit, matrix_bit, pair_place, tiles_for, triangle}
 use Rattle.tg_graph.specs.Interference.{Interference, bare, with_edge, interferes, neighbours, degree}
 use Rattle.tg_graph.specs.Lists.{Lists, started, moved, after}
+use Rattle.tg_graph.specs.glue.Bits.{bit, matrix_bit, pair_place, tiles_for, triangle}
 
 -- three temporaries; the first interferes with the second and with register 3
 abbrev small : Interference

@@ -8,10 +8,10 @@ use Rattle.std.proofs.lemmas.Bool.{and_right, false_from_ne_true}
 use Rattle.std.proofs.lemmas.List.{get_or_past, get_or-map, length-replicate, length-map}
 use Rattle.std.proofs.lemmas.List.Folds.{list_any_at}
 use Rattle.std.proofs.lemmas.Map.Steps.{length-le_from_distinct_below}
-use Rattle.tg_graph.specs.Bits.{matrix_bit, pair_place, tiles_for}
 use Rattle.tg_graph.specs.Interference.{Interference, IsGraph, colours, most_nodes, is_register, is_among, neighbours, are_joined, interferes}
 use Rattle.tg_graph.specs.Interference.{are_ends, with_neighbour, bare}
-use Rattle.tg_graph.specs.Keeping.{IsKept, counted_up}
+use Rattle.tg_graph.specs.glue.Bits.{matrix_bit, pair_place, tiles_for}
+use Rattle.tg_graph.specs.glue.Keeping.{IsKept, counted_up}
 use Rattle.tg_graph.proofs.Places.{same_pairs, matrix_unset, read_replicate}
 use Rattle.tg_graph.proofs.Changes.{among_with, distinct_with, counted_with, length_with}
 

@@ -8,7 +8,7 @@ use Rattle.std.proofs.lemmas.Bool.{cases_eq, cases_lt, eq-eqb, ne_eqb, lt-ltb, l
 use Rattle.std.proofs.lemmas.List.Folds.{list_any-append}
 use Rattle.tg_graph.specs.Interference.{is_among}
 use Rattle.tg_graph.specs.Lists.{without, after}
-use Rattle.tg_graph.specs.Chains.{LeadsAlong}
+use Rattle.tg_graph.specs.glue.Chains.{LeadsAlong}
 use Rattle.tg_graph.proofs.Runs.{without_same, without_other}
 
 abbrev pub bit : Bool → ℕ

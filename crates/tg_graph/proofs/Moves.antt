@@ -11,8 +11,8 @@ use Rattle.tg_graph.specs.declared.worklists.Worklist.{Worklist}
 use Rattle.tg_graph.specs.declared.worklists.Worklist.TheVariants.{Fixed, Simplify, Freeze, Spill, Stacked, Merged}
 use Rattle.tg_graph.specs.Interference.{colours, most_nodes, is_among}
 use Rattle.tg_graph.specs.Lists.{lists_by, nodes_in, number, without, started_in}
-use Rattle.tg_graph.specs.Chains.{AreInverse, LeadsAlong, Relinks, joined_to}
-use Rattle.tg_graph.specs.Linking.{AreLinked, list_from, total}
+use Rattle.tg_graph.specs.glue.Chains.{AreInverse, LeadsAlong, Relinks, joined_to}
+use Rattle.tg_graph.specs.glue.Linking.{AreLinked, list_from, total}
 use Rattle.tg_graph.proofs.Runs.{follows}
 use Rattle.tg_graph.proofs.Members.{bit, among_without_same, among_without_other, length_without, among_added_same, among_added_other, among_below}
 use Rattle.tg_graph.proofs.Members.{among_above, among_within}

@@ -8,7 +8,7 @@ use Rattle.tg_graph.specs.declared.worklists.Worklist.{Worklist}
 use Rattle.tg_graph.specs.declared.worklists.Worklist.TheVariants.{Fixed, Simplify, Freeze, Spill, Stacked, Merged}
 use Rattle.tg_graph.specs.Interference.{colours, is_among}
 use Rattle.tg_graph.specs.Lists.{Lists, nodes_in, number, without, started, started_in, moved}
-use Rattle.tg_graph.specs.Laws.{ArePartition}
+use Rattle.tg_graph.specs.laws.Laws.{ArePartition}
 use Rattle.tg_graph.proofs.Runs.{without_same, without_other}
 use Rattle.tg_graph.proofs.Changes.{distinct_push}
 use Rattle.tg_graph.proofs.Members.{among_without_same, among_without_other, among_added_same, among_added_other, among_above}

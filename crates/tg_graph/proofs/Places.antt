@@ -7,7 +7,7 @@ use Rattle.std.proofs.lemmas.List.{get_or-set_same, get_or-set_other, get_or-rep
 use Rattle.std.proofs.lemmas.List.{get_or-append_right, length-replicate}
 use Rattle.std.proofs.lemmas.Nat.Bits.{bit_at_set_same, bit_at_set_other, bit_at-zero}
 use Rattle.std.specs.Int.{bit_at, w32}
-use Rattle.tg_graph.specs.Bits.{bit, matrix_bit, pair_place, tile_of, tiles_for, triangle}
+use Rattle.tg_graph.specs.glue.Bits.{bit, matrix_bit, pair_place, tile_of, tiles_for, triangle}
 
 -- Triangles, by their step.
 

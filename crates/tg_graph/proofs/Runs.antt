@@ -5,7 +5,7 @@ use Rattle.std.proofs.lemmas.Bool.{cases_eq, eq-eqb, ne_eqb, cond-true, cond-fal
 use Rattle.std.proofs.lemmas.List.{get_or-set_same, get_or-set_other, length-set, append-nil}
 use Rattle.std.specs.List.{range_with_len}
 use Rattle.tg_graph.specs.Lists.{without}
-use Rattle.tg_graph.specs.Chains.{AreInverse, follow, LeadsAlong, joined_to}
+use Rattle.tg_graph.specs.glue.Chains.{AreInverse, follow, LeadsAlong, joined_to}
 
 run_at : (next : ℕ → ℕ) (n end : ℕ) (y z : ℕ) (xs ys : List ℕ) → y ≡ z → xs ≡ ys → LeadsAlong next n y xs end →
     LeadsAlong next n z ys end

@@ -4,9 +4,9 @@ use Rattle.std.proofs.Common.{◌≡◌, ℕ, ◌-◌, ◌/◌, ◌%◌, ◌<◌
 use Rattle.std.proofs.Common.{Err, OnErr, is_err, refl, sym, ap, ◌∙◌, arith}
 use Rattle.std.specs.declared.alloc.Global.{Global}
 use Rattle.std.proofs.lemmas.List.{map-set, get_or-map, get_or-set_same, set-get_or, set-set, length-map, length_push, take_at}
-use Rattle.tg_graph.specs.Bits.{bit, matrix_bit}
 use Rattle.tg_graph.specs.Interference.{colours, with_neighbour}
-use Rattle.tg_graph.specs.Keeping.{lists_of}
+use Rattle.tg_graph.specs.glue.Bits.{bit, matrix_bit}
+use Rattle.tg_graph.specs.glue.Keeping.{lists_of}
 use Rattle.tg_graph.proofs.Places.{matrix_same, matrix_written}
 use Rattle.tg_graph.proofs.Changes.{with_temporary, list_same, length_with}
 

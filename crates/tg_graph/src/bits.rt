@@ -1,5 +1,5 @@
 ghost use Rattle.std.specs.Prelude.{◌≡◌, ◌<◌, ◌/◌, ◌==◌, ◌||◌, ℕ, length, OnOk};
-ghost use Rattle.tg_graph.specs.Bits.{bit, area};
+ghost use Rattle.tg_graph.specs.glue.Bits.{bit, area};
 
 use tg_base::Memory;
 

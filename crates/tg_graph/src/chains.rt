@@ -1,7 +1,7 @@
 ghost use Rattle.std.specs.Prelude.{◌≡◌, ◌≢◌, ◌<◌, ◌≤◌, ◌-◌, [], ◌∷◌, ℕ, List, length, slice_index};
 ghost use Rattle.std.specs.List.{range_with_len};
-ghost use Rattle.tg_graph.specs.Chains.{AreAlone, AreInverse, Relinks, joined_to};
 ghost use Rattle.tg_graph.specs.Lists.{without};
+ghost use Rattle.tg_graph.specs.glue.Chains.{AreAlone, AreInverse, Relinks, joined_to};
 
 /// Takes a node out of its list and links it to itself.
 pub(crate) fn unlink(next: &mut [u32], prev: &mut [u32], node: u32)

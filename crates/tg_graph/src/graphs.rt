@@ -42,7 +42,7 @@ pub struct Graph {
 
 impl Model for Graph {
     ghost use Rattle.tg_graph.specs.Interference.{Interference};
-    ghost use Rattle.tg_graph.specs.Keeping.{lists_of, IsKept};
+    ghost use Rattle.tg_graph.specs.glue.Keeping.{lists_of, IsKept};
 
     ghost Value = { Interference };
 

@@ -1,4 +1,4 @@
-ghost use Rattle.tg_graph.specs.Laws.{
+ghost use Rattle.tg_graph.specs.laws.Laws.{
   MovesKeepPartition,
   MovesTell,
   RegistersInterfere,

@@ -20,7 +20,7 @@ ghost use Rattle.std.specs.Prelude.{
 };
 ghost use Rattle.std.specs.List.{range_with_len};
 ghost use Rattle.tg_graph.specs.Interference.{colours, with_neighbour};
-ghost use Rattle.tg_graph.specs.Keeping.{lists_of, counted_up};
+ghost use Rattle.tg_graph.specs.glue.Keeping.{lists_of, counted_up};
 
 use std::alloc::Global;
 use tg_base::Memory;

@@ -11,10 +11,10 @@ ghost use Rattle.std.specs.Prelude.{
   length,
   OnOk,
 };
-ghost use Rattle.tg_graph.specs.Bits as places;
-ghost use Rattle.tg_graph.specs.Bits.{area, matrix_bit, tile_of};
 ghost use Rattle.tg_graph.specs.Interference.{most_nodes};
-ghost use Rattle.tg_graph.specs.Keeping.{lists_of};
+ghost use Rattle.tg_graph.specs.glue.Bits as places;
+ghost use Rattle.tg_graph.specs.glue.Bits.{area, matrix_bit, tile_of};
+ghost use Rattle.tg_graph.specs.glue.Keeping.{lists_of};
 
 use crate::bits::{AREA, has_bit, reach, set_bit};
 use tg_base::Memory;

@@ -60,7 +60,7 @@ impl Model for Worklists {
 
     ghost Value = { Lists };
 
-    ghost use Rattle.tg_graph.specs.Linking.{list_from, AreLinked};
+    ghost use Rattle.tg_graph.specs.glue.Linking.{list_from, AreLinked};
 
     ghost view = { λ l. lists_by l.nodes (list_from l.nodes l.next.items) };
 

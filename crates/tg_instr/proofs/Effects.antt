@@ -14,8 +14,8 @@ use Rattle.tg_instr.specs.Uses.{arguments, given_back}
 use Rattle.tg_instr.specs.Contents.{Content, Nothing, Word, Contents, is_holder, set, held, handed, is_in, is_among, at_entry, left_unset, after_call}
 use Rattle.tg_instr.specs.Contents.{is_found, gives_back, content_of}
 use Rattle.tg_instr.specs.Meaning.{Next, Around, with_content_word, with_content, put_in, put_slot, jump, skip}
-use Rattle.tg_instr.specs.Laws as law
-use Rattle.tg_instr.specs.Laws.{within, only, Agree, changes, reads}
+use Rattle.tg_instr.specs.laws.Laws as law
+use Rattle.tg_instr.specs.laws.Laws.{within, only, Agree, changes, reads}
 
 -- Changes.
 

@@ -7,4 +7,4 @@ pub mod Renaming
 pub mod Contents
 pub mod Meaning
 pub mod Running
-pub mod Laws
+pub mod laws

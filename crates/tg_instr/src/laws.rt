@@ -1,4 +1,4 @@
-ghost use Rattle.tg_instr.specs.Laws.{
+ghost use Rattle.tg_instr.specs.laws.Laws.{
   ChangesDefinitions,
   ReadsUses,
   CodeSteps,

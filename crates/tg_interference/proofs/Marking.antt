@@ -13,7 +13,7 @@ use Rattle.tg_graph.specs.Interference.{Interference, interferes}
 use Rattle.tg_interference.specs.Nodes.{operand_at}
 use Rattle.tg_interference.specs.Moves.{move_of}
 use Rattle.tg_interference.specs.Pairs.{has, joins_both}
-use Rattle.tg_interference.specs.Crossing.{is_marked, HaveCrossed}
+use Rattle.tg_interference.specs.glue.Crossing.{is_marked, HaveCrossed}
 use Rattle.tg_interference.proofs.Joining.{live_more, none_live}
 
 or_true : (b : Bool) → (b || true) ≡ true

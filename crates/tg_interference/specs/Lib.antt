@@ -1,6 +1,6 @@
 pub mod Nodes
 pub mod Moves
 pub mod Pairs
-pub mod Crossing
 pub mod Facts
-pub mod Laws
+pub mod glue
+pub mod laws

@@ -16,7 +16,7 @@ ghost use Rattle.tg_instr.specs.Operands.{is_same};
 ghost use Rattle.tg_graph.specs.Interference.{colours, most_nodes};
 ghost use Rattle.tg_interference.specs.Nodes.{operand_at};
 ghost use Rattle.tg_interference.specs.Pairs.{has};
-ghost use Rattle.tg_interference.specs.Crossing.{is_marked};
+ghost use Rattle.tg_interference.specs.glue.Crossing.{is_marked};
 
 use crate::nodes::node_of;
 use std::alloc::Global;

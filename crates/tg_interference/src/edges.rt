@@ -23,7 +23,7 @@ ghost use Rattle.tg_live.specs.Live.{AreLiveSets};
 ghost use Rattle.tg_interference.specs.Nodes.{most_temps, operand_at};
 ghost use Rattle.tg_interference.specs.Moves.{move_of};
 ghost use Rattle.tg_interference.specs.Pairs.{IsInterference, has, is_apart, joins_both};
-ghost use Rattle.tg_interference.specs.Crossing.{HaveCrossed};
+ghost use Rattle.tg_interference.specs.glue.Crossing.{HaveCrossed};
 
 use crate::crossing::mark_crossing;
 use crate::moves::move_of;

@@ -1,4 +1,4 @@
-ghost use Rattle.tg_interference.specs.Laws.{NoOtherStands, NodesExist, OperandsStand};
+ghost use Rattle.tg_interference.specs.laws.Laws.{NoOtherStands, NodesExist, OperandsStand};
 
 /// The laws of nodes: exactly one operand stands at each, and an operand has a node exactly where
 /// it may interfere with another.

@@ -13,7 +13,7 @@ use Rattle.tg_irc.specs.States.{Problem, RoundState, start, low, remains, move_a
 use Rattle.tg_irc.specs.Steps.{can, after, after_all, AreTaken}
 use Rattle.tg_irc.specs.Selection.{Colouring, precoloured, is_free, pop, select}
 use Rattle.tg_irc.specs.Rounds.{end}
-use Rattle.tg_irc.specs.Laws.{AreNodes, IsTemporary, RoundsAreOfNodes}
+use Rattle.tg_irc.specs.laws.Laws.{AreNodes, IsTemporary, RoundsAreOfNodes}
 use Rattle.tg_irc.proofs.Deciding.{both, not_true}
 use Rattle.tg_irc.proofs.Within.{Merged, merged_of}
 

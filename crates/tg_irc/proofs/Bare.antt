@@ -14,8 +14,8 @@ use Rattle.tg_irc.specs.States.{Problem, RoundState, start, low, remains}
 use Rattle.tg_irc.specs.Steps.{can, after, after_all, AreTaken}
 use Rattle.tg_irc.specs.Selection.{Colouring, has_colour, precoloured, sees, is_free, pop, select}
 use Rattle.tg_irc.specs.Rounds.{end, IsRound}
-use Rattle.tg_irc.specs.Laws.{IsTemporary, is_stacked}
-use Rattle.tg_irc.specs.Classes.{IsAlone, BareAreFirstColoured, SpilledNameClasses, RegistersStandAbove}
+use Rattle.tg_irc.specs.laws.Laws.{IsTemporary, is_stacked}
+use Rattle.tg_irc.specs.laws.Classes.{IsAlone, BareAreFirstColoured, SpilledNameClasses, RegistersStandAbove}
 use Rattle.tg_irc.proofs.Deciding.{clash, both, and_true, either, or_left, or_right, neither, tells, never, not_true, from_false}
 use Rattle.tg_irc.proofs.Deciding.{same_node, same_test, some_is}
 use Rattle.tg_irc.proofs.Classes.{Holds, holds_at_start, holds_after, holds_from_start}

@@ -11,7 +11,7 @@ use Rattle.tg_irc.specs.declared.moves.MoveState.TheVariants.{Coalesced, Constra
 use Rattle.tg_irc.specs.Graphs.{IsGraph, is_register, Pairs, without, merged}
 use Rattle.tg_irc.specs.States.{Problem, RoundState, start, low, remains}
 use Rattle.tg_irc.specs.Steps.{can, settle, freeze, take_out, after, after_all, AreTaken}
-use Rattle.tg_irc.specs.Laws.{AreNodes, IsSound, HasClasses, is_stacked, PairsAreOfClasses}
+use Rattle.tg_irc.specs.laws.Laws.{AreNodes, IsSound, HasClasses, is_stacked, PairsAreOfClasses}
 use Rattle.tg_irc.proofs.Deciding.{clash, both, and_true, either, or_left, or_right, tells, never, not_true}
 use Rattle.tg_irc.proofs.Deciding.{same_node, same_test}
 use Rattle.tg_irc.proofs.Counting.{stays_in, was_in}

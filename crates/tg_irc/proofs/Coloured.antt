@@ -8,8 +8,8 @@ use Rattle.tg_irc.specs.Graphs.{colour_count, is_register, some}
 use Rattle.tg_irc.specs.States.{Problem, RoundState, remains}
 use Rattle.tg_irc.specs.Selection.{Colouring, precoloured, is_free, pop, select}
 use Rattle.tg_irc.specs.Rounds.{end}
-use Rattle.tg_irc.specs.Laws.{EachIsColoured, is_stacked}
-use Rattle.tg_irc.specs.Classes.{ClassesAreApart}
+use Rattle.tg_irc.specs.laws.Laws.{EachIsColoured, is_stacked}
+use Rattle.tg_irc.specs.laws.Classes.{ClassesAreApart}
 use Rattle.tg_irc.proofs.Deciding.{clash, and_true, either, neither, tells, not_true, from_false, same_node, same_test, some_is}
 use Rattle.tg_irc.proofs.Classes.{Holds, holds_from_start}
 use Rattle.tg_irc.proofs.Answering.{answered}

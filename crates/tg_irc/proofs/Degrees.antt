@@ -5,7 +5,7 @@ use Rattle.std.proofs.Common.{ap, subst, arith, ⊎_elim}
 use Rattle.std.specs.Prelude.{◌==◌}
 use Rattle.tg_irc.specs.Graphs.{Set, bit, count, without, merged}
 use Rattle.tg_irc.specs.States.{Problem, RoundState}
-use Rattle.tg_irc.specs.Degrees.{TakenOutIsLess, MergedIsLess, MergedIsMore}
+use Rattle.tg_irc.specs.laws.Degrees.{TakenOutIsLess, MergedIsLess, MergedIsMore}
 use Rattle.tg_irc.proofs.Deciding.{clash, both, and_true, either, or_left, or_right, tells, never}
 use Rattle.tg_irc.proofs.Deciding.{same_node, same_test}
 use Rattle.tg_irc.proofs.Counting.{count_le, count_out, stays_in, was_in}

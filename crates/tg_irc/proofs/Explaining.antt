@@ -15,10 +15,10 @@ use Rattle.tg_irc.specs.States.{touches}
 use Rattle.tg_irc.specs.Steps.{passes, is_same, is_constrained, is_safe, can, can_move, kind, settle}
 use Rattle.tg_irc.specs.Steps.{freeze, after, after_all, IsTaken, AreTaken}
 use Rattle.tg_irc.specs.Selection.{select}
-use Rattle.tg_irc.specs.Laws.{IsFrozenAtLast, MovesAreExplained}
+use Rattle.tg_irc.specs.laws.Laws.{IsFrozenAtLast, MovesAreExplained}
 use Rattle.tg_irc.proofs.Deciding.{clash, both, and_true, either, or_left, or_right, neither, tells, never, not_true}
 use Rattle.tg_irc.proofs.Deciding.{and_false, same_node, same_test, some_is}
-use Rattle.tg_irc.specs.Laws.{StandsWell}
+use Rattle.tg_irc.specs.laws.Laws.{StandsWell}
 use Rattle.tg_irc.proofs.Standing.{stands_at_start, stands_after, stands_either}
 use Rattle.tg_irc.proofs.Answering.{the_same, is_coloured, state_of}
 

@@ -10,7 +10,7 @@ use Rattle.tg_irc.specs.declared.moves.MoveState.TheVariants.{Coalesced, Constra
 use Rattle.tg_irc.specs.Graphs.{colour_count, is_register, Pairs, count, without, merged, IsGraph}
 use Rattle.tg_irc.specs.States.{Problem, RoundState, start, low, remains, to, from, is_unsettled, touches}
 use Rattle.tg_irc.specs.Steps.{briggs, george, passes, is_same, is_constrained, is_safe, stands_under, can, after, settle, freeze, take_out}
-use Rattle.tg_irc.specs.Laws.{AreNodes, IsSound}
+use Rattle.tg_irc.specs.laws.Laws.{AreNodes, IsSound}
 use Rattle.tg_irc.proofs.Deciding.{clash, both, and_true, either, or_left, or_right, or_swap, neither, tells, never}
 use Rattle.tg_irc.proofs.Deciding.{not_true, from_false, and_false, same_node, same_test}
 use Rattle.tg_irc.proofs.Counting.{count_le, stays_in}

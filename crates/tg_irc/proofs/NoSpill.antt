@@ -9,7 +9,7 @@ use Rattle.tg_irc.specs.declared.steps.Step.TheVariants.{Simplify, Same, Constra
 use Rattle.tg_irc.specs.Graphs.{colour_count, is_register, without, IsGreedilyColourable}
 use Rattle.tg_irc.specs.States.{Problem, RoundState, low, remains, is_move_related}
 use Rattle.tg_irc.specs.Steps.{briggs, george, can, after, IsTaken, AreTaken}
-use Rattle.tg_irc.specs.Laws.{is_spill, IsSound}
+use Rattle.tg_irc.specs.laws.Laws.{is_spill, IsSound}
 use Rattle.tg_irc.proofs.Deciding.{clash, both, and_true, either, tells, never, not_true, from_false, or_false}
 use Rattle.tg_irc.proofs.Deciding.{every_is}
 use Rattle.tg_irc.proofs.Counting.{was_in}

@@ -9,7 +9,7 @@ use Rattle.tg_irc.specs.Graphs.{colour_count, is_register, Set}
 use Rattle.tg_irc.specs.States.{Problem, RoundState}
 use Rattle.tg_irc.specs.Selection.{Colouring, has_colour, precoloured, sees, is_free, pop, select}
 use Rattle.tg_irc.specs.Rounds.{end}
-use Rattle.tg_irc.specs.Laws.{ColoursDiffer, RegistersAreColoured, ColoursAreRegisters}
+use Rattle.tg_irc.specs.laws.Laws.{ColoursDiffer, RegistersAreColoured, ColoursAreRegisters}
 use Rattle.tg_irc.proofs.Deciding.{clash, and_true, or_left, or_right, neither, tells, never, not_true}
 use Rattle.tg_irc.proofs.Deciding.{same_node, same_test, some_is}
 use Rattle.tg_irc.proofs.Classes.{Holds, holds_from_start}

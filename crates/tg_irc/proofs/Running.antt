@@ -4,7 +4,7 @@ use Rattle.std.proofs.lemmas.Bool.{lt-ltb}
 use Rattle.tg_irc.specs.Graphs.{is_register}
 use Rattle.tg_irc.specs.States.{Problem, RoundState, remains, to, from, is_unsettled}
 use Rattle.tg_irc.specs.Steps.{is_same, is_constrained, can_move, after}
-use Rattle.tg_irc.specs.Laws.{IsSound, RunsGoOn, NothingLeftIsOver}
+use Rattle.tg_irc.specs.laws.Laws.{IsSound, RunsGoOn, NothingLeftIsOver}
 use Rattle.tg_irc.proofs.Deciding.{clash, and_true, or_left, or_right, tells, never, from_false, or_false, some_is}
 
 pub runs_go_on : RunsGoOn

@@ -11,7 +11,7 @@ use Rattle.tg_irc.specs.Graphs.{colour_count, is_register, Set, some, neighbours
 use Rattle.tg_irc.specs.States.{Problem, RoundState, start, low, remains}
 use Rattle.tg_irc.specs.Steps.{can, after, after_all, IsTaken, AreTaken}
 use Rattle.tg_irc.specs.Selection.{Colouring, has_colour, precoloured, is_free, pop}
-use Rattle.tg_irc.specs.Laws.{is_spill, is_stacked, ColourableNeverSpills}
+use Rattle.tg_irc.specs.laws.Laws.{is_spill, is_stacked, ColourableNeverSpills}
 use Rattle.tg_irc.proofs.Deciding.{clash, both, and_true, either, or_right, neither, tells, never, from_false}
 use Rattle.tg_irc.proofs.Deciding.{same_node, some_is}
 use Rattle.tg_irc.proofs.Counting.{was_in, free_colour}

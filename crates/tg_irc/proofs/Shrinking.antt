@@ -10,7 +10,7 @@ use Rattle.tg_irc.specs.Graphs.{is_register, count, without}
 use Rattle.tg_irc.specs.States.{Problem, RoundState, is_ready_or_waiting, low, remains, is_unsettled, touches}
 use Rattle.tg_irc.specs.States.{is_move_related}
 use Rattle.tg_irc.specs.Steps.{is_safe, can, settle, freeze, take_out, after}
-use Rattle.tg_irc.specs.Laws.{work_left, StepsShrink}
+use Rattle.tg_irc.specs.laws.Laws.{work_left, StepsShrink}
 use Rattle.tg_irc.proofs.Deciding.{clash, both, and_true, never, same_test, some_is}
 use Rattle.tg_irc.proofs.Counting.{count_le, was_in, count_less}
 

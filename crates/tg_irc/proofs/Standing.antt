@@ -11,7 +11,7 @@ use Rattle.tg_irc.specs.Steps.{stands_under, can}
 use Rattle.tg_irc.specs.Steps.{after}
 use Rattle.tg_irc.proofs.Deciding.{clash, both, and_true, either, or_left, or_right, tells, never, not_true}
 use Rattle.tg_irc.proofs.Deciding.{from_false, same_node, same_test, every_is}
-use Rattle.tg_irc.specs.Laws.{StandsWell, StandsByFacts}
+use Rattle.tg_irc.specs.laws.Laws.{StandsWell, StandsByFacts}
 
 module _ (g : Problem) where
   abbrev made : ℕ → Bool

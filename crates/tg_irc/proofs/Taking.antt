@@ -7,7 +7,7 @@ use Rattle.tg_irc.specs.declared.steps.Step.TheVariants.{Simplify, Same, Constra
 use Rattle.tg_irc.specs.Graphs.{some}
 use Rattle.tg_irc.specs.States.{Problem, RoundState, remains, is_unsettled}
 use Rattle.tg_irc.specs.Steps.{can, can_move, kind, after, IsTaken, AreTaken, is_same, is_constrained, is_safe}
-use Rattle.tg_irc.specs.Laws.{FirstAreTaken}
+use Rattle.tg_irc.specs.laws.Laws.{FirstAreTaken}
 use Rattle.tg_irc.proofs.Deciding.{both, and_true, or_left, or_right, clash, never, not_true, none}
 
 module _ (g : Problem) where

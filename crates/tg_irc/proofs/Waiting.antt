@@ -10,8 +10,8 @@ use Rattle.tg_irc.specs.Graphs.{colour_count, is_register, Set, Pairs, count, ev
 use Rattle.tg_irc.specs.Graphs.{is_low, merged}
 use Rattle.tg_irc.specs.States.{Problem, RoundState, low, to, from, is_unsettled, remains}
 use Rattle.tg_irc.specs.Steps.{briggs, george, passes, can, can_move, after}
-use Rattle.tg_irc.specs.Waiting.{IsSymmetric, turns_low, is_by_turned, is_woken, is_near, is_disturbed, WaitingFails}
-use Rattle.tg_irc.specs.Waiting.{WokenAreDisturbed}
+use Rattle.tg_irc.specs.laws.Waiting.{IsSymmetric, turns_low, is_by_turned, is_woken, is_near, is_disturbed, WaitingFails}
+use Rattle.tg_irc.specs.laws.Waiting.{WokenAreDisturbed}
 use Rattle.tg_irc.proofs.Counting.{count_le, fails_at, fails}
 use Rattle.tg_irc.proofs.Settling.{frozen_is, settled_at}
 use Rattle.tg_irc.proofs.Deciding.{clash, both, and_true, either, or_left, or_right, neither, tells, never, not_true}

@@ -12,8 +12,8 @@ use Rattle.tg_irc.specs.Graphs.{Set}
 use Rattle.tg_irc.specs.States.{Problem, RoundState, start, move_at, to, from, is_unsettled}
 use Rattle.tg_irc.specs.Steps.{is_safe, stands_under, can, after, after_all, AreTaken}
 use Rattle.tg_irc.specs.Rounds.{end, IsRound}
-use Rattle.tg_irc.specs.Classes.{class_of, HasWholeMoves, ClassesStayWithin, IsUntouched, UntouchedStandAlone}
-use Rattle.tg_irc.specs.Classes.{IsTouchedFrom, OneNeighbourIsJoined}
+use Rattle.tg_irc.specs.laws.Classes.{class_of, HasWholeMoves, ClassesStayWithin, IsUntouched, UntouchedStandAlone}
+use Rattle.tg_irc.specs.laws.Classes.{IsTouchedFrom, OneNeighbourIsJoined}
 use Rattle.tg_irc.proofs.Deciding.{clash, both, either, tells, never, not_true, same_node, same_test}
 use Rattle.tg_irc.proofs.Answering.{listed_at}
 use Rattle.tg_irc.proofs.Explaining.{same_to_end}

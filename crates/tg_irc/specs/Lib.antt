@@ -4,7 +4,4 @@ pub mod States
 pub mod Steps
 pub mod Selection
 pub mod Rounds
-pub mod Laws
-pub mod Classes
-pub mod Waiting
-pub mod Degrees
+pub mod laws

@@ -1,4 +1,4 @@
-ghost use Rattle.tg_irc.specs.Laws.{
+ghost use Rattle.tg_irc.specs.laws.Laws.{
   ColourableNeverSpills,
   MovesAreExplained,
   ColoursDiffer,
@@ -19,7 +19,7 @@ ghost use Rattle.tg_irc.specs.Laws.{
   PairsAreOfClasses,
   RoundsAreOfNodes,
 };
-ghost use Rattle.tg_irc.specs.Classes.{
+ghost use Rattle.tg_irc.specs.laws.Classes.{
   ClassesAreApart,
   ClassesStayWithin,
   UntouchedStandAlone,
@@ -28,8 +28,8 @@ ghost use Rattle.tg_irc.specs.Classes.{
   SpilledNameClasses,
   RegistersStandAbove,
 };
-ghost use Rattle.tg_irc.specs.Degrees.{TakenOutIsLess, MergedIsLess, MergedIsMore};
-ghost use Rattle.tg_irc.specs.Waiting.{WaitingFails, WokenAreDisturbed};
+ghost use Rattle.tg_irc.specs.laws.Degrees.{TakenOutIsLess, MergedIsLess, MergedIsMore};
+ghost use Rattle.tg_irc.specs.laws.Waiting.{WaitingFails, WokenAreDisturbed};
 
 /// The law that a round on a greedily colourable graph spills nothing (George and Appel 1996,
 /// section 4: coalescing that keeps a graph greedily colourable).

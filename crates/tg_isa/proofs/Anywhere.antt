@@ -15,7 +15,7 @@ use Rattle.tg_state.specs.Services.{text_at, text_from, before, write_text}
 use Rattle.tg_isa.specs.declared.mips.Mips.{Mips}
 use Rattle.tg_isa.specs.declared.mips.Mips.TheVariants as row
 use Rattle.tg_isa.specs.Effects.{effect, put, put_exact, stored, extended_load, divide, effective_address}
-use Rattle.tg_isa.specs.Anywhere.{on, step_on, IsStraight, EffectsAreAnywhere}
+use Rattle.tg_isa.specs.laws.Anywhere.{on, step_on, IsStraight, EffectsAreAnywhere}
 
 abbrev stored_on : (code : List ℕ) → (place : ℕ) → Result MachineState RunEnd → Result MachineState RunEnd
 stored_on code place (Ok s) = Ok (on code place s)

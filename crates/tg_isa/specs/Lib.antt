@@ -3,4 +3,4 @@ pub mod Table
 pub mod Effects
 pub mod Runs
 pub mod ImageRuns
-pub mod Anywhere
+pub mod laws

@@ -1,10 +1,10 @@
-ghost use Rattle.tg_isa.specs.Anywhere.{EffectsAreAnywhere};
 ghost use Rattle.tg_isa.specs.ImageRuns.{
   MachineEndsByItsWork,
   MachineGoesOn,
   MachineStaysOver,
   RunsByFuel,
 };
+ghost use Rattle.tg_isa.specs.laws.Anywhere.{EffectsAreAnywhere};
 
 /// The laws of the machine's run by fuel: it is what so many steps come to, what has ended stays so
 /// with more fuel and did so in as many steps as it has worked, and with more fuel a run goes on

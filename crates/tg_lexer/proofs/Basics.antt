@@ -5,7 +5,7 @@ use Rattle.std.specs.Prelude.{◌==◌}
 use Rattle.std.proofs.lemmas.Bool.{eq-eqb}
 use Rattle.std.proofs.lemmas.List.{take_more, drop_more, drop_all, take_all, take_at, drop_at, drop-drop}
 use Rattle.tg_syntax.specs.Spellings.{AllAre}
-use Rattle.tg_lexer.specs.Lexemes.{IsStretch}
+use Rattle.tg_lexer.specs.glue.Lexemes.{IsStretch}
 
 pub clash : {b : Bool} → b ≡ false → b ≡ true → ⊥
 clash x y = cc

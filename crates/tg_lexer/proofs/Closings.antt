@@ -3,7 +3,7 @@ use Rattle.std.proofs.Common.{ℕ, zero, suc, ◌+◌, ◌≡◌, ◌≢◌, ◌
 use Rattle.std.proofs.Common.{arith, append_assoc}
 use Rattle.std.proofs.lemmas.List.{drop_all, drop_more, append_cancel_right}
 use Rattle.tg_syntax.specs.Lexing.{BeginsWithPair, OpensComment, ClosesComment, Closes, done, closes, opens, byte}
-use Rattle.tg_lexer.specs.Lexemes.{NeverCloses}
+use Rattle.tg_lexer.specs.glue.Lexemes.{NeverCloses}
 use Rattle.tg_lexer.proofs.Basics.{head_is, tail_is, not_cons, differ, drop_piece, take_piece, within_piece}
 
 -- what closes something isn't empty

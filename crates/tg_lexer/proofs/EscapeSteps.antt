@@ -11,7 +11,7 @@ use Rattle.tg_syntax.specs.Spellings.{Escape, newline, tab, quote, backslash, co
 use Rattle.tg_syntax.specs.LexicalFaults.{IsBegun, Misfits}
 use Rattle.tg_lexer.specs.declared.escapes.Escaped.{Escaped}
 use Rattle.tg_lexer.specs.declared.escapes.Escaped.TheVariants.{Cut, Bad}
-use Rattle.tg_lexer.specs.Lexemes.{IsCut, ended, line, IsBad, bad, IsEscape, IsMisfit, IsStretch}
+use Rattle.tg_lexer.specs.glue.Lexemes.{IsCut, ended, line, IsBad, bad, IsEscape, IsMisfit, IsStretch}
 use Rattle.tg_lexer.proofs.Basics.{head_is, tail_is, not_cons, differ, apart, clash, AllAre_right}
 
 -- the bytes of a text, by its places

@@ -11,8 +11,8 @@ use Rattle.tg_syntax.specs.declared.tokens.Word.{Word}
 use Rattle.tg_syntax.specs.declared.tokens.Spanned.{Spanned}
 use Rattle.tg_syntax.specs.Spellings.{word_text, is_letter, is_name_byte}
 use Rattle.tg_syntax.proofs.Longest.{name_longest}
-use Rattle.tg_lexer.specs.Lexemes.{IsStretch, IsToken, BeginsWith}
 use Rattle.tg_lexer.specs.Numbering.{with_name, all_named, idents, ident_text}
+use Rattle.tg_lexer.specs.glue.Lexemes.{IsStretch, IsToken, BeginsWith}
 use Rattle.tg_lexer.proofs.Readings.{name_of, no_slash, stopped}
 
 -- the place of a text that was interned

@@ -17,8 +17,8 @@ use Rattle.tg_syntax.specs.Spellings.{sign, digits, quoted}
 use Rattle.tg_syntax.specs.Lexing.{OpensComment, Closes, IsLongest}
 use Rattle.tg_syntax.specs.LexicalFaults.{FaultAt, illegal_byte, comment_not_closed, large_int}
 use Rattle.tg_syntax.proofs.Longest.{begins, is_mark, form_of_mark, name_longest, digits_longest}
-use Rattle.tg_lexer.specs.Lexemes.{IsStretch, NeverCloses, IsSignFront, IsString, IsGap, blank, comment, IsToken, BeginsWith, BeginsQuote, BeginsOther}
-use Rattle.tg_lexer.specs.Lexemes.{is_other}
+use Rattle.tg_lexer.specs.glue.Lexemes.{IsStretch, NeverCloses, IsSignFront, IsString, IsGap, blank, comment, IsToken, BeginsWith, BeginsQuote, BeginsOther}
+use Rattle.tg_lexer.specs.glue.Lexemes.{is_other}
 use Rattle.tg_lexer.proofs.Basics.{head_is, tail_is, apart, clash}
 use Rattle.tg_lexer.proofs.Closings.{two_bytes}
 use Rattle.tg_lexer.proofs.Quotings.{quoted_once}

@@ -13,8 +13,8 @@ use Rattle.tg_syntax.specs.Spellings.{Spells, word_text}
 use Rattle.tg_syntax.specs.Lexing.{Lexes, spanned, OpensComment}
 use Rattle.tg_syntax.specs.LexicalFaults.{LeadsTo, FaultAt, HasLexicalFault, met}
 use Rattle.tg_syntax.proofs.Longest.{begins, is_mark}
-use Rattle.tg_lexer.specs.Lexemes.{IsGap, blank, comment, IsToken, IsRead}
 use Rattle.tg_lexer.specs.declared.lexemes.Lexeme.TheVariants.{One}
+use Rattle.tg_lexer.specs.glue.Lexemes.{IsGap, blank, comment, IsToken, IsRead}
 use Rattle.tg_base.specs.declared.faulty.Faulty.{Faulty}
 use Rattle.tg_base.specs.declared.faulty.Faulty.TheVariants.{Bad, Memory}
 use Rattle.tg_base.specs.FirstFaults.{OnBad}

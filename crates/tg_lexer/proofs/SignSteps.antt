@@ -6,7 +6,7 @@ use Rattle.tg_syntax.specs.declared.tokens.Sign.TheVariants.{Comma, Colon, Less,
 use Rattle.tg_syntax.specs.Spellings.{sign_text}
 use Rattle.tg_syntax.specs.Lexing.{IsLongest}
 use Rattle.tg_syntax.proofs.Longest.{begins, is_mark, form_of_mark}
-use Rattle.tg_lexer.specs.Lexemes.{IsSign, IsSignFront}
+use Rattle.tg_lexer.specs.glue.Lexemes.{IsSign, IsSignFront}
 use Rattle.tg_lexer.proofs.Basics.{head_is, not_cons, clash}
 use Rattle.tg_lexer.proofs.EscapeSteps.{first_byte, two_first, alone}
 

@@ -5,7 +5,7 @@ use Rattle.tg_syntax.specs.declared.tokens.Token.TheVariants as token
 use Rattle.tg_syntax.specs.declared.tokens.Spanned.{Spanned}
 use Rattle.tg_syntax.specs.Spellings.{Spells}
 use Rattle.tg_syntax.specs.Lexing.{Lexes, ends, blank, comment, token as one_token}
-use Rattle.tg_lexer.specs.Spelled.{SpellsOrEnds, AreSpelled}
+use Rattle.tg_lexer.specs.laws.Spelled.{SpellsOrEnds, AreSpelled}
 
 spelled : (names : List (List ℕ)) (bytes after : List ℕ) (one : Token) → Spells names bytes one → SpellsOrEnds names bytes after one
 spelled names bytes after token.End h = absurd h

@@ -7,7 +7,7 @@ use Rattle.tg_syntax.specs.declared.faults.LexRule.TheVariants.{L3, L4, L6}
 use Rattle.tg_syntax.specs.Spellings.{IsQuoted, nothing, plain, escaped, Escape, is_plain}
 use Rattle.tg_syntax.specs.LexicalFaults.{FaultInString, end_in_string, line_in_string, control_byte, end_in_escape, line_in_escape, bad_escape}
 use Rattle.tg_syntax.specs.LexicalFaults.{is_control, FaultAt, in_string}
-use Rattle.tg_lexer.specs.Lexemes.{IsString, IsCut, ended, line, IsBad, bad}
+use Rattle.tg_lexer.specs.glue.Lexemes.{IsString, IsCut, ended, line, IsBad, bad}
 use Rattle.tg_lexer.proofs.Basics.{take_piece, within_piece}
 use Rattle.tg_lexer.proofs.Quotings.{IsQuoted-append}
 

@@ -1,3 +1,3 @@
-pub mod Lexemes
 pub mod Numbering
-pub mod Spelled
+pub mod glue
+pub mod laws

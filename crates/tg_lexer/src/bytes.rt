@@ -5,7 +5,7 @@ ghost use Rattle.tg_syntax.specs.Spellings.{
   is_letter as letter,
   is_name_byte as name_byte,
 };
-ghost use Rattle.tg_lexer.specs.Lexemes.{IsStretch, in_class};
+ghost use Rattle.tg_lexer.specs.glue.Lexemes.{IsStretch, in_class};
 
 // A tab, a newline, a form feed, a carriage return or a space.
 pub(crate) fn is_blank(byte: u8) -> bool

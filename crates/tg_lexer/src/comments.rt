@@ -1,4 +1,4 @@
-ghost use Rattle.tg_lexer.specs.Lexemes.{FoundComment, IsMark};
+ghost use Rattle.tg_lexer.specs.glue.Lexemes.{FoundComment, IsMark};
 
 // How many bytes a comment has, after the `/*` that opens it, where it is closed.
 pub(crate) fn comment(text: &[u8]) -> Option<usize>

@@ -1,7 +1,7 @@
 ghost use Rattle.std.specs.Prelude.{◌≡◌, ◌||◌, [], ◌∷◌, IsTrue, Some, slice_get};
 ghost use Rattle.std.specs.Str.Parse.{digits_value};
 ghost use Rattle.tg_syntax.specs.Spellings.{is_white_space as blank, is_digit as digit, is_between};
-ghost use Rattle.tg_lexer.specs.Lexemes.{IsEscape, IsMisfit};
+ghost use Rattle.tg_lexer.specs.glue.Lexemes.{IsEscape, IsMisfit};
 
 use crate::bytes::{Class, byte_at, count_run, is_blank, is_digit};
 

@@ -4,7 +4,7 @@ ghost use Rattle.tg_syntax.specs.declared.faults.LexRule.{LexRule};
 ghost use Rattle.tg_syntax.specs.declared.tokens.Spanned.{Spanned};
 ghost use Rattle.tg_syntax.specs.Lexing.{Lexes};
 ghost use Rattle.tg_syntax.specs.LexicalFaults.{HasLexicalFault};
-ghost use Rattle.tg_lexer.specs.Spelled.{SpansTokens};
+ghost use Rattle.tg_lexer.specs.laws.Spelled.{SpansTokens};
 
 /// The law that a text has at most one list of tokens, where no name stands twice. It does nothing.
 pub fn lexes_once()

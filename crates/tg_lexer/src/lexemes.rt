@@ -7,8 +7,8 @@ ghost use Rattle.tg_syntax.specs.Spellings.{
 };
 ghost use Rattle.tg_syntax.specs.Lexing.{OpensComment};
 ghost use Rattle.tg_base.specs.Interned.{IsInterned};
-ghost use Rattle.tg_lexer.specs.Lexemes.{IsRead, BeginsWith, BeginsQuote, BeginsOther};
 ghost use Rattle.tg_lexer.specs.Numbering.{names_after};
+ghost use Rattle.tg_lexer.specs.glue.Lexemes.{IsRead, BeginsWith, BeginsQuote, BeginsOther};
 
 use crate::bytes::{Class, count_run, is_blank, is_digit, is_letter};
 use crate::comments::comment;

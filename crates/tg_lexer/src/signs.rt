@@ -1,5 +1,5 @@
 ghost use Rattle.std.specs.Prelude.{[], ◌∷◌};
-ghost use Rattle.tg_lexer.specs.Lexemes.{FoundSign, IsSign};
+ghost use Rattle.tg_lexer.specs.glue.Lexemes.{FoundSign, IsSign};
 
 use crate::bytes::byte_at;
 use tg_syntax::Sign;

@@ -1,6 +1,6 @@
 ghost use Rattle.std.specs.Prelude.{◌≡◌, ◌≤◌, ◌+◌, length, IfOk};
 ghost use Rattle.tg_syntax.specs.Spellings.{is_plain as plain};
-ghost use Rattle.tg_lexer.specs.Lexemes.{IsBehindQuote};
+ghost use Rattle.tg_lexer.specs.glue.Lexemes.{IsBehindQuote};
 
 use crate::escapes::{Escaped, escape};
 use std::alloc::Global;

@@ -16,12 +16,12 @@ use Rattle.tg_syntax.specs.Lexing.{Lexes, spanned, IsLongest}
 use Rattle.tg_syntax.specs.Grammar.{Sum, Reads, whole_up, or_up, and_up, cmp_two, sum_up, term_up, unary_primary, primary_text, program}
 use Rattle.tg_syntax.proofs.Longest.{begins, mark_longest}
 use Rattle.tg_syntax.proofs.Numerals.{bytes_of_digits, digits_of_bytes}
-use Rattle.tg_translate.specs.Scopes.{Findings}
-use Rattle.tg_translate.specs.Translate.{translated}
+use Rattle.tg_translate.specs.mirror.Scopes.{Findings}
+use Rattle.tg_translate.specs.mirror.Translate.{translated}
 use Rattle.tg_translate_laws.specs.Strings.{strings}
 use Rattle.tg_translate_laws.specs.Programs.{with_runtime}
 use Rattle.tg_literal_bounds.specs.TokenStrings.{spaced_length}
-use Rattle.tg_literal_bounds.specs.Laws.{IsTextOf, statics_length}
+use Rattle.tg_literal_bounds.specs.laws.Laws.{IsTextOf, statics_length}
 
 abbrev text : List ℕ
 text = codes "\"a\"=\"\\066\\n\""

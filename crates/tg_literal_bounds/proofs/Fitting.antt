@@ -5,7 +5,7 @@ use Rattle.std.proofs.Math.Nat.{mul-zero, mul-suc}
 use Rattle.std.proofs.lemmas.List.Sums.{sum_by-cons}
 use Rattle.tg_translate_laws.specs.Strings.{strings}
 use Rattle.tg_literal_bounds.specs.TokenStrings.{spaced_length}
-use Rattle.tg_literal_bounds.specs.Laws.{StringsFitText, StringsAreShort}
+use Rattle.tg_literal_bounds.specs.laws.Laws.{StringsFitText, StringsAreShort}
 use Rattle.tg_literal_bounds.proofs.Reading.{program_has}
 use Rattle.tg_literal_bounds.proofs.Spelling.{tokens_fit}
 

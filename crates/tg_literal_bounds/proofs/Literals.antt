@@ -6,13 +6,13 @@ use Rattle.std.proofs.lemmas.List.Sums.{sum_by-cons}
 use Rattle.tg_state.specs.State.{padded}
 use Rattle.tg_syntax.specs.Tree.{Exp}
 use Rattle.tg_tree.specs.Memory.{string_text}
-use Rattle.tg_translate.specs.Scopes.{Findings}
-use Rattle.tg_translate.specs.Translate.{translated}
+use Rattle.tg_translate.specs.mirror.Scopes.{Findings}
+use Rattle.tg_translate.specs.mirror.Translate.{translated}
 use Rattle.tg_translate_laws.specs.Strings.{strings}
-use Rattle.tg_translate_laws.specs.Laws.{LiteralsAreStrings, LiteralsAreShort}
+use Rattle.tg_translate_laws.specs.laws.Laws.{LiteralsAreStrings, LiteralsAreShort}
 use Rattle.tg_translate_laws.proofs.Shaping.{sum_by-map, length_text}
 use Rattle.tg_literal_bounds.specs.TokenStrings.{spaced_length}
-use Rattle.tg_literal_bounds.specs.Laws.{LiteralsAreFew, LiteralsFitText, StaticsFitText, StaticsFitSegment, statics_length}
+use Rattle.tg_literal_bounds.specs.laws.Laws.{LiteralsAreFew, LiteralsFitText, StaticsFitText, StaticsFitSegment, statics_length}
 use Rattle.tg_literal_bounds.proofs.Fitting.{each_more, strings_fit}
 
 -- zeros up to a multiple of four bytes

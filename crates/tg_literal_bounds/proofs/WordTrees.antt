@@ -17,7 +17,7 @@ use Rattle.tg_syntax.specs.Grammar.{any_many, AreInits, one_init, more_inits, Ar
 use Rattle.tg_syntax.specs.Grammar.{dec_function, AreDecs, decs_none, decs_more, IsProgram, program}
 use Rattle.tg_syntax.specs.Lexing.{Lexes}
 use Rattle.tg_syntax.specs.OfWords.{OfWords, PlaceOfWords, ExpsOfWords, InitsOfWords, DecsOfWords, BodiesOfWords}
-use Rattle.tg_literal_bounds.specs.Laws.{TreesAreOfWords}
+use Rattle.tg_literal_bounds.specs.laws.Laws.{TreesAreOfWords}
 use Rattle.tg_literal_bounds.proofs.WordTokens.{IsOfWords, AreOfWords, tokens_of_words, left_of_words, right_of_words}
 
 -- Lists with one more at their end.

@@ -1,2 +1,2 @@
 pub mod TokenStrings
-pub mod Laws
+pub mod laws

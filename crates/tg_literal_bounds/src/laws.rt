@@ -1,4 +1,4 @@
-ghost use Rattle.tg_literal_bounds.specs.Laws.{
+ghost use Rattle.tg_literal_bounds.specs.laws.Laws.{
   LiteralsAreFew,
   LiteralsFitText,
   StaticsFitSegment,

@@ -8,9 +8,9 @@ use Rattle.std.proofs.lemmas.List.{drop_more, drop_all, get_or_past}
 use Rattle.std.proofs.lemmas.List.FromFn.{length-map-range_with_len, get_or-map-range_with_len}
 use Rattle.tg_instr.specs.declared.operands.Opnd.{Opnd}
 use Rattle.tg_live.specs.Live.{Sets, set_at, number_of}
-use Rattle.tg_live.specs.Tables.{row}
+use Rattle.tg_live.specs.glue.Tables.{row}
 use Rattle.tg_live.proofs.Turned.{row_none}
-use Rattle.tg_live.specs.LiveChanges.{lower_count, put_in_order, set_without, all_put_in_order, set_without_all, live_behind, sets_of, set_before}
+use Rattle.tg_live.specs.glue.LiveChanges.{lower_count, put_in_order, set_without, all_put_in_order, set_without_all, live_behind, sets_of, set_before}
 
 -- all of a set have smaller numbers
 abbrev pub is_lower : ℕ → Opnd → Bool

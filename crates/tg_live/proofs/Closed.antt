@@ -7,7 +7,7 @@ use Rattle.tg_instr.specs.declared.instr.Instr.{Instr}
 use Rattle.tg_instr.specs.declared.operands.Opnd.{Opnd}
 use Rattle.tg_live.specs.Flow.{successors, goes_on}
 use Rattle.tg_live.specs.Live.{is_used, is_defined, IsLiveOut}
-use Rattle.tg_live.specs.Tables.{row}
+use Rattle.tg_live.specs.glue.Tables.{row}
 use Rattle.tg_live.proofs.Reach.{least}
 
 module _ (all : List Instr) (x : Opnd) (places : List ℕ) where

@@ -7,9 +7,9 @@ use Rattle.std.proofs.lemmas.List.{length-replicate, get_or_past}
 use Rattle.tg_instr.specs.declared.instr.Instr.{Instr}
 use Rattle.tg_instr.specs.declared.operands.Opnd.{Opnd}
 use Rattle.tg_live.specs.Live.{Sets, set_at, number_of, operand_of, IsLiveOut}
-use Rattle.tg_live.specs.Tables.{row}
-use Rattle.tg_live.specs.Search.{Found, stamp_at, has_stamp, has_stamp_before, IsSearched}
-use Rattle.tg_live.specs.LiveChanges.{ends_in, live_behind, sets_of, AreSearched}
+use Rattle.tg_live.specs.glue.Tables.{row}
+use Rattle.tg_live.specs.mirror.Search.{Found, stamp_at, has_stamp, has_stamp_before, IsSearched}
+use Rattle.tg_live.specs.glue.LiveChanges.{ends_in, live_behind, sets_of, AreSearched}
 use Rattle.tg_live.proofs.Turned.{row_none}
 use Rattle.tg_live.proofs.Places.{goes_within}
 use Rattle.tg_live.proofs.Numbers.{number_operand, ends_among, among_all}

@@ -6,8 +6,8 @@ use Rattle.tg_instr.specs.declared.operands.Opnd.{Opnd}
 use Rattle.tg_instr.specs.Operands.{is_same}
 use Rattle.tg_instr.proofs.Same.{same_itself, same_is}
 use Rattle.tg_live.specs.Live.{Sets, set_at, is_among, is_rising, number_of, operand_of, IsLiveOut, AreLiveSets}
-use Rattle.tg_live.specs.Tables.{Table, AreSites}
-use Rattle.tg_live.specs.LiveChanges.{ends_in, AreSearched}
+use Rattle.tg_live.specs.glue.Tables.{Table, AreSites}
+use Rattle.tg_live.specs.glue.LiveChanges.{ends_in, AreSearched}
 use Rattle.tg_live.proofs.Reach.{used_along}
 use Rattle.tg_live.proofs.Numbers.{number_operand, ends_among, among_push_left, among_push_itself, among_push, rising_push}
 

@@ -6,8 +6,8 @@ use Rattle.std.proofs.lemmas.Bool.{and_parts, ltb-true, eq-eqb, ne_eqb, cases_eq
 use Rattle.std.proofs.lemmas.List.Folds.{list_any_more}
 use Rattle.tg_instr.specs.declared.operands.Opnd.{Opnd}
 use Rattle.tg_live.specs.Live.{Sets}
-use Rattle.tg_live.specs.Tables.{row, push_at}
-use Rattle.tg_live.specs.LiveChanges.{ends_in}
+use Rattle.tg_live.specs.glue.Tables.{row, push_at}
+use Rattle.tg_live.specs.glue.LiveChanges.{ends_in}
 use Rattle.tg_live.proofs.Turned.{row_same, row_other}
 use Rattle.tg_live.proofs.Numbers.{ends_push}
 

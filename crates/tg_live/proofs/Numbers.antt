@@ -11,8 +11,8 @@ use Rattle.tg_instr.specs.Operands.{is_same}
 use Rattle.tg_instr.specs.Codes.{is_below}
 use Rattle.tg_instr.proofs.Same.{same_itself, same_is}
 use Rattle.tg_live.specs.Live.{is_among, number_of, operand_of, is_proper, is_rising}
-use Rattle.tg_live.specs.Tables.{numbers_of}
-use Rattle.tg_live.specs.LiveChanges.{ends_in}
+use Rattle.tg_live.specs.glue.Tables.{numbers_of}
+use Rattle.tg_live.specs.glue.LiveChanges.{ends_in}
 
 pub number_operand : (n : ℕ) → number_of (operand_of n) ≡ n
 number_operand n = ⊎_elim low high (cases_lt n 32)

@@ -14,7 +14,7 @@ use Rattle.tg_instr.specs.Uses.{uses_of, defs_of}
 use Rattle.tg_instr.specs.Codes.{is_mark, leads_to_marks, is_end, ends_well, has_temps_below, is_below}
 use Rattle.tg_live.specs.Flow.{place_of, onward, onward_from, successors, goes_on}
 use Rattle.tg_live.specs.Live.{is_used, uses_at, is_proper, number_of, operand_of}
-use Rattle.tg_live.specs.Tables.{Table, row, push_at, add_to, have_rows_below, IsBefore, numbers_of, numbers_used, add_from, AreSites}
+use Rattle.tg_live.specs.glue.Tables.{Table, row, push_at, add_to, have_rows_below, IsBefore, numbers_of, numbers_used, add_from, AreSites}
 use Rattle.tg_live.proofs.Turned.{turned, length-add_from}
 use Rattle.tg_live.proofs.Numbers.{number_among, among_proper, operand_number, among_all, number_below, numbers_below}
 

@@ -8,8 +8,8 @@ use Rattle.tg_instr.specs.declared.instr.Instr.{Instr}
 use Rattle.tg_instr.specs.declared.operands.Opnd.{Opnd}
 use Rattle.tg_live.specs.Flow.{goes_on}
 use Rattle.tg_live.specs.Live.{is_used, is_defined, IsLiveOut}
-use Rattle.tg_live.specs.Tables.{Table, row, IsBefore}
-use Rattle.tg_live.specs.Search.{Found, found, stamp_at, has_stamp, enter, enter_all, enter_before, visit, IsSearched}
+use Rattle.tg_live.specs.glue.Tables.{Table, row, IsBefore}
+use Rattle.tg_live.specs.mirror.Search.{Found, found, stamp_at, has_stamp, enter, enter_all, enter_before, visit, IsSearched}
 use Rattle.tg_live.proofs.Reach.{live_before_use, live_before, least}
 use Rattle.tg_live.proofs.Turned.{has_push}
 use Rattle.tg_live.proofs.Places.{goes_within}

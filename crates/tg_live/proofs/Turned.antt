@@ -13,7 +13,7 @@ use Rattle.std.proofs.lemmas.List.{drop_more, length-map, map-set, get_or-map, l
 use Rattle.std.proofs.lemmas.List.Folds.{list_any-append}
 use Rattle.tg_instr.specs.declared.instr.Instr.{Instr}
 use Rattle.tg_live.specs.Flow.{pair_cmp, successors, goes_on, edges_from, flow_of}
-use Rattle.tg_live.specs.Tables.{Table, row, push_at, add_to, add_from, have_rows_below, edges_into, IsBefore}
+use Rattle.tg_live.specs.glue.Tables.{Table, row, push_at, add_to, add_from, have_rows_below, edges_into, IsBefore}
 
 abbrev has : ℕ → List ℕ → Bool
 has p ks = list_any (nat_eq p) ks

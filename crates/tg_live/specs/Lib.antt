@@ -1,8 +1,6 @@
 pub mod Flow
 pub mod Live
-pub mod Tables
-pub mod Search
-pub mod LiveChanges
-pub mod Marks
 pub mod Interference
-pub mod Laws
+pub mod glue
+pub mod laws
+pub mod mirror

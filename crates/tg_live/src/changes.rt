@@ -19,9 +19,9 @@ ghost use Rattle.std.specs.Prelude.{
   IfOk,
 };
 ghost use Rattle.std.specs.List.{list_any, list_all};
-ghost use Rattle.tg_live.specs.Tables.{row};
-ghost use Rattle.tg_live.specs.Search.{has_stamp, has_stamp_before};
-ghost use Rattle.tg_live.specs.LiveChanges.{ends_in};
+ghost use Rattle.tg_live.specs.glue.Tables.{row};
+ghost use Rattle.tg_live.specs.mirror.Search.{has_stamp, has_stamp_before};
+ghost use Rattle.tg_live.specs.glue.LiveChanges.{ends_in};
 
 use crate::operands::ends_in;
 use crate::searches::Search;

@@ -3,8 +3,8 @@ ghost use Rattle.std.specs.List.{list_any, list_all};
 ghost use Rattle.tg_instr.specs.declared.instr.Instr.{Instr as InstrOf};
 ghost use Rattle.tg_instr.specs.Codes.{is_mark, leads_to_marks};
 ghost use Rattle.tg_live.specs.Flow.{place_of, successors, flow_of};
-ghost use Rattle.tg_live.specs.Tables.{row, add_to, add_from, have_rows_below};
-ghost use Rattle.tg_live.specs.Marks.{HavePlaces};
+ghost use Rattle.tg_live.specs.glue.Tables.{row, add_to, add_from, have_rows_below};
+ghost use Rattle.tg_live.specs.glue.Marks.{HavePlaces};
 
 use crate::flows::Flow;
 use crate::marks::mark_places;

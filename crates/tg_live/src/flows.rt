@@ -1,6 +1,6 @@
 ghost use Rattle.std.specs.Prelude.{◌≡◌};
 ghost use Rattle.std.specs.FinSet as set;
-ghost use Rattle.tg_live.specs.Tables.{edges_into};
+ghost use Rattle.tg_live.specs.glue.Tables.{edges_into};
 
 use crate::tables::PlaceTable;
 use std::marker::Model;
@@ -17,7 +17,7 @@ impl Model for Flow {
     ghost use Rattle.std.specs.FinSet as set;
     ghost use Rattle.std.specs.Coded.{coded_ℕ, coded×};
     ghost use Rattle.tg_live.specs.Flow.{pair_cmp};
-    ghost use Rattle.tg_live.specs.Tables.{edges_into};
+    ghost use Rattle.tg_live.specs.glue.Tables.{edges_into};
 
     ghost Value = { set.FinSet pair_cmp };
 

@@ -1,4 +1,4 @@
-ghost use Rattle.tg_live.specs.Laws.{FlowHasEdges, LiveBeforeUse, LiveBeforeLive, LiveIsLeast};
+ghost use Rattle.tg_live.specs.laws.Laws.{FlowHasEdges, LiveBeforeUse, LiveBeforeLive, LiveIsLeast};
 
 /// The law that the flow of a code has the pairs of places at which its instructions go on alone.
 pub fn flow_has_edges()

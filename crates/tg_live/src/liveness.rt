@@ -2,7 +2,7 @@ ghost use Rattle.std.specs.Prelude.{◌≡◌, ◌<◌, ◌+◌, ◌^◌, length
 ghost use Rattle.tg_instr.specs.Uses.{defs_of};
 ghost use Rattle.tg_live.specs.Flow.{flow_of};
 ghost use Rattle.tg_live.specs.Live.{AreLiveSets};
-ghost use Rattle.tg_live.specs.Tables.{AreSites};
+ghost use Rattle.tg_live.specs.glue.Tables.{AreSites};
 
 use crate::changes::LiveChanges;
 use crate::definitions::definitions;

@@ -1,5 +1,5 @@
 ghost use Rattle.std.specs.Prelude.{◌<◌, ◌^◌, length, IfOk};
-ghost use Rattle.tg_live.specs.Marks.{HavePlaces};
+ghost use Rattle.tg_live.specs.glue.Marks.{HavePlaces};
 
 use std::alloc::Global;
 use std::collections::HashMap;

@@ -2,7 +2,7 @@ ghost use Rattle.std.specs.Prelude.{◌≡◌, ◌<◌, ◌+◌, ◌^◌, IsTrue
 ghost use Rattle.tg_instr.specs.Operands.{is_same};
 ghost use Rattle.tg_live.specs.Live.{number_of, operand_of, is_proper, is_among};
 ghost use Rattle.tg_instr.specs.declared.operands.Opnd.TheVariants.{Temp as TempOf, Reg as RegOf};
-ghost use Rattle.tg_live.specs.LiveChanges.{ends_in};
+ghost use Rattle.tg_live.specs.glue.LiveChanges.{ends_in};
 
 use tg_base::Temp;
 use tg_instr::Opnd;

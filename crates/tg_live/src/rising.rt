@@ -1,5 +1,5 @@
 ghost use Rattle.std.specs.Prelude.{◌≡◌, ◌≤◌, length, OnOk};
-ghost use Rattle.tg_live.specs.LiveChanges.{set_without, put_in_order, lower_count};
+ghost use Rattle.tg_live.specs.glue.LiveChanges.{set_without, put_in_order, lower_count};
 
 use crate::operands::number_of;
 use tg_base::Memory;

@@ -17,8 +17,8 @@ ghost use Rattle.std.specs.Prelude.{
 ghost use Rattle.std.specs.List.{list_any, list_all};
 ghost use Rattle.tg_instr.specs.Uses.{defs_of};
 ghost use Rattle.tg_live.specs.Live.{is_used};
-ghost use Rattle.tg_live.specs.Tables.{row, have_rows_below, IsBefore};
-ghost use Rattle.tg_live.specs.Search.{
+ghost use Rattle.tg_live.specs.glue.Tables.{row, have_rows_below, IsBefore};
+ghost use Rattle.tg_live.specs.mirror.Search.{
   has_stamp,
   has_stamp_before,
   enter,
@@ -27,7 +27,7 @@ ghost use Rattle.tg_live.specs.Search.{
   visit,
   IsSearched,
 };
-ghost use Rattle.tg_live.specs.Search as search;
+ghost use Rattle.tg_live.specs.mirror.Search as search;
 
 use crate::operands::is_among;
 use crate::tables::{OperandTable, PlaceTable};
@@ -46,7 +46,7 @@ pub(crate) struct Search {
 }
 
 impl Model for Search {
-    ghost use Rattle.tg_live.specs.Search as search;
+    ghost use Rattle.tg_live.specs.mirror.Search as search;
 
     ghost Value = { search.Found };
 

@@ -1,6 +1,11 @@
 ghost use Rattle.std.specs.Prelude.{◌≡◌, ◌<◌, length, OnOk};
 ghost use Rattle.tg_live.specs.Live.{set_at};
-ghost use Rattle.tg_live.specs.LiveChanges.{set_without_all, all_put_in_order, set_before, sets_of};
+ghost use Rattle.tg_live.specs.glue.LiveChanges.{
+  set_without_all,
+  all_put_in_order,
+  set_before,
+  sets_of,
+};
 
 use crate::changes::LiveChanges;
 use crate::rising::{leave_out, put_in_order};
@@ -20,7 +25,7 @@ pub struct LiveSets {
 impl Model for LiveSets {
     ghost use Rattle.std.specs.Prelude.{List};
     ghost use Rattle.tg_instr.specs.declared.operands.Opnd.{Opnd};
-    ghost use Rattle.tg_live.specs.LiveChanges.{sets_of};
+    ghost use Rattle.tg_live.specs.glue.LiveChanges.{sets_of};
 
     ghost Value = { List (List Opnd) };
 

@@ -1,7 +1,7 @@
 ghost use Rattle.std.specs.Prelude.{◌≡◌, ◌<◌, ◌+◌, ◌^◌, length, IsTrue, OnOk, IfOk};
 ghost use Rattle.std.specs.List.{list_all};
 ghost use Rattle.tg_instr.specs.Codes.{has_temps_below};
-ghost use Rattle.tg_live.specs.Tables.{row, add_to, numbers_used, AreSites};
+ghost use Rattle.tg_live.specs.glue.Tables.{row, add_to, numbers_used, AreSites};
 ghost use Rattle.tg_live.specs.Live.{uses_at, is_proper};
 
 use crate::operands::{REGISTERS, number_of};

@@ -1,6 +1,6 @@
 ghost use Rattle.std.specs.Prelude.{◌≡◌, ◌<◌, [], ◌∷◌, ◌++◌, length, replicate, OnOk, IfOk};
 ghost use Rattle.tg_instr.specs.Uses.{defs_of};
-ghost use Rattle.tg_live.specs.Tables.{row, push_at};
+ghost use Rattle.tg_live.specs.glue.Tables.{row, push_at};
 
 use smallvec::SmallVec;
 use std::alloc::Global;

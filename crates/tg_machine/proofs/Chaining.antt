@@ -11,7 +11,7 @@ use Rattle.tg_isa.specs.Runs.{Execution, Progress, Running, Ended, proceed, run,
 use Rattle.tg_machine.specs.Ran.{Tells, StillTells, IsReading, IsWriting, ComesToRead, ComesToWrite, Stops, still, ended, read_failed, write_failed}
 use Rattle.tg_machine.specs.Ran.{saturating_sum}
 use Rattle.tg_machine.specs.Fetches.{seen_at, fetches, fetches_until}
-use Rattle.tg_machine.specs.Laws.{CallsChain, WatchedCallsChain}
+use Rattle.tg_machine.specs.laws.Laws.{CallsChain, WatchedCallsChain}
 use Rattle.tg_machine.proofs.Runs.{go_on, run_suc, run_add, running_same}
 use Rattle.tg_machine.proofs.Fetching.{see_on, fetches_suc, fetches_add, until_all}
 use Rattle.tg_machine.proofs.Reached.{saturating_sum-add, rose_later}

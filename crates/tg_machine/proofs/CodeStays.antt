@@ -8,9 +8,9 @@ use Rattle.tg_state.specs.Services.{Step, Goes, Ends, Reads, Writes, answered}
 use Rattle.tg_base.specs.Words.{add, less}
 use Rattle.tg_isa.specs.declared.mips.Mips.{Mips}
 use Rattle.tg_isa.specs.declared.mips.Mips.TheVariants as row
-use Rattle.tg_isa.specs.Anywhere.{step_on, IsStraight}
 use Rattle.tg_isa.specs.Effects.{step, effect, fetch, performed, branch_if, branch_unless}
 use Rattle.tg_isa.specs.Runs.{Execution, Progress, Running, Ended, proceed, run, first_answer}
+use Rattle.tg_isa.specs.laws.Anywhere.{step_on, IsStraight}
 use Rattle.tg_isa.proofs.Anywhere.{effect_on, set_on, answered_on}
 use Rattle.tg_machine.specs.Machines.{Simulated}
 use Rattle.tg_machine.specs.Ran.{IsSimulation}

@@ -4,7 +4,7 @@ use Rattle.tg_state.specs.declared.ends.RunEnd.{RunEnd}
 use Rattle.tg_state.specs.declared.ends.RunEnd.TheVariants.{StepLimit}
 use Rattle.tg_machine.specs.declared.status.Status.TheVariants.{Ended}
 use Rattle.tg_machine.specs.Machines.{Simulated, HasEnded}
-use Rattle.tg_machine.specs.Laws.{HasCalled, EndsAgain, StepsEndAgain}
+use Rattle.tg_machine.specs.laws.Laws.{HasCalled, EndsAgain, StepsEndAgain}
 
 -- after such a call the machine keeps its end
 keeps_end : {I O : Type 0} (left : I → Option (List ℕ)) (read_faults : I → ℕ) (taken : O → Option (List ℕ)) (write_faults : O → ℕ)

@@ -3,7 +3,7 @@ use Rattle.std.proofs.Common.{◌≡◌, ◌<◌, ◌+◌, ℕ, zero, suc, List,
 use Rattle.tg_state.specs.State.{MachineState}
 use Rattle.tg_state.specs.Services.{Step, Goes}
 use Rattle.tg_isa.specs.Effects.{step}
-use Rattle.tg_machine.specs.Pauses.{RunsTo}
+use Rattle.tg_machine.specs.glue.Pauses.{RunsTo}
 use Rattle.tg_machine.proofs.Reached.{Reached, reached_goes}
 
 -- one step more

@@ -12,8 +12,8 @@ use Rattle.tg_state.specs.Services.{Step, Goes, Ends, Reads, Writes, answered}
 use Rattle.tg_isa.specs.Effects.{step}
 use Rattle.tg_isa.specs.Runs.{Execution, Running, run, begun, answers, first_answer, later_answers}
 use Rattle.tg_machine.specs.Machines.{simulated}
-use Rattle.tg_machine.specs.Moves.{IsOwn, Answers, Moved}
 use Rattle.tg_machine.specs.Ran.{IsSimulation, Tells, StillTells, ComesToRead, ComesToWrite, saturating_sum, still, ended, read_failed, write_failed}
+use Rattle.tg_machine.specs.glue.Moves.{IsOwn, Answers, Moved}
 use Rattle.tg_machine.proofs.Runs.{run_more, run_over}
 
 -- some answers that a source tells or may give

@@ -14,8 +14,8 @@ use Rattle.tg_isa.specs.declared.mips.Mips.TheVariants as mips
 use Rattle.tg_isa.specs.Effects.{decoded, effect, fetch, fetched, performed, step}
 use Rattle.tg_isa.specs.Table.{decode_of}
 use Rattle.tg_machine.specs.declared.rows.Row.{Row}
-use Rattle.tg_machine.specs.Moves.{RowIsDone, IsOwn}
-use Rattle.tg_machine.specs.Rows.{does, known, prepared, row_at, row_of, row_there}
+use Rattle.tg_machine.specs.glue.Moves.{RowIsDone, IsOwn}
+use Rattle.tg_machine.specs.mirror.Rows.{does, known, prepared, row_at, row_of, row_there}
 
 prepared_does : (one : Mips) (s : MachineState) → does (prepared one) s ≡ effect one s
 prepared_does (mips.Sll rd rt shamt) s = refl

@@ -13,7 +13,7 @@ use Rattle.tg_state.specs.declared.ends.RunEnd.{RunEnd}
 use Rattle.tg_state.specs.declared.ends.RunEnd.TheVariants.{BadAddress}
 use Rattle.tg_state.specs.State.{MachineState, load_byte, stack_top}
 use Rattle.tg_state.specs.Services.{text_from, text_at, before}
-use Rattle.tg_machine.specs.Moves.{IsText, HasText}
+use Rattle.tg_machine.specs.glue.Moves.{IsText, HasText}
 
 -- bytes before a text
 pub prefixed : List ℕ → Result (List ℕ) RunEnd → Result (List ℕ) RunEnd

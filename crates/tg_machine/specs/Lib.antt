@@ -1,9 +1,6 @@
 pub mod Machines
-pub mod Inside
 pub mod Ran
-pub mod Rows
-pub mod Layout
-pub mod Moves
-pub mod Pauses
 pub mod Fetches
-pub mod Laws
+pub mod glue
+pub mod laws
+pub mod mirror

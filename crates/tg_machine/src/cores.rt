@@ -1,8 +1,8 @@
 ghost use Rattle.std.specs.Prelude.{◌≡◌, ◌<◌, ◌≤◌, ◌%◌, IfErr, IfOk, Err, None};
 ghost use Rattle.tg_base.specs.Words.{product_high, product_low};
 ghost use Rattle.tg_isa.specs.Effects as effects;
-ghost use Rattle.tg_machine.specs.Moves.{IsDone, IsOwn};
-ghost use Rattle.tg_machine.specs.Rows.{address, row_at};
+ghost use Rattle.tg_machine.specs.glue.Moves.{IsDone, IsOwn};
+ghost use Rattle.tg_machine.specs.mirror.Rows.{address, row_at};
 ghost use Rattle.tg_state.specs.Services.{take_heap};
 ghost use Rattle.tg_state.specs.State as state;
 
@@ -34,7 +34,7 @@ impl Model for Core {
 
     ghost Value = { MachineState };
 
-    ghost use Rattle.tg_machine.specs.Layout.{IsLaidOut, state_of};
+    ghost use Rattle.tg_machine.specs.glue.Layout.{IsLaidOut, state_of};
 
     ghost view = { state_of };
 

@@ -2,8 +2,8 @@ ghost use Rattle.std.specs.Prelude.{◌≡◌, ◌≢◌, ◌+◌, ◌*◌, ◌/
 ghost use Rattle.tg_base.specs.Words as words;
 ghost use Rattle.tg_isa.specs.Effects as effects;
 ghost use Rattle.tg_isa.specs.declared.mips.Mips.TheVariants as mips;
-ghost use Rattle.tg_machine.specs.Moves.{RowIsDone};
-ghost use Rattle.tg_machine.specs.Rows as rows;
+ghost use Rattle.tg_machine.specs.glue.Moves.{RowIsDone};
+ghost use Rattle.tg_machine.specs.mirror.Rows as rows;
 ghost use Rattle.tg_state.specs.Services.{Goes};
 ghost use Rattle.tg_state.specs.State as state;
 

@@ -1,4 +1,9 @@
-ghost use Rattle.tg_machine.specs.Laws.{CallsChain, EndsAgain, StepsEndAgain, WatchedCallsChain};
+ghost use Rattle.tg_machine.specs.laws.Laws.{
+  CallsChain,
+  EndsAgain,
+  StepsEndAgain,
+  WatchedCallsChain,
+};
 
 /// The law that calls can be chained, for sources `I` and sinks `O`: a call that makes all its
 /// steps, and a call after it, leave what one call of as many steps together leaves.

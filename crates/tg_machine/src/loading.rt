@@ -14,7 +14,7 @@ ghost use Rattle.std.specs.Prelude.{
   [],
 };
 ghost use Rattle.tg_machine.specs.Machines.{loaded};
-ghost use Rattle.tg_machine.specs.Rows.{row_of};
+ghost use Rattle.tg_machine.specs.mirror.Rows.{row_of};
 ghost use Rattle.tg_state.specs.State.{most_bytes, most_room, most_words, padded, initial_machine};
 
 use crate::cores::Core;

@@ -22,7 +22,7 @@ impl Model for Machine {
 
     ghost Value = { Simulated };
 
-    ghost use Rattle.tg_machine.specs.Inside.{shown};
+    ghost use Rattle.tg_machine.specs.glue.Inside.{shown};
 
     ghost view = { shown };
 }

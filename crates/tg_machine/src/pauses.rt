@@ -1,4 +1,4 @@
-ghost use Rattle.tg_machine.specs.Pauses.{Pauses};
+ghost use Rattle.tg_machine.specs.glue.Pauses.{Pauses};
 
 use crate::cores::Core;
 use crate::rows::Row;

@@ -1,5 +1,5 @@
 ghost use Rattle.std.specs.Prelude.{◌≡◌};
-ghost use Rattle.tg_machine.specs.Rows.{distance, prepared, row_of};
+ghost use Rattle.tg_machine.specs.mirror.Rows.{distance, prepared, row_of};
 
 use crate::rows::Row;
 use crate::words::extend;

@@ -18,7 +18,7 @@ ghost use Rattle.tg_base.specs.Causes.{HasCause};
 ghost use Rattle.tg_state.specs.State as state;
 ghost use Rattle.tg_state.specs.Services.{service, text_at};
 ghost use Rattle.tg_base.specs.Writes.{TakesAll};
-ghost use Rattle.tg_machine.specs.Moves.{
+ghost use Rattle.tg_machine.specs.glue.Moves.{
   Answers,
   HasPut,
   HasRead,

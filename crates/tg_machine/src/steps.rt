@@ -1,8 +1,8 @@
 ghost use Rattle.std.specs.Prelude.{◌<◌, ◌^◌, ◌≢◌, None};
 ghost use Rattle.tg_isa.specs.Effects.{step};
 ghost use Rattle.tg_machine.specs.Machines.{end_of, kept, simulated};
-ghost use Rattle.tg_machine.specs.Moves.{Moved};
 ghost use Rattle.tg_machine.specs.Ran.{IsSimulation};
+ghost use Rattle.tg_machine.specs.glue.Moves.{Moved};
 
 use crate::cores::Core;
 use crate::pauses::Pause;

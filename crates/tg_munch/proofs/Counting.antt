@@ -14,16 +14,16 @@ use Rattle.tg_tree.specs.Sizes.{expression_length, arguments_length, statement_l
 use Rattle.tg_instr.specs.declared.operands.Opnd.{Opnd}
 use Rattle.tg_instr.specs.declared.instr.Instr.{Instr}
 use Rattle.tg_instr.specs.declared.instr.Instr.TheVariants.{Move}
-use Rattle.tg_munch.specs.Arguments.{is_in_register, is_in_frame, is_anywhere, one_may_end, ordered}
-use Rattle.tg_munch.specs.Choosing.{Choice, ◌>>◌, give}
-use Rattle.tg_munch.specs.Tiles.{slot, offset, offset_by}
-use Rattle.tg_munch.specs.Comparing.{short_side, is_turned, turned}
-use Rattle.tg_munch.specs.Munching.{kept_registers, temp, argument, constant_in, answer_in, store_far, store_low, passed, asked as asked_for}
-use Rattle.tg_munch.specs.Munching.{given_back, expression, arguments, left_side, based_at, valued, effect, stored, stored_byte, statement, compared}
-use Rattle.tg_munch.specs.Munching.{branch, compared_in_hi, branch_behind, element, elements}
-use Rattle.tg_munch.specs.Products.{is_in_hi}
-use Rattle.tg_munch.specs.Bodies.{munched, kept, load_above, from_word, from_words, from_register, parameters, body}
-use Rattle.tg_munch.specs.Lengths.{InstructionsAreFew, CountsWords, WordsAreFew}
+use Rattle.tg_munch.specs.mirror.Arguments.{is_in_register, is_in_frame, is_anywhere, one_may_end, ordered}
+use Rattle.tg_munch.specs.mirror.Choosing.{Choice, ◌>>◌, give}
+use Rattle.tg_munch.specs.mirror.Tiles.{slot, offset, offset_by}
+use Rattle.tg_munch.specs.mirror.Comparing.{short_side, is_turned, turned}
+use Rattle.tg_munch.specs.mirror.Munching.{kept_registers, temp, argument, constant_in, answer_in, store_far, store_low, passed, asked as asked_for}
+use Rattle.tg_munch.specs.mirror.Munching.{given_back, expression, arguments, left_side, based_at, valued, effect, stored, stored_byte, statement, compared}
+use Rattle.tg_munch.specs.mirror.Munching.{branch, compared_in_hi, branch_behind, element, elements}
+use Rattle.tg_munch.specs.mirror.Products.{is_in_hi}
+use Rattle.tg_munch.specs.mirror.Bodies.{munched, kept, load_above, from_word, from_words, from_register, parameters, body}
+use Rattle.tg_munch.specs.laws.Lengths.{InstructionsAreFew, CountsWords, WordsAreFew}
 use Rattle.tg_munch.proofs.Draws.{Draws, Within, most_counted, both, more, either, gives, puts, puts_move, defines, defines_move, draws_temp, chooses}
 use Rattle.tg_munch.proofs.Draws.{constant_draws, asked, moved_draws, tiled_draws, based_draws, loaded_draws, byte_draws, against_draws}
 

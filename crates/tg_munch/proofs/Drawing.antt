@@ -16,9 +16,9 @@ use Rattle.tg_munch.specs.declared.tiles.Immediate.{Immediate}
 use Rattle.tg_munch.specs.declared.tiles.Immediate.TheVariants as in_field
 use Rattle.tg_munch.specs.declared.tiles.Tile.{Tile}
 use Rattle.tg_munch.specs.declared.tiles.Tile.TheVariants.{Right, Left, ByWord, Operands}
-use Rattle.tg_munch.specs.Choosing.{NumbersDrawn, Choice, ◌>>=◌, ◌>>◌, give, put, fresh, choose, defining}
-use Rattle.tg_munch.specs.Tiles.{is_small, halves, constant, behind, based, loaded, loaded_byte, instruction, shift_by, shift_bit, shift_bits}
-use Rattle.tg_munch.specs.Tiles.{shifted, shifted_into, moved, operated, with_field, tiled}
+use Rattle.tg_munch.specs.mirror.Choosing.{NumbersDrawn, Choice, ◌>>=◌, ◌>>◌, give, put, fresh, choose, defining}
+use Rattle.tg_munch.specs.mirror.Tiles.{is_small, halves, constant, behind, based, loaded, loaded_byte, instruction, shift_by, shift_bit, shift_bits}
+use Rattle.tg_munch.specs.mirror.Tiles.{shifted, shifted_into, moved, operated, with_field, tiled}
 use Rattle.tg_munch.proofs.Scopes.{Scope, Grows, grows_none, grows_on, is_readable, is_writable, may_name, may_put, Readable, Writable, Asked}
 use Rattle.tg_munch.proofs.Scopes.{or_right, readable_on, writable_on, asked_on, readable, all_on, counted, occurs, spanned, occurs_append, span_none}
 use Rattle.tg_munch.proofs.Scopes.{span_join, span_one}

@@ -21,10 +21,10 @@ use Rattle.tg_munch.specs.declared.tiles.Tile.TheVariants.{ByWord, Operands}
 use Rattle.tg_munch.specs.declared.orders.Order.{Order}
 use Rattle.tg_munch.specs.declared.orders.Short.{Short}
 use Rattle.tg_munch.specs.declared.orders.Short.TheVariants.{Zero, Field}
-use Rattle.tg_munch.specs.Choosing.{NumbersDrawn, Choice, ◌>>=◌, give, put, fresh, fresh_mark, choose, defining}
-use Rattle.tg_munch.specs.Tiles.{is_small, constant, based, loaded, loaded_byte, is_shift, first_tile, constant_side, exchanged_side, tile, shift_by}
-use Rattle.tg_munch.specs.Tiles.{shift_bit, shift_bits, shifted, moved, operated, shifted_into, instruction, with_field, tiled}
-use Rattle.tg_munch.specs.Comparing.{order, flag, field_flag, on_flag, on_less, on_less_field, branch_on, against_zero, branch_short, against}
+use Rattle.tg_munch.specs.mirror.Choosing.{NumbersDrawn, Choice, ◌>>=◌, give, put, fresh, fresh_mark, choose, defining}
+use Rattle.tg_munch.specs.mirror.Tiles.{is_small, constant, based, loaded, loaded_byte, is_shift, first_tile, constant_side, exchanged_side, tile, shift_by}
+use Rattle.tg_munch.specs.mirror.Tiles.{shift_bit, shift_bits, shifted, moved, operated, shifted_into, instruction, with_field, tiled}
+use Rattle.tg_munch.specs.mirror.Comparing.{order, flag, field_flag, on_flag, on_less, on_less_field, branch_on, against_zero, branch_short, against}
 
 -- the most words that may come of an instruction, as `CountsWords` has it
 abbrev pub most_counted : Instr → ℕ

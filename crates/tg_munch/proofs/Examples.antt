@@ -13,10 +13,10 @@ use Rattle.tg_instr.specs.declared.instr.Instr.{Instr}
 use Rattle.tg_instr.specs.declared.instr.Instr.TheVariants as instr
 use Rattle.tg_instr.specs.declared.instr.Instr.TheVariants.{Addiu, Addi, Add, Addu, Subu, Sll, Andi, Ori, Lui, Lw, Sw, Slt, Slti, Sltiu, Move}
 use Rattle.tg_instr.specs.declared.instr.Instr.TheVariants.{FrameLoad, FrameStore, Branch, Call, Service, Mult, Mflo, Mfhi, Sra, Return}
-use Rattle.tg_munch.specs.Choosing.{NumbersDrawn, ◌>>=◌}
-use Rattle.tg_munch.specs.Munching.{temp, expression, statement, branch, elements}
-use Rattle.tg_munch.specs.Bodies.{munched, outs, load_above, parameters}
-use Rattle.tg_munch.specs.Lengths.{kept_count, CountsWords}
+use Rattle.tg_munch.specs.mirror.Choosing.{NumbersDrawn, ◌>>=◌}
+use Rattle.tg_munch.specs.mirror.Munching.{temp, expression, statement, branch, elements}
+use Rattle.tg_munch.specs.mirror.Bodies.{munched, outs, load_above, parameters}
+use Rattle.tg_munch.specs.laws.Lengths.{kept_count, CountsWords}
 use Rattle.tg_munch.proofs.Draws.{most_counted}
 
 abbrev start : NumbersDrawn

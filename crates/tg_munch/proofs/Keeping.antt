@@ -5,11 +5,11 @@ use Rattle.std.specs.List.{list_all}
 use Rattle.tg_frame.specs.declared.frames.Frame.{Frame}
 use Rattle.tg_tree.specs.Tree.{Linear}
 use Rattle.tg_tree.specs.Named.{named_flat, HasItsTemps}
-use Rattle.tg_tree.specs.Plain.{plain_function}
+use Rattle.tg_tree.specs.glue.Plain.{plain_function}
 use Rattle.tg_tree.specs.Shapes.{IsWellMarked}
 use Rattle.tg_instr.specs.declared.instr.Instr.{Instr}
 use Rattle.tg_instr.specs.Codes.{marks_differ, leads_to_marks, has_temps_below, ends_well}
-use Rattle.tg_munch.specs.Bodies.{munched}
+use Rattle.tg_munch.specs.mirror.Bodies.{munched}
 use Rattle.tg_munch.proofs.Kept.{code_ends}
 use Rattle.tg_munch.proofs.MarkingLaws.{marks_are_apart, marks_are_there}
 use Rattle.tg_munch.proofs.NamingLaws.{temps_are_below}

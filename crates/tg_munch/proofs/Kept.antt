@@ -10,9 +10,9 @@ use Rattle.tg_instr.specs.Codes.{ends_well}
 use Rattle.tg_instr.specs.declared.operands.Opnd.TheVariants.{Reg}
 use Rattle.tg_instr.specs.declared.instr.Instr.{Instr}
 use Rattle.tg_instr.specs.declared.instr.Instr.TheVariants.{Move, Return}
-use Rattle.tg_munch.specs.Choosing.{NumbersDrawn, ◌>>=◌}
-use Rattle.tg_munch.specs.Munching.{temp, expression, kept_registers, given_back, element, elements}
-use Rattle.tg_munch.specs.Bodies.{kept, parameters, mark_above, munched}
+use Rattle.tg_munch.specs.mirror.Choosing.{NumbersDrawn, ◌>>=◌}
+use Rattle.tg_munch.specs.mirror.Munching.{temp, expression, kept_registers, given_back, element, elements}
+use Rattle.tg_munch.specs.mirror.Bodies.{kept, parameters, mark_above, munched}
 
 one_only : {X : Type 0} (e x : X) → Contains (e ∷ []) x → e ≡ x
 one_only e x (zero, h, i) = i

@@ -13,7 +13,7 @@ use Rattle.tg_instr.proofs.Tests.{both_hold}
 use Rattle.tg_instr.specs.declared.instr.Instr.{Instr}
 use Rattle.tg_instr.specs.declared.instr.Instr.TheVariants.{Mark, Jump, Branch}
 use Rattle.tg_instr.specs.Codes.{is_mark, marks_differ, leads_to_marks}
-use Rattle.tg_munch.specs.Bodies.{body, mark_above, munched}
+use Rattle.tg_munch.specs.mirror.Bodies.{body, mark_above, munched}
 use Rattle.tg_munch.proofs.Scopes.{Scope, is_place, reaches, may_name, counted, occurs, spanned}
 use Rattle.tg_munch.proofs.NamingCode.{Lays, stands, HomePasses, lays_body, at_least}
 use Rattle.tg_munch.proofs.Passing.{pass_code, all_homes_pass}

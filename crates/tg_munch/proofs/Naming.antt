@@ -10,12 +10,12 @@ use Rattle.tg_tree.specs.Named.{function, literal, temporary}
 use Rattle.tg_instr.proofs.Tests.{both_hold}
 use Rattle.tg_instr.specs.declared.operands.Opnd.{Opnd}
 use Rattle.tg_instr.specs.declared.operands.Opnd.TheVariants.{Reg}
-use Rattle.tg_munch.specs.Arguments.{is_in_register, is_in_frame, is_anywhere, one_may_end, ordered}
-use Rattle.tg_munch.specs.Choosing.{NumbersDrawn, Choice, ◌>>=◌, ◌>>◌, give}
+use Rattle.tg_munch.specs.mirror.Arguments.{is_in_register, is_in_frame, is_anywhere, one_may_end, ordered}
+use Rattle.tg_munch.specs.mirror.Choosing.{NumbersDrawn, Choice, ◌>>=◌, ◌>>◌, give}
 use Rattle.tg_munch.specs.Naming.{is_written}
-use Rattle.tg_munch.specs.Tiles.{nothing, is_slot, slot, offset, offset_by, tile}
-use Rattle.tg_munch.specs.Munching.{temp, argument, constant_in, address_in, frame_address_in, answer_in, store_far, store_low, asked, expression}
-use Rattle.tg_munch.specs.Munching.{arguments, left_side, based_at, valued, effect, stored, stored_byte, statement}
+use Rattle.tg_munch.specs.mirror.Tiles.{nothing, is_slot, slot, offset, offset_by, tile}
+use Rattle.tg_munch.specs.mirror.Munching.{temp, argument, constant_in, address_in, frame_address_in, answer_in, store_far, store_low, asked, expression}
+use Rattle.tg_munch.specs.mirror.Munching.{arguments, left_side, based_at, valued, effect, stored, stored_byte, statement}
 use Rattle.tg_munch.proofs.Scopes.{Scope, grows_on, is_readable, Readable, Writable, Asked, or_left, readable_on, writable_on, asked_on, readable}
 use Rattle.tg_munch.proofs.Drawing.{Fits, anything, fits_then, fits_give, fits_put, fits_define, fits_fresh, fits_choose, fits_if, fits_constant}
 use Rattle.tg_munch.proofs.Drawing.{fits_moved, fits_tiled, one_named, two_named, three_named, is_base, fits_based, is_option_slot, fits_loaded}

@@ -17,12 +17,13 @@ use Rattle.tg_instr.specs.declared.operands.Opnd.TheVariants.{Reg}
 use Rattle.tg_munch.specs.declared.orders.Order.{Order}
 use Rattle.tg_munch.specs.declared.orders.Short.{Short}
 use Rattle.tg_munch.specs.declared.orders.Short.TheVariants.{Zero, Field}
-use Rattle.tg_munch.specs.Choosing.{NumbersDrawn, Choice, ◌>>=◌, ◌>>◌, give}
-use Rattle.tg_munch.specs.Comparing.{on_flag, flag, field_flag, on_less, on_less_field, branch_on, against_zero, against, short_side, is_turned, turned, order}
-use Rattle.tg_munch.specs.Munching.{temp, kept_registers, expression, given_back, compared, branch, compared_in_hi, branch_behind, returned}
-use Rattle.tg_munch.specs.Munching.{element, elements}
-use Rattle.tg_munch.specs.Products.{is_in_hi}
-use Rattle.tg_munch.specs.Bodies.{kept_register, kept, from_register, load_above, from_word, from_words, by_frame_address, parameters}
+use Rattle.tg_munch.specs.mirror.Choosing.{NumbersDrawn, Choice, ◌>>=◌, ◌>>◌, give}
+use Rattle.tg_munch.specs.mirror.Comparing.{on_flag, flag, field_flag, on_less, on_less_field, branch_on, against_zero, against, short_side, is_turned, turned}
+use Rattle.tg_munch.specs.mirror.Comparing.{order}
+use Rattle.tg_munch.specs.mirror.Munching.{temp, kept_registers, expression, given_back, compared, branch, compared_in_hi, branch_behind, returned}
+use Rattle.tg_munch.specs.mirror.Munching.{element, elements}
+use Rattle.tg_munch.specs.mirror.Products.{is_in_hi}
+use Rattle.tg_munch.specs.mirror.Bodies.{kept_register, kept, from_register, load_above, from_word, from_words, by_frame_address, parameters}
 use Rattle.tg_munch.specs.Naming.{is_written, is_read}
 use Rattle.tg_munch.proofs.Scopes.{Scope, Grows, grows_on, is_readable, may_name, may_put, Readable, Writable, or_left, or_right, readable_on}
 use Rattle.tg_munch.proofs.Scopes.{writable_on, readable, all_on, counted, occurs, spanned, occurs_append, span_join}

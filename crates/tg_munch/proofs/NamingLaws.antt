@@ -17,8 +17,8 @@ use Rattle.tg_instr.specs.declared.instr.Instr.TheVariants.{Addi, Addiu, Slti, S
 use Rattle.tg_instr.specs.declared.instr.Instr.TheVariants.{FrameStore, FrameAddress, Address, Branch, Call, Fault}
 use Rattle.tg_instr.specs.Codes.{is_below, has_temps_below, has_slots_below, has_register}
 use Rattle.tg_instr.specs.Renaming.{named}
-use Rattle.tg_munch.specs.Choosing.{NumbersDrawn}
-use Rattle.tg_munch.specs.Bodies.{mark_above, munched}
+use Rattle.tg_munch.specs.mirror.Choosing.{NumbersDrawn}
+use Rattle.tg_munch.specs.mirror.Bodies.{mark_above, munched}
 use Rattle.tg_munch.specs.Naming.{is_written, is_read, names_registers, names_allowed}
 use Rattle.tg_munch.proofs.Scopes.{Scope, is_readable, is_writable, is_option, is_temp, reaches, may_name, below_on}
 use Rattle.tg_munch.proofs.NamingCode.{HomePasses, HomesPass, lays_body}

@@ -10,12 +10,12 @@ use Rattle.tg_tree.specs.Tree.{Tx}
 use Rattle.tg_tree.specs.Sizes.{in_canonical, shift_needs}
 use Rattle.tg_instr.specs.declared.operands.Opnd.{Opnd}
 use Rattle.tg_instr.specs.declared.instr.Instr.{Instr}
-use Rattle.tg_munch.specs.Choosing.{NumbersDrawn, Choice, ◌>>=◌, give, put, fresh, fresh_mark, choose, defining}
-use Rattle.tg_munch.specs.Tiles.{is_small, field, constant, based, loaded, loaded_byte, first_tile, constant_side, exchanged_side, tile}
-use Rattle.tg_munch.specs.Tiles.{shift_bit, shift_bits, shifted, moved, operated, shifted_into, with_field, tiled}
-use Rattle.tg_munch.specs.Comparing.{order, on_less, on_less_field, branch_on, against_zero, against, short_side}
-use Rattle.tg_munch.specs.Munching.{argument, constant_in, answer_in, store_far, store_low, passed, asked as asked_for, given_back}
-use Rattle.tg_munch.specs.Lengths.{by_word}
+use Rattle.tg_munch.specs.mirror.Choosing.{NumbersDrawn, Choice, ◌>>=◌, give, put, fresh, fresh_mark, choose, defining}
+use Rattle.tg_munch.specs.mirror.Tiles.{is_small, field, constant, based, loaded, loaded_byte, first_tile, constant_side, exchanged_side, tile}
+use Rattle.tg_munch.specs.mirror.Tiles.{shift_bit, shift_bits, shifted, moved, operated, shifted_into, with_field, tiled}
+use Rattle.tg_munch.specs.mirror.Comparing.{order, on_less, on_less_field, branch_on, against_zero, against, short_side}
+use Rattle.tg_munch.specs.mirror.Munching.{argument, constant_in, answer_in, store_far, store_low, passed, asked as asked_for, given_back}
+use Rattle.tg_munch.specs.laws.Lengths.{by_word}
 
 -- at most n temporaries are drawn, of which so many words of the frame may be taken besides
 pub record Takes {A : Type 0} (out n : ℕ) (choice : Choice A) : Type 0 where

@@ -9,8 +9,8 @@ use Rattle.tg_tree.specs.declared.operators.Rel.TheVariants.{Equal}
 use Rattle.tg_tree.specs.Tree.{Temp, Const, Binary, Service, Move, Do, Linear, Do', Branch, Fault', Mark, Return', Function}
 use Rattle.tg_tree.specs.Flat.{flat_run}
 use Rattle.tg_instr.specs.Running.{everywhere, code_run}
-use Rattle.tg_munch.specs.Choosing.{◌>>=◌}
-use Rattle.tg_munch.specs.Bodies.{munched}
+use Rattle.tg_munch.specs.mirror.Choosing.{◌>>=◌}
+use Rattle.tg_munch.specs.mirror.Bodies.{munched}
 
 abbrev made : {B : Type 0} → (temps : ℕ) → B → Function B
 made n body = record { label = 32; params = []; slots = 0; temps = n; out = 0; body = body }

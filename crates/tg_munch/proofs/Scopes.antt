@@ -12,8 +12,8 @@ use Rattle.tg_instr.specs.declared.instr.Instr.{Instr}
 use Rattle.tg_instr.specs.declared.instr.Instr.TheVariants.{FrameLoad, FrameStore, Address, Jump, Branch, Call, Fault}
 use Rattle.tg_instr.specs.Codes.{is_mark}
 use Rattle.tg_instr.specs.Renaming.{named}
-use Rattle.tg_munch.specs.Choosing.{NumbersDrawn}
 use Rattle.tg_munch.specs.Naming.{is_written, is_read}
+use Rattle.tg_munch.specs.mirror.Choosing.{NumbersDrawn}
 
 -- tests of slots, names and marks that are led to; the first mark that is drawn; and a mark that is counted
 pub record Scope : Type 0 where

@@ -6,7 +6,7 @@ use Rattle.tg_tree.specs.Tree as tree
 use Rattle.tg_tree.specs.Tree.{Tx, Txs, Ts, Linear, Function, no_txs, tx}
 use Rattle.tg_tree.specs.Units.{Canonical, operator_units}
 use Rattle.tg_tree.specs.Sizes.{expression_length, arguments_length, statement_length, element_length, code_length}
-use Rattle.tg_munch.specs.Lengths.{by_word, word_shifts, arguments_shifts, statement_shifts, element_shifts, code_shifts, ShiftsAreLong}
+use Rattle.tg_munch.specs.laws.Lengths.{by_word, word_shifts, arguments_shifts, statement_shifts, element_shifts, code_shifts, ShiftsAreLong}
 
 operator_long : (op : Bin) (y : Tx) → 21 * by_word op y ≤ operator_units op y
 operator_long bin.ShiftLeft (tree.Const n) = omega arith

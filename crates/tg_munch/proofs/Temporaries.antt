@@ -9,16 +9,16 @@ use Rattle.tg_tree.specs.Tree as tree
 use Rattle.tg_tree.specs.Tree.{Tx, Txs, Ts, Linear, Function, no_txs, tx}
 use Rattle.tg_tree.specs.Sizes.{in_canonical, expression_needs, arguments_needs, statement_needs, element_needs, code_needs}
 use Rattle.tg_instr.specs.declared.operands.Opnd.{Opnd}
-use Rattle.tg_munch.specs.Arguments.{is_in_register, is_in_frame, is_anywhere, one_may_end, ordered}
-use Rattle.tg_munch.specs.Choosing.{Choice, ◌>>=◌, give}
-use Rattle.tg_munch.specs.Tiles.{slot, offset, offset_by}
-use Rattle.tg_munch.specs.Comparing.{is_turned, turned}
-use Rattle.tg_munch.specs.Munching.{kept_registers, temp, expression, arguments, left_side, based_at, valued, effect, stored, stored_byte}
-use Rattle.tg_munch.specs.Munching.{statement, compared, branch, compared_in_hi, branch_behind, element, elements}
-use Rattle.tg_munch.specs.Products.{is_in_hi}
-use Rattle.tg_munch.specs.Bodies.{munched, kept, load_above, from_word, from_words, from_register, parameters, body, count, out_of, out_of_statement}
-use Rattle.tg_munch.specs.Bodies.{out_of_element, outs, mark_above}
-use Rattle.tg_munch.specs.Lengths.{word_shifts, arguments_shifts, statement_shifts, element_shifts, code_shifts, TemporariesAreFew}
+use Rattle.tg_munch.specs.mirror.Arguments.{is_in_register, is_in_frame, is_anywhere, one_may_end, ordered}
+use Rattle.tg_munch.specs.mirror.Choosing.{Choice, ◌>>=◌, give}
+use Rattle.tg_munch.specs.mirror.Tiles.{slot, offset, offset_by}
+use Rattle.tg_munch.specs.mirror.Comparing.{is_turned, turned}
+use Rattle.tg_munch.specs.mirror.Munching.{kept_registers, temp, expression, arguments, left_side, based_at, valued, effect, stored, stored_byte}
+use Rattle.tg_munch.specs.mirror.Munching.{statement, compared, branch, compared_in_hi, branch_behind, element, elements}
+use Rattle.tg_munch.specs.mirror.Products.{is_in_hi}
+use Rattle.tg_munch.specs.mirror.Bodies.{munched, kept, load_above, from_word, from_words, from_register, parameters, body, count, out_of, out_of_statement}
+use Rattle.tg_munch.specs.mirror.Bodies.{out_of_element, outs, mark_above}
+use Rattle.tg_munch.specs.laws.Lengths.{word_shifts, arguments_shifts, statement_shifts, element_shifts, code_shifts, TemporariesAreFew}
 use Rattle.tg_munch.proofs.Needs.{Takes, both, more, either, gives, puts, defines, draws_temp, own_most, chooses, constant_draws, moved_draws}
 use Rattle.tg_munch.proofs.Needs.{tiled_draws, based_draws, loaded_draws, byte_draws, against_draws, constant_in_draws, answer_draws, answer_to}
 use Rattle.tg_munch.proofs.Needs.{passed_draws, service_draws, given_draws}

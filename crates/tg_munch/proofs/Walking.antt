@@ -9,8 +9,8 @@ use Rattle.tg_frame.specs.declared.accesses.Access.{Access}
 use Rattle.tg_frame.specs.declared.accesses.Access.TheVariants.{InFrame}
 use Rattle.tg_tree.specs.declared.operators.Bin.{Bin}
 use Rattle.tg_tree.specs.declared.trees.Tx.{Tx as CodeTx}
-use Rattle.tg_tree.specs.Lists.{txs_of, code_of}
-use Rattle.tg_tree.specs.Plain.{plain_tx, plain_linear}
+use Rattle.tg_tree.specs.glue.Lists.{txs_of, code_of}
+use Rattle.tg_tree.specs.glue.Plain.{plain_tx, plain_linear}
 use Rattle.tg_tree.specs.Tree as tree
 use Rattle.tg_tree.specs.Tree.{Tx}
 use Rattle.tg_instr.specs.declared.operands.Opnd.{Opnd}
@@ -18,12 +18,12 @@ use Rattle.tg_instr.specs.declared.operands.Opnd.TheVariants.{Reg}
 use Rattle.tg_instr.specs.declared.instr.Instr.TheVariants.{Move}
 use Rattle.tg_munch.specs.declared.drafts.Draft.{Draft}
 use Rattle.tg_munch.specs.declared.tiles.Tile.TheVariants.{ByWord, Operands}
-use Rattle.tg_munch.specs.Choosing.{Choice, ◌>>=◌, ◌>>◌, give, put, choose}
-use Rattle.tg_munch.specs.Tiles.{tile, tiled, shifted_into, operated}
-use Rattle.tg_munch.specs.Munching.{temp, argument, store_low, passed, given_back, expression, arguments, loaded_at, byte_at, element, elements}
-use Rattle.tg_munch.specs.Arguments.{may_end, one_may_end, is_in_register, is_in_frame, is_anywhere}
-use Rattle.tg_munch.specs.Bodies.{count, kept, kept_register, from_register, from_word, from_words, by_frame_address, parameters}
-use Rattle.tg_munch.specs.Drafts.{Writes}
+use Rattle.tg_munch.specs.mirror.Choosing.{Choice, ◌>>=◌, ◌>>◌, give, put, choose}
+use Rattle.tg_munch.specs.mirror.Tiles.{tile, tiled, shifted_into, operated}
+use Rattle.tg_munch.specs.mirror.Munching.{temp, argument, store_low, passed, given_back, expression, arguments, loaded_at, byte_at, element, elements}
+use Rattle.tg_munch.specs.mirror.Arguments.{may_end, one_may_end, is_in_register, is_in_frame, is_anywhere}
+use Rattle.tg_munch.specs.mirror.Bodies.{count, kept, kept_register, from_register, from_word, from_words, by_frame_address, parameters}
+use Rattle.tg_munch.specs.glue.Drafts.{Writes}
 use Rattle.tg_munch.proofs.Writing.{writes_then, writes_none}
 
 pub load_is : (slots : ℕ) (x : Tx) (dest : Option Opnd) → expression slots (tree.Load x) dest ≡ loaded_at slots x dest

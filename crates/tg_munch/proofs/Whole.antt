@@ -2,9 +2,9 @@
 use Rattle.std.proofs.Common.{ℕ, ◌≡◌, List, [], ◌++◌, ap, ◌∙◌}
 use Rattle.tg_tree.specs.Tree.{Linear, Function}
 use Rattle.tg_munch.specs.declared.drafts.Draft.{Draft}
-use Rattle.tg_munch.specs.Choosing.{NumbersDrawn}
-use Rattle.tg_munch.specs.Bodies.{body, mark_above, munched}
-use Rattle.tg_munch.specs.Drafts.{Writes, drawn_in}
+use Rattle.tg_munch.specs.mirror.Choosing.{NumbersDrawn}
+use Rattle.tg_munch.specs.mirror.Bodies.{body, mark_above, munched}
+use Rattle.tg_munch.specs.glue.Drafts.{Writes, drawn_in}
 
 abbrev drawn : ℕ → ℕ → NumbersDrawn
 drawn t m = record { temp = t; mark = m }

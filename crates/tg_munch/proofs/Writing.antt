@@ -7,8 +7,8 @@ use Rattle.tg_instr.specs.Operands.{is_one_row}
 use Rattle.tg_instr.specs.declared.operands.Opnd.{Opnd}
 use Rattle.tg_instr.specs.declared.instr.Instr.TheVariants.{Branch}
 use Rattle.tg_munch.specs.declared.drafts.Draft.{Draft}
-use Rattle.tg_munch.specs.Choosing.{Choice, ◌>>=◌, give}
-use Rattle.tg_munch.specs.Drafts.{Writes, drawn_in}
+use Rattle.tg_munch.specs.glue.Drafts.{Writes, drawn_in}
+use Rattle.tg_munch.specs.mirror.Choosing.{Choice, ◌>>=◌, give}
 
 -- nothing is written
 pub writes_none : {A : Type 0} (a : Draft) (x : A) → Writes (give x) a a x

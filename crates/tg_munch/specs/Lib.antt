@@ -1,11 +1,4 @@
-pub mod Arguments
-pub mod Bodies
-pub mod Choosing
-pub mod Comparing
-pub mod Drafts
-pub mod Laws
-pub mod Lengths
-pub mod Munching
 pub mod Naming
-pub mod Products
-pub mod Tiles
+pub mod glue
+pub mod laws
+pub mod mirror

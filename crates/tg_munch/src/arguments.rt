@@ -1,7 +1,7 @@
 ghost use Rattle.std.specs.Prelude.{◌≡◌};
-ghost use Rattle.tg_tree.specs.Lists.{txs_of};
-ghost use Rattle.tg_tree.specs.Plain.{plain_tx};
-ghost use Rattle.tg_munch.specs.Arguments as order;
+ghost use Rattle.tg_tree.specs.glue.Lists.{txs_of};
+ghost use Rattle.tg_tree.specs.glue.Plain.{plain_tx};
+ghost use Rattle.tg_munch.specs.mirror.Arguments as order;
 
 use tg_tree::{Bin, Tx};
 

@@ -1,11 +1,11 @@
 ghost use Rattle.std.specs.Prelude.{◌≡◌, ◌<◌, ◌+◌, ◌^◌, OnOk, IsTrue, length, nat_lt};
 ghost use Rattle.std.specs.Prelude.{None, option_map};
 ghost use Rattle.std.specs.List.{list_all};
-ghost use Rattle.tg_tree.specs.Lists.{code_of};
-ghost use Rattle.tg_tree.specs.Plain.{plain_linear, plain_tx};
-ghost use Rattle.tg_munch.specs.Bodies as bodies;
-ghost use Rattle.tg_munch.specs.Drafts.{Writes};
-ghost use Rattle.tg_munch.specs.Munching as munching;
+ghost use Rattle.tg_tree.specs.glue.Lists.{code_of};
+ghost use Rattle.tg_tree.specs.glue.Plain.{plain_linear, plain_tx};
+ghost use Rattle.tg_munch.specs.glue.Drafts.{Writes};
+ghost use Rattle.tg_munch.specs.mirror.Bodies as bodies;
+ghost use Rattle.tg_munch.specs.mirror.Munching as munching;
 
 use crate::drafts::Draft;
 use crate::expressions::{expression, low_bytes};

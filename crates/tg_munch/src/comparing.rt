@@ -1,8 +1,8 @@
 ghost use Rattle.std.specs.Prelude.{◌≡◌, OnOk};
-ghost use Rattle.tg_tree.specs.Plain.{plain_tx};
-ghost use Rattle.tg_munch.specs.Comparing as comparing;
-ghost use Rattle.tg_munch.specs.Drafts.{Writes};
-ghost use Rattle.tg_munch.specs.Tiles as tiles;
+ghost use Rattle.tg_tree.specs.glue.Plain.{plain_tx};
+ghost use Rattle.tg_munch.specs.glue.Drafts.{Writes};
+ghost use Rattle.tg_munch.specs.mirror.Comparing as comparing;
+ghost use Rattle.tg_munch.specs.mirror.Tiles as tiles;
 
 use crate::drafts::Draft;
 use crate::orders::{Order, Short};

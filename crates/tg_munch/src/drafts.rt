@@ -1,7 +1,7 @@
 ghost use Rattle.std.specs.Prelude.{◌≡◌, [], OnOk, IfOk};
-ghost use Rattle.tg_munch.specs.Drafts.{Writes};
-ghost use Rattle.tg_munch.specs.Choosing as choosing;
-ghost use Rattle.tg_munch.specs.Tiles as tiles;
+ghost use Rattle.tg_munch.specs.glue.Drafts.{Writes};
+ghost use Rattle.tg_munch.specs.mirror.Choosing as choosing;
+ghost use Rattle.tg_munch.specs.mirror.Tiles as tiles;
 
 use crate::tiling::{field, is_small};
 use std::alloc::Global;

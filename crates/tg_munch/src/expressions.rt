@@ -1,12 +1,12 @@
 ghost use Rattle.std.specs.Prelude.{◌≡◌, ◌<◌, ◌*◌, ◌-◌, OnOk, IfOk, nat_lt, if◌then◌else◌};
-ghost use Rattle.tg_tree.specs.Lists.{txs_of};
-ghost use Rattle.tg_tree.specs.Plain.{plain_tx};
 ghost use Rattle.tg_tree.specs.Tree as tree;
-ghost use Rattle.tg_munch.specs.Arguments.{one_may_end, ordered};
-ghost use Rattle.tg_munch.specs.Choosing.{give};
-ghost use Rattle.tg_munch.specs.Drafts.{Writes};
-ghost use Rattle.tg_munch.specs.Munching as munching;
-ghost use Rattle.tg_munch.specs.Tiles as tiles;
+ghost use Rattle.tg_tree.specs.glue.Lists.{txs_of};
+ghost use Rattle.tg_tree.specs.glue.Plain.{plain_tx};
+ghost use Rattle.tg_munch.specs.glue.Drafts.{Writes};
+ghost use Rattle.tg_munch.specs.mirror.Arguments.{one_may_end, ordered};
+ghost use Rattle.tg_munch.specs.mirror.Choosing.{give};
+ghost use Rattle.tg_munch.specs.mirror.Munching as munching;
+ghost use Rattle.tg_munch.specs.mirror.Tiles as tiles;
 
 use crate::arguments::one_may_end;
 use crate::drafts::Draft;

@@ -1,10 +1,10 @@
-ghost use Rattle.tg_munch.specs.Lengths.{
+ghost use Rattle.tg_munch.specs.laws.Lengths.{
   InstructionsAreFew,
   WordsAreFew,
   TemporariesAreFew,
   ShiftsAreLong,
 };
-ghost use Rattle.tg_munch.specs.Laws.{
+ghost use Rattle.tg_munch.specs.laws.Laws.{
   MovesStay,
   CodeEndsWell,
   RegistersAreFixed,

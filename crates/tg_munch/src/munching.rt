@@ -1,9 +1,9 @@
 ghost use Rattle.std.specs.Prelude.{◌≡◌, ◌<◌, ◌-◌, ◌^◌, OnErr, IfOk, [], length};
-ghost use Rattle.tg_tree.specs.Lists.{code_of};
 ghost use Rattle.tg_tree.specs.Named.{HasItsTemps, named_flat};
-ghost use Rattle.tg_tree.specs.Plain.{plain_linear, plain_function, plain_tx, plain_ts};
 ghost use Rattle.tg_tree.specs.Shapes.{IsWellMarked};
-ghost use Rattle.tg_munch.specs.Bodies as bodies;
+ghost use Rattle.tg_tree.specs.glue.Lists.{code_of};
+ghost use Rattle.tg_tree.specs.glue.Plain.{plain_linear, plain_function, plain_tx, plain_ts};
+ghost use Rattle.tg_munch.specs.mirror.Bodies as bodies;
 
 use crate::bodies::{KEPT, elements, keep, parameters};
 use crate::drafts::{Draft, MOST_TEMPS};

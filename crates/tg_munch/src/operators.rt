@@ -1,6 +1,6 @@
 ghost use Rattle.std.specs.Prelude.{◌≡◌, ◌<◌, OnOk, IfOk};
-ghost use Rattle.tg_munch.specs.Drafts.{Writes};
-ghost use Rattle.tg_munch.specs.Tiles as tiles;
+ghost use Rattle.tg_munch.specs.glue.Drafts.{Writes};
+ghost use Rattle.tg_munch.specs.mirror.Tiles as tiles;
 
 use crate::comparing::if_zero;
 use crate::drafts::Draft;

@@ -1,6 +1,6 @@
 ghost use Rattle.std.specs.Prelude.{◌≡◌, option_map};
-ghost use Rattle.tg_tree.specs.Plain.{plain_linear, plain_ts, plain_tx};
-ghost use Rattle.tg_munch.specs.Products as products;
+ghost use Rattle.tg_tree.specs.glue.Plain.{plain_linear, plain_ts, plain_tx};
+ghost use Rattle.tg_munch.specs.mirror.Products as products;
 
 use tg_base::Temp;
 use tg_tree::{Bin, Linear, Ts, Tx};

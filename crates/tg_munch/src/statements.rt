@@ -1,8 +1,8 @@
 ghost use Rattle.std.specs.Prelude.{◌≡◌, OnOk, option_map};
-ghost use Rattle.tg_tree.specs.Plain.{plain_linear, plain_tx, plain_ts};
 ghost use Rattle.tg_tree.specs.Tree as tree;
-ghost use Rattle.tg_munch.specs.Drafts.{Writes};
-ghost use Rattle.tg_munch.specs.Munching as munching;
+ghost use Rattle.tg_tree.specs.glue.Plain.{plain_linear, plain_tx, plain_ts};
+ghost use Rattle.tg_munch.specs.glue.Drafts.{Writes};
+ghost use Rattle.tg_munch.specs.mirror.Munching as munching;
 
 use crate::comparing::{branch_on, branch_short, is_turned, short_side, turned};
 use crate::drafts::Draft;

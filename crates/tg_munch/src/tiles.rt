@@ -1,5 +1,5 @@
 ghost use Rattle.std.specs.Prelude.{◌≡◌};
-ghost use Rattle.tg_munch.specs.Tiles as tiles;
+ghost use Rattle.tg_munch.specs.mirror.Tiles as tiles;
 
 use tg_instr::{Instr, Opnd};
 use tg_isa::Bits;

@@ -1,7 +1,7 @@
 ghost use Rattle.std.specs.Prelude.{◌≡◌, ◌<◌};
-ghost use Rattle.tg_tree.specs.Plain.{plain_tx};
 ghost use Rattle.tg_tree.specs.declared.operators.Bin.TheVariants as bin;
-ghost use Rattle.tg_munch.specs.Tiles as tiles;
+ghost use Rattle.tg_tree.specs.glue.Plain.{plain_tx};
+ghost use Rattle.tg_munch.specs.mirror.Tiles as tiles;
 
 use crate::tiles::{Immediate, Tile};
 use tg_isa::Bits;

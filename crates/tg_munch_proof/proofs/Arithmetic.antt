@@ -11,7 +11,7 @@ use Rattle.std.specs.Prelude.{not, nat_lt}
 use Rattle.tg_base.specs.Words.{add, sub, mul, less, signed, unsigned, exact_sum, exact_difference, product_low}
 use Rattle.tg_base.specs.Words.{extended, shift_left, shift_right, shift_signed}
 use Rattle.tg_base.proofs.ProductLaws.{abs_product}
-use Rattle.tg_munch.specs.Tiles.{is_small, field, negated}
+use Rattle.tg_munch.specs.mirror.Tiles.{is_small, field, negated}
 
 -- the field of a small constant stands for it
 pub field_stands : (n : ℕ) → is_small n ≡ true → extended (field n) ≡ n

@@ -13,13 +13,13 @@ use Rattle.tg_base.specs.Words.{signed}
 use Rattle.tg_state.specs.Services.{whole_words}
 use Rattle.tg_simulation.specs.Runs.{Run}
 use Rattle.tg_simulation.specs.Ran.{Ran, Ended, Wrong, stops}
-use Rattle.tg_simulation.specs.Simulating.{Simulates}
+use Rattle.tg_simulation.specs.laws.Simulating.{Simulates}
 use Rattle.tg_simulation.proofs.Simulations.{simulates_stopping, simulates_writing, simulates_wrong}
 use Rattle.tg_tree.specs.Memory.{Memory, Cell, load_byte}
 use Rattle.tg_tree.specs.Actions.{World, over, before, text_from, with_text, take_heap, read_byte, service}
 use Rattle.tg_tree.specs.Holding.{WorldHoldsAtLeast, in_stack}
 use Rattle.tg_munch_proof.specs.Words.{IsWord}
-use Rattle.tg_munch_proof.specs.Outlines.{Outline, Alike}
+use Rattle.tg_munch_proof.specs.glue.Outlines.{Outline, Alike}
 
 abbrev world : (statics heap input : List ℕ) → (ℕ → Cell) → World
 world statics heap input cells =

@@ -1,8 +1,8 @@
 -- What choices do, one after another: of the operand that is given, of what is drawn and of the contents after the
 -- instructions a fact holds, or the run
 -- has stopped as the word that is given has.
-use Rattle.tg_munch_proof.specs.Places.{Place, goes, IsPart, Lands, Behaves}
-use Rattle.tg_munch_proof.specs.Values.{IsSettable}
+use Rattle.tg_munch_proof.specs.glue.Places.{Place, goes, IsPart, Lands, Behaves}
+use Rattle.tg_munch_proof.specs.laws.Values.{IsSettable}
 use Rattle.std.proofs.Common.{◌≡◌, ◌≤◌, ℕ, ◌+◌, List, ◌∷◌, ◌++◌, append_assoc, Bool, refl, sym, ap, ◌∙◌, subst, arith}
 use Rattle.std.specs.Prelude.{Option, Some, None, if◌then◌else◌}
 use Rattle.tg_simulation.specs.Runs.{Run}
@@ -18,8 +18,8 @@ use Rattle.tg_instr.specs.Shapes.{Holder, Operand, Hi, Lo, InstructionShape, Fro
 use Rattle.tg_instr.specs.Contents.{Content, Word, Contents, set, held}
 use Rattle.tg_instr.specs.Meaning.{Around, with_content_word, with_content, put_in, act}
 use Rattle.tg_instr.specs.Running.{code_going, around, enter_code}
-use Rattle.tg_munch.specs.Choosing.{Choice, NumbersDrawn, ◌>>=◌}
-use Rattle.tg_munch_proof.specs.Places.{each_one, Does, gives, ends, unsaid}
+use Rattle.tg_munch.specs.mirror.Choosing.{Choice, NumbersDrawn, ◌>>=◌}
+use Rattle.tg_munch_proof.specs.glue.Places.{each_one, Does, gives, ends, unsaid}
 use Rattle.tg_munch_proof.proofs.Does.{does_within, does_onward}
 
 -- a word, or a stop that no fuel changes

@@ -7,7 +7,7 @@ use Rattle.std.specs.List.{AllByRecursion}
 use Rattle.tg_state.specs.State.{heap_base, stack_top}
 use Rattle.tg_simulation.specs.Runs.{Run}
 use Rattle.tg_simulation.specs.Ran.{Ran, works}
-use Rattle.tg_simulation.specs.Simulating.{Simulates}
+use Rattle.tg_simulation.specs.laws.Simulating.{Simulates}
 use Rattle.tg_simulation.proofs.Simulations.{simulates_along, simulates_paying, simulates_working, simulates_with_credit}
 use Rattle.tg_tree.specs.Tree as tree
 use Rattle.tg_tree.specs.Tree.{Tx, Ts, Literal, Linear, Function}
@@ -28,22 +28,22 @@ use Rattle.tg_instr.specs.declared.instr.Instr.{Instr}
 use Rattle.tg_instr.specs.Codes.{marks_differ}
 use Rattle.tg_instr.specs.Contents.{Contents}
 use Rattle.tg_instr.specs.Meaning.{Back}
-use Rattle.tg_munch.specs.Choosing.{Choice, NumbersDrawn, ◌>>=◌, ◌>>◌, give}
-use Rattle.tg_munch.specs.Munching.{kept_registers, expression, elements}
-use Rattle.tg_munch.specs.Bodies.{munched, outs}
-use Rattle.tg_munch.specs.Lengths.{kept_count}
-use Rattle.tg_munch.specs.Products.{leaves_product}
-use Rattle.tg_munch_proof.specs.Places.{Place, Behaves, IsPart, goes, Walks}
-use Rattle.tg_munch_proof.specs.Values.{Result, IsAskable, extra, Scene}
+use Rattle.tg_munch.specs.mirror.Choosing.{Choice, NumbersDrawn, ◌>>=◌, ◌>>◌, give}
+use Rattle.tg_munch.specs.mirror.Munching.{kept_registers, expression, elements}
+use Rattle.tg_munch.specs.mirror.Bodies.{munched, outs}
+use Rattle.tg_munch.specs.laws.Lengths.{kept_count}
+use Rattle.tg_munch.specs.mirror.Products.{leaves_product}
 use Rattle.tg_munch_proof.specs.Words.{IsWord, HasWords}
+use Rattle.tg_munch_proof.specs.glue.Places.{Place, Behaves, IsPart, goes, Walks}
+use Rattle.tg_munch_proof.specs.laws.Values.{Result, IsAskable, extra, Scene}
 use Rattle.tg_munch_proof.proofs.Behaving.{known, later_part}
 use Rattle.tg_munch_proof.proofs.Does.{does_simulate}
 use Rattle.tg_munch_proof.proofs.Loading.{expression_does}
 use Rattle.tg_munch_proof.proofs.Words.{ReadsWords}
-use Rattle.tg_munch_proof.specs.Chosen.{MayBeChosen, HasRoom, chosen}
-use Rattle.tg_munch_proof.specs.Outlines.{Outline}
-use Rattle.tg_munch_proof.specs.Relating.{Program, code_behind, most_statics, AreAlike, going, TempsAlike, AreKept}
-use Rattle.tg_munch_proof.specs.Relating.{HiIsThere, outline_in, BacksMatch, EntersMatch, IsActivation}
+use Rattle.tg_munch_proof.specs.glue.Outlines.{Outline}
+use Rattle.tg_munch_proof.specs.glue.Relating.{Program, code_behind, most_statics, AreAlike, going, TempsAlike, AreKept}
+use Rattle.tg_munch_proof.specs.glue.Relating.{HiIsThere, outline_in, BacksMatch, EntersMatch, IsActivation}
+use Rattle.tg_munch_proof.specs.laws.Chosen.{MayBeChosen, HasRoom, chosen}
 use Rattle.tg_munch_proof.proofs.Asking.{same_input}
 use Rattle.tg_munch_proof.proofs.Moves.{SameTemps, knows, temps_same, kept_same}
 use Rattle.tg_munch_proof.proofs.Reading.{load_is_word, byte_is_word, literal_is_word}

@@ -18,16 +18,16 @@ use Rattle.tg_instr.specs.Codes.{marks_differ}
 use Rattle.tg_instr.specs.Contents.{Word, Contents, at_entry, handed}
 use Rattle.tg_instr.specs.Meaning.{Back}
 use Rattle.tg_instr.specs.Running.{with_frame}
-use Rattle.tg_munch.specs.Choosing.{NumbersDrawn, ◌>>=◌}
-use Rattle.tg_munch.specs.Munching.{kept_registers, elements}
-use Rattle.tg_munch.specs.Bodies.{kept, parameters, munched, mark_above, outs}
-use Rattle.tg_munch.specs.Lengths.{kept_count}
-use Rattle.tg_munch_proof.specs.Places.{goes}
+use Rattle.tg_munch.specs.mirror.Choosing.{NumbersDrawn, ◌>>=◌}
+use Rattle.tg_munch.specs.mirror.Munching.{kept_registers, elements}
+use Rattle.tg_munch.specs.mirror.Bodies.{kept, parameters, munched, mark_above, outs}
+use Rattle.tg_munch.specs.laws.Lengths.{kept_count}
+use Rattle.tg_munch_proof.specs.glue.Places.{goes}
 use Rattle.tg_munch_proof.proofs.Growing.{parameters_grow}
-use Rattle.tg_munch_proof.specs.Chosen.{MayBeChosen, HasRoom, chosen}
-use Rattle.tg_munch_proof.specs.Outlines.{Outline}
-use Rattle.tg_munch_proof.specs.Relating.{Program, ArePassed, BacksMatch, EntersMatch, BodyMatches, IsActivation}
-use Rattle.tg_munch_proof.specs.Relating.{going}
+use Rattle.tg_munch_proof.specs.glue.Outlines.{Outline}
+use Rattle.tg_munch_proof.specs.glue.Relating.{Program, ArePassed, BacksMatch, EntersMatch, BodyMatches, IsActivation}
+use Rattle.tg_munch_proof.specs.glue.Relating.{going}
+use Rattle.tg_munch_proof.specs.laws.Chosen.{MayBeChosen, HasRoom, chosen}
 use Rattle.tg_munch_proof.proofs.Between.{ElementHasWords, Activated, MovesBelow, place, walks, around_it, flat_goes, Left, GoesOn}
 use Rattle.tg_munch_proof.proofs.Between.{Fuelled, no_product, within, works_behind}
 use Rattle.tg_munch_proof.proofs.Elements.{left_goes_on}

@@ -1,11 +1,11 @@
 -- Branches on a comparison: at most two instructions come to the mark where it holds, and else go on.
-use Rattle.tg_munch_proof.specs.Values.{fork}
+use Rattle.tg_munch_proof.specs.laws.Values.{fork}
 use Rattle.std.proofs.Common.{◌≡◌, ◌≢◌, ℕ, ◌+◌, ◌%◌, List, ◌∷◌, ◌++◌, Bool, refl, sym, ap, ◌∙◌, subst, arith}
 use Rattle.std.proofs.lemmas.Bool.Decides.{nat_tests}
 use Rattle.std.specs.Prelude.{◌==◌, ◌&&◌, not, nat_lt, false, true, Some, None, if◌then◌else◌}
 use Rattle.tg_base.specs.Words.{less, flag, extended}
 use Rattle.tg_simulation.specs.Ran.{works}
-use Rattle.tg_simulation.specs.Simulating.{Comes}
+use Rattle.tg_simulation.specs.laws.Simulating.{Comes}
 use Rattle.tg_tree.proofs.FlatValues.{works_add, works_none}
 use Rattle.tg_tree.specs.declared.operators.Rel.{Rel}
 use Rattle.tg_tree.specs.declared.operators.Rel.TheVariants as rel
@@ -18,15 +18,15 @@ use Rattle.tg_instr.specs.declared.instr.Instr.TheVariants as instr
 use Rattle.tg_instr.specs.Shapes.{Operand, Tests, shape}
 use Rattle.tg_instr.specs.Contents.{Content, Word, Contents, set, held}
 use Rattle.tg_instr.specs.Meaning.{with_content_word}
-use Rattle.tg_munch.specs.Choosing.{Choice, NumbersDrawn, ◌>>=◌, give, put}
-use Rattle.tg_munch.specs.Tiles.{nothing, is_small, field, if_equal, unless_equal}
-use Rattle.tg_munch.specs.Comparing as comparing
-use Rattle.tg_munch.specs.Comparing.{on_flag, field_flag, on_less, on_less_field, order, branch_on, against_zero}
-use Rattle.tg_munch.specs.Comparing.{short_field, short, branch_short, turned, can_turn}
-use Rattle.tg_munch.specs.Munching.{temp}
-use Rattle.tg_munch_proof.specs.Places.{Place, goes}
-use Rattle.tg_munch_proof.specs.Values.{Stay}
+use Rattle.tg_munch.specs.mirror.Choosing.{Choice, NumbersDrawn, ◌>>=◌, give, put}
+use Rattle.tg_munch.specs.mirror.Tiles.{nothing, is_small, field, if_equal, unless_equal}
+use Rattle.tg_munch.specs.mirror.Comparing as comparing
+use Rattle.tg_munch.specs.mirror.Comparing.{on_flag, field_flag, on_less, on_less_field, order, branch_on, against_zero}
+use Rattle.tg_munch.specs.mirror.Comparing.{short_field, short, branch_short, turned, can_turn}
+use Rattle.tg_munch.specs.mirror.Munching.{temp}
 use Rattle.tg_munch_proof.specs.Words.{IsWord}
+use Rattle.tg_munch_proof.specs.glue.Places.{Place, goes}
+use Rattle.tg_munch_proof.specs.laws.Values.{Stay}
 use Rattle.tg_munch_proof.proofs.Arithmetic.{field_stands, at_most_is_less}
 use Rattle.tg_munch_proof.proofs.Behaving.{acts}
 use Rattle.tg_munch_proof.proofs.Fields.{taken}

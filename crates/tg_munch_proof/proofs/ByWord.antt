@@ -1,5 +1,5 @@
 -- A shift by a word: its five bits one after another, and the operand that is asked for.
-use Rattle.tg_munch_proof.specs.Values.{extra}
+use Rattle.tg_munch_proof.specs.laws.Values.{extra}
 use Rattle.std.proofs.Common.{◌≡◌, ◌≤◌, ◌<◌, ℕ, ◌+◌, ◌%◌, Bool, refl, sym, ap, ◌∙◌, subst, arith}
 use Rattle.std.specs.Prelude.{◌==◌, false, true, Option, Some, None, bit_and, if◌then◌else◌}
 use Rattle.tg_tree.specs.declared.operators.Bin.{Bin}
@@ -13,12 +13,12 @@ use Rattle.tg_instr.specs.declared.instr.Instr.TheVariants as instr
 use Rattle.tg_instr.specs.Operands.{is_same}
 use Rattle.tg_instr.specs.Shapes.{Operand}
 use Rattle.tg_instr.specs.Contents.{Word, Contents, set, held}
-use Rattle.tg_munch.specs.Choosing.{Choice, NumbersDrawn, ◌>>=◌, ◌>>◌, give, put, defining}
-use Rattle.tg_munch.specs.Tiles.{is_shift, shift_bit, shift_bits, shifted, shifted_into, moved}
-use Rattle.tg_munch.specs.Munching.{temp}
-use Rattle.tg_munch_proof.specs.Places.{Place, Behaves, Walks}
-use Rattle.tg_munch_proof.specs.Values.{Result, Stay, IsOld, IsAskable}
+use Rattle.tg_munch.specs.mirror.Choosing.{Choice, NumbersDrawn, ◌>>=◌, ◌>>◌, give, put, defining}
+use Rattle.tg_munch.specs.mirror.Tiles.{is_shift, shift_bit, shift_bits, shifted, shifted_into, moved}
+use Rattle.tg_munch.specs.mirror.Munching.{temp}
 use Rattle.tg_munch_proof.specs.Words.{IsWord}
+use Rattle.tg_munch_proof.specs.glue.Places.{Place, Behaves, Walks}
+use Rattle.tg_munch_proof.specs.laws.Values.{Result, Stay, IsOld, IsAskable}
 use Rattle.tg_munch_proof.proofs.Behaving.{bind, weaker, so, known, nothing_done, copied}
 use Rattle.tg_munch_proof.proofs.Results.{Target, asked, own, choosing, survives, survives_other, old_still, itself}
 use Rattle.tg_munch_proof.proofs.Results.{below_differs, stay_on}

@@ -16,16 +16,16 @@ use Rattle.tg_instr.specs.declared.instr.Instr.TheVariants as instr
 use Rattle.tg_instr.specs.Shapes.{Operand}
 use Rattle.tg_instr.specs.Contents.{Word, Contents, set, after_call}
 use Rattle.tg_instr.specs.Meaning.{with_content}
-use Rattle.tg_munch.specs.Choosing.{NumbersDrawn, ◌>>◌, give, put, defining}
-use Rattle.tg_munch.specs.Arguments.{one_may_end, ordered}
-use Rattle.tg_munch.specs.Munching.{temp, expression, arguments, asked, answer_in}
-use Rattle.tg_munch.specs.Bodies.{outs, out_of}
-use Rattle.tg_munch.specs.Lengths.{kept_count}
-use Rattle.tg_munch_proof.specs.Places.{goes}
+use Rattle.tg_munch.specs.mirror.Choosing.{NumbersDrawn, ◌>>◌, give, put, defining}
+use Rattle.tg_munch.specs.mirror.Arguments.{one_may_end, ordered}
+use Rattle.tg_munch.specs.mirror.Munching.{temp, expression, arguments, asked, answer_in}
+use Rattle.tg_munch.specs.mirror.Bodies.{outs, out_of}
+use Rattle.tg_munch.specs.laws.Lengths.{kept_count}
 use Rattle.tg_munch_proof.specs.Words.{IsWord, HasWords, HaveWords}
+use Rattle.tg_munch_proof.specs.glue.Places.{goes}
 use Rattle.tg_munch_proof.proofs.Behaving.{later_part}
 use Rattle.tg_munch_proof.proofs.Results.{itself}
-use Rattle.tg_munch_proof.specs.Relating.{TempsAlike}
+use Rattle.tg_munch_proof.specs.glue.Relating.{TempsAlike}
 use Rattle.tg_munch_proof.proofs.Between.{Activated, place, flat_goes, Matches, Fuelled, in_turn, let_go, pays}
 use Rattle.tg_munch_proof.proofs.Between.{works_behind, no_product, passes, literals, enter, no_loop, around_it}
 use Rattle.tg_munch_proof.proofs.Between.{AlikeIn}

@@ -2,7 +2,7 @@
 use Rattle.std.proofs.Common.{◌≡◌, ◌≤◌, ℕ, ◌+◌, ◌-◌, List, ◌∷◌, length, Bool, true, false, refl, arith}
 use Rattle.std.proofs.lemmas.Bool.Decides.{nat_tests}
 use Rattle.std.specs.Prelude.{◌&&◌, ◌||◌, not, nat_le, nat_lt}
-use Rattle.tg_simulation.specs.Simulating.{Simulates}
+use Rattle.tg_simulation.specs.laws.Simulating.{Simulates}
 use Rattle.tg_simulation.proofs.Simulations.{simulates_working}
 use Rattle.tg_tree.specs.Tree.{Linear, Function}
 use Rattle.tg_tree.specs.Actions.{World, Activation, Back as TreeBack}
@@ -12,13 +12,13 @@ use Rattle.tg_instr.specs.declared.instr.Instr.TheVariants.{Call}
 use Rattle.tg_instr.specs.Contents.{Word, Contents, after_call}
 use Rattle.tg_instr.specs.Meaning.{Back}
 use Rattle.tg_instr.specs.Running.{run_code}
-use Rattle.tg_munch.specs.Bodies.{outs}
-use Rattle.tg_munch_proof.specs.Places.{each_one}
+use Rattle.tg_munch.specs.mirror.Bodies.{outs}
+use Rattle.tg_munch_proof.specs.glue.Places.{each_one}
 use Rattle.tg_munch_proof.specs.Words.{IsWord}
-use Rattle.tg_munch_proof.specs.Chosen.{chosen}
-use Rattle.tg_munch_proof.specs.Outlines.{Outline, IsAbove, IsTop}
-use Rattle.tg_munch_proof.specs.Relating.{Program, outline_in, AreAlike, ArePassed, EntersMatch, IsActivation}
-use Rattle.tg_munch_proof.specs.Relating.{is_low, is_slot, enters, going_behind, code_behind}
+use Rattle.tg_munch_proof.specs.laws.Chosen.{chosen}
+use Rattle.tg_munch_proof.specs.glue.Outlines.{Outline, IsAbove, IsTop}
+use Rattle.tg_munch_proof.specs.glue.Relating.{Program, outline_in, AreAlike, ArePassed, EntersMatch, IsActivation}
+use Rattle.tg_munch_proof.specs.glue.Relating.{is_low, is_slot, enters, going_behind, code_behind}
 
 -- what is told within a frame is told of addresses from its low end on
 either : (b c : Bool) (P : Type 0) → (b || c) ≡ true → (b ≡ true → P) → (c ≡ true → P) → P

@@ -1,5 +1,5 @@
 -- Comparisons of two flat expressions, whichever side is short.
-use Rattle.tg_munch_proof.specs.Values.{Forked, Compares}
+use Rattle.tg_munch_proof.specs.laws.Values.{Forked, Compares}
 use Rattle.std.proofs.Common.{◌∙◌, ◌≡◌, ◌≤◌, ℕ, ◌+◌, ◌++◌, append_assoc, Bool, refl, sym, ap, subst, arith}
 use Rattle.std.proofs.lemmas.Bool.Decides.{nat_tests}
 use Rattle.std.specs.Prelude.{◌==◌, ◌&&◌, not, false, true, Some, None, if◌then◌else◌}
@@ -21,21 +21,21 @@ use Rattle.tg_instr.specs.Contents.{Word, Contents, held}
 use Rattle.tg_instr.specs.declared.instr.Instr.TheVariants.{Mfhi}
 use Rattle.tg_instr.specs.Shapes.{Hi}
 use Rattle.tg_instr.specs.Contents.{set}
-use Rattle.tg_munch.specs.Choosing.{defining}
-use Rattle.tg_munch.specs.Munching.{temp, compared_in_hi}
-use Rattle.tg_munch_proof.specs.Places.{Does, gives, Place, Behaves, IsPart, goes, Walks}
-use Rattle.tg_munch_proof.specs.Values.{Result, IsOld, Sees, Known, fork, Scene}
+use Rattle.tg_munch.specs.mirror.Choosing.{defining}
+use Rattle.tg_munch.specs.mirror.Munching.{temp, compared_in_hi}
 use Rattle.tg_munch_proof.specs.Words.{IsWord, HasWords}
+use Rattle.tg_munch_proof.specs.glue.Places.{Does, gives, Place, Behaves, IsPart, goes, Walks}
+use Rattle.tg_munch_proof.specs.laws.Values.{Result, IsOld, Sees, Known, fork, Scene}
 use Rattle.tg_munch_proof.proofs.Behaving.{so, from1, later_part, known, does_so}
 use Rattle.tg_munch_proof.proofs.Branching.{Forks, branch_on_forks, zero_forks, short_forks}
 use Rattle.tg_munch_proof.proofs.Does.{does_within, does_onward}
 use Rattle.tg_munch_proof.proofs.Expressions.{known_on, onward_same, value, spent}
 use Rattle.tg_munch_proof.proofs.Loading.{expression_does, as_side}
 use Rattle.tg_munch_proof.proofs.Results.{finish, own, stay_on, survives}
-use Rattle.tg_munch.specs.Choosing.{Choice, NumbersDrawn, ◌>>=◌}
-use Rattle.tg_munch.specs.Comparing.{against, short_side, short_field, branch_short, branch_on, turned, can_turn}
-use Rattle.tg_munch.specs.Comparing.{is_constant, is_turned}
-use Rattle.tg_munch.specs.Munching.{expression, compared_with, compared, branch}
+use Rattle.tg_munch.specs.mirror.Choosing.{Choice, NumbersDrawn, ◌>>=◌}
+use Rattle.tg_munch.specs.mirror.Comparing.{against, short_side, short_field, branch_short, branch_on, turned, can_turn}
+use Rattle.tg_munch.specs.mirror.Comparing.{is_constant, is_turned}
+use Rattle.tg_munch.specs.mirror.Munching.{expression, compared_with, compared, branch}
 
 no : false ≡ true → ⊥
 no e = cc

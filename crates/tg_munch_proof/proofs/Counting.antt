@@ -8,7 +8,7 @@ use Rattle.tg_state.specs.State.{stack_top}
 use Rattle.tg_simulation.specs.Runs.{Run}
 use Rattle.tg_simulation.specs.Ran.{Ran, Ended, Wrong}
 use Rattle.tg_simulation.specs.Preserving.{Preserves}
-use Rattle.tg_simulation.specs.Simulating.{Simulates}
+use Rattle.tg_simulation.specs.laws.Simulating.{Simulates}
 use Rattle.tg_simulation.proofs.Agreeing.{passes_compose}
 use Rattle.tg_simulation.proofs.Fixpoint.{runs_relate}
 use Rattle.tg_simulation.proofs.Simulations.{simulation_preserves, simulates_stopping, simulates_writing, simulates_turn}
@@ -28,9 +28,9 @@ use Rattle.tg_instr.specs.Contents.{Contents, no_contents, at_entry}
 use Rattle.tg_instr.specs.Meaning.{Back}
 use Rattle.tg_instr.specs.Running.{Units, everywhere, CodePoint, behind, run_code, code_step, code_going, code_run, enter_code, jump_to}
 use Rattle.tg_instr.proofs.CodeRuns.{AlikeReturns, AlikeCode, alike_code, code_down, keep_act, keep_begin, code_steps}
-use Rattle.tg_munch_proof.specs.Places.{each_one}
-use Rattle.tg_munch_proof.specs.Chosen.{MunchIsCorrect, CountsAtMost, MunchKeepsCounts, MunchKeepsWords}
-use Rattle.tg_munch_proof.specs.Chosen.{added_work, chosen_code}
+use Rattle.tg_munch_proof.specs.glue.Places.{each_one}
+use Rattle.tg_munch_proof.specs.laws.Chosen.{MunchIsCorrect, CountsAtMost, MunchKeepsCounts, MunchKeepsWords}
+use Rattle.tg_munch_proof.specs.laws.Chosen.{added_work, chosen_code}
 
 module _ (most : ℕ) (some : 1 ≤ most) where
   abbrev Within : Related

@@ -1,10 +1,10 @@
 -- How the instructions of a flat expression come to what stands after them: composing them as the value of the
 -- expression is composed.
-use Rattle.tg_munch_proof.specs.Places.{Does, gives, ends, unsaid}
+use Rattle.tg_munch_proof.specs.glue.Places.{Does, gives, ends, unsaid}
 use Rattle.std.proofs.Common.{◌≡◌, ◌≤◌, ℕ, ◌+◌, refl, subst, arith}
 use Rattle.tg_simulation.specs.Runs.{Run}
 use Rattle.tg_simulation.specs.Ran.{Ran, Ended, Wrong, stops}
-use Rattle.tg_simulation.specs.Simulating.{Comes, Simulates}
+use Rattle.tg_simulation.specs.laws.Simulating.{Comes, Simulates}
 use Rattle.tg_simulation.proofs.Simulations.{comes_on, simulates_coming, simulates_stopping, simulates_wrong}
 use Rattle.tg_tree.specs.Operators.{Given}
 use Rattle.tg_tree.specs.Actions.{World, over, with_given}

@@ -7,7 +7,7 @@ use Rattle.tg_state.specs.declared.ends.RunEnd.TheVariants.{Break}
 use Rattle.tg_base.specs.Words.{flag}
 use Rattle.tg_simulation.specs.Runs.{Run, turn}
 use Rattle.tg_simulation.specs.Ran.{Ran, WantsFuel, Wrong, stops, works}
-use Rattle.tg_simulation.specs.Simulating.{Simulates}
+use Rattle.tg_simulation.specs.laws.Simulating.{Simulates}
 use Rattle.tg_simulation.proofs.Simulations.{simulates_along, simulates_turn, simulates_wrong}
 use Rattle.tg_tree.specs.Tree as tree
 use Rattle.tg_tree.specs.Tree.{Tx, Linear}
@@ -29,21 +29,21 @@ use Rattle.tg_instr.specs.declared.instr.Instr.TheVariants as instr
 use Rattle.tg_instr.specs.Shapes.{Operand}
 use Rattle.tg_instr.specs.Contents.{Word, Contents, held, handed}
 use Rattle.tg_instr.specs.Running.{CodePoint, jump_to}
-use Rattle.tg_munch.specs.Choosing.{Choice, NumbersDrawn, ◌>>=◌, ◌>>◌, put}
-use Rattle.tg_munch.specs.Munching.{kept_registers, expression, branch, compared_in_hi, given_back, element, elements}
-use Rattle.tg_munch.specs.Bodies.{outs, out_of, out_of_element}
-use Rattle.tg_munch.specs.Lengths.{kept_count}
-use Rattle.tg_munch.specs.Products.{is_in_hi, leaves_product}
-use Rattle.tg_munch_proof.specs.Places.{each_one, IsPart, goes}
-use Rattle.tg_munch_proof.specs.Values.{Stay, fork, Compares}
+use Rattle.tg_munch.specs.mirror.Choosing.{Choice, NumbersDrawn, ◌>>=◌, ◌>>◌, put}
+use Rattle.tg_munch.specs.mirror.Munching.{kept_registers, expression, branch, compared_in_hi, given_back, element, elements}
+use Rattle.tg_munch.specs.mirror.Bodies.{outs, out_of, out_of_element}
+use Rattle.tg_munch.specs.laws.Lengths.{kept_count}
+use Rattle.tg_munch.specs.mirror.Products.{is_in_hi, leaves_product}
 use Rattle.tg_munch_proof.specs.Words.{HasWords}
+use Rattle.tg_munch_proof.specs.glue.Places.{each_one, IsPart, goes}
+use Rattle.tg_munch_proof.specs.laws.Values.{Stay, fork, Compares}
 use Rattle.tg_munch_proof.proofs.Behaving.{later_part}
 use Rattle.tg_munch_proof.proofs.Compared.{branch_does, in_hi_does}
 use Rattle.tg_munch_proof.proofs.Does.{does_simulate}
 use Rattle.tg_munch_proof.proofs.Expressions.{after_within}
 use Rattle.tg_munch_proof.proofs.Growing.{element_grows}
 use Rattle.tg_munch_proof.proofs.Marked.{found}
-use Rattle.tg_munch_proof.specs.Relating.{going, going_behind, code_behind}
+use Rattle.tg_munch_proof.specs.glue.Relating.{going, going_behind, code_behind}
 use Rattle.tg_munch_proof.proofs.Asking.{same_input, ends_alike}
 use Rattle.tg_munch_proof.proofs.Between.{ElementHasWords, Activated, MovesBelow, place, literals, enter, no_loop, around_it}
 use Rattle.tg_munch_proof.proofs.Between.{flat_goes, flat_worth, worth, spends, InBody, Left, Matches, GoesOn}

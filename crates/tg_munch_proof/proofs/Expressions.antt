@@ -1,6 +1,6 @@
 -- The instructions of a flat expression give its value, in at most the units that it spends, and one more where an
 -- operand is asked for.
-use Rattle.tg_munch_proof.specs.Values.{Sees, Known}
+use Rattle.tg_munch_proof.specs.laws.Values.{Sees, Known}
 use Rattle.std.proofs.Common.{◌≡◌, ◌≤◌, ℕ, ◌+◌, Bool, refl, sym, ap, ◌∙◌, subst, arith}
 use Rattle.std.proofs.lemmas.Bool.Decides.{nat_tests}
 use Rattle.std.specs.Prelude.{◌==◌, false, true, Option, Some, None, if◌then◌else◌}
@@ -20,13 +20,13 @@ use Rattle.tg_instr.specs.declared.instr.Instr.TheVariants as instr
 use Rattle.tg_instr.specs.Shapes.{Base, AddressOf}
 use Rattle.tg_instr.specs.Contents.{Word, Contents}
 use Rattle.tg_instr.specs.Meaning.{put_in}
-use Rattle.tg_munch.specs.Choosing.{NumbersDrawn, ◌>>=◌, give, choose, defining}
-use Rattle.tg_munch.specs.Tiles.{nothing, constant, immediate, constant_side, exchanged_side, first_tile, tiled}
-use Rattle.tg_munch.specs.Tiles.{is_shift, commutes, moved, operated, shifted_into, with_field}
-use Rattle.tg_munch.specs.Munching.{temp, expression, fresh_constant}
-use Rattle.tg_munch_proof.specs.Places.{unsaid, Place, Behaves, goes, Walks}
-use Rattle.tg_munch_proof.specs.Values.{Result, Stay, IsAskable, extra, Scene}
+use Rattle.tg_munch.specs.mirror.Choosing.{NumbersDrawn, ◌>>=◌, give, choose, defining}
+use Rattle.tg_munch.specs.mirror.Tiles.{nothing, constant, immediate, constant_side, exchanged_side, first_tile, tiled}
+use Rattle.tg_munch.specs.mirror.Tiles.{is_shift, commutes, moved, operated, shifted_into, with_field}
+use Rattle.tg_munch.specs.mirror.Munching.{temp, expression, fresh_constant}
 use Rattle.tg_munch_proof.specs.Words.{IsWord, HasWords}
+use Rattle.tg_munch_proof.specs.glue.Places.{unsaid, Place, Behaves, goes, Walks}
+use Rattle.tg_munch_proof.specs.laws.Values.{Result, Stay, IsAskable, extra, Scene}
 use Rattle.tg_munch_proof.proofs.Behaving.{here, weaker, so, known, nothing_done, sets, said_or, with_or}
 use Rattle.tg_munch_proof.proofs.ByWord.{moved_does, by_word_tile}
 use Rattle.tg_munch_proof.proofs.Fields.{field_does, commuted}

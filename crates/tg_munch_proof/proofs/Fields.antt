@@ -15,7 +15,7 @@ use Rattle.tg_tree.specs.Operators.{Given, word, exactly, operate}
 use Rattle.tg_instr.specs.declared.operands.Opnd.{Opnd}
 use Rattle.tg_instr.specs.declared.instr.Instr.{Instr}
 use Rattle.tg_instr.specs.Shapes.{Operand, From1, shape}
-use Rattle.tg_munch.specs.Tiles.{is_small, field, negated, immediate, instruction, commutes}
+use Rattle.tg_munch.specs.mirror.Tiles.{is_small, field, negated, immediate, instruction, commutes}
 use Rattle.tg_munch_proof.specs.Words.{IsWord}
 use Rattle.tg_munch_proof.proofs.Arithmetic.{field_stands, sub_is_add, signed_negated}
 

@@ -12,19 +12,19 @@ use Rattle.tg_tree.specs.declared.operators.Rel.TheVariants as rel
 use Rattle.tg_instr.specs.declared.operands.Opnd.{Opnd}
 use Rattle.tg_instr.specs.declared.operands.Opnd.TheVariants.{Reg}
 use Rattle.tg_instr.specs.declared.instr.Instr.{Instr}
-use Rattle.tg_munch.specs.Choosing.{Choice, NumbersDrawn, ◌>>=◌, give, put, fresh, fresh_mark, choose, defining}
-use Rattle.tg_munch.specs.Arguments.{is_in_register, is_in_frame, is_anywhere, one_may_end, ordered}
-use Rattle.tg_munch.specs.Tiles.{nothing, is_small, slot, constant, offset, based, loaded, loaded_byte, moved}
-use Rattle.tg_munch.specs.Tiles.{constant_side, exchanged_side, first_tile, tile, tiled, operated, with_field}
-use Rattle.tg_munch.specs.Tiles.{shift_bit, shifted_into}
-use Rattle.tg_munch.specs.Comparing.{against, against_zero, branch_on, branch_short, short_side, short_field, on_less}
-use Rattle.tg_munch.specs.Comparing.{on_less_field, order, is_turned, turned}
-use Rattle.tg_munch.specs.Products.{is_in_hi}
-use Rattle.tg_munch.specs.Munching.{kept_registers, constant_in, answer_in}
-use Rattle.tg_munch.specs.Munching.{store_low, passed, asked, given_back, expression, arguments, left_side}
-use Rattle.tg_munch.specs.Munching.{based_at, valued, effect, stored, statement, compared_with, compared}
-use Rattle.tg_munch.specs.Munching.{branch_behind, element}
-use Rattle.tg_munch.specs.Bodies.{kept, from_register, load_above, from_word, from_words, parameters}
+use Rattle.tg_munch.specs.mirror.Choosing.{Choice, NumbersDrawn, ◌>>=◌, give, put, fresh, fresh_mark, choose, defining}
+use Rattle.tg_munch.specs.mirror.Arguments.{is_in_register, is_in_frame, is_anywhere, one_may_end, ordered}
+use Rattle.tg_munch.specs.mirror.Tiles.{nothing, is_small, slot, constant, offset, based, loaded, loaded_byte, moved}
+use Rattle.tg_munch.specs.mirror.Tiles.{constant_side, exchanged_side, first_tile, tile, tiled, operated, with_field}
+use Rattle.tg_munch.specs.mirror.Tiles.{shift_bit, shifted_into}
+use Rattle.tg_munch.specs.mirror.Comparing.{against, against_zero, branch_on, branch_short, short_side, short_field, on_less}
+use Rattle.tg_munch.specs.mirror.Comparing.{on_less_field, order, is_turned, turned}
+use Rattle.tg_munch.specs.mirror.Products.{is_in_hi}
+use Rattle.tg_munch.specs.mirror.Munching.{kept_registers, constant_in, answer_in}
+use Rattle.tg_munch.specs.mirror.Munching.{store_low, passed, asked, given_back, expression, arguments, left_side}
+use Rattle.tg_munch.specs.mirror.Munching.{based_at, valued, effect, stored, statement, compared_with, compared}
+use Rattle.tg_munch.specs.mirror.Munching.{branch_behind, element}
+use Rattle.tg_munch.specs.mirror.Bodies.{kept, from_register, load_above, from_word, from_words, parameters}
 use Rattle.tg_munch_proof.proofs.Fields.{taken}
 
 pub record Grows {A : Type 0} (choice : Choice A) : Type 0 where

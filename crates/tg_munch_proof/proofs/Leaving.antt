@@ -9,13 +9,13 @@ use Rattle.tg_tree.specs.Actions.{World, Activation}
 use Rattle.tg_tree.specs.Running.{with_slots, without_slots}
 use Rattle.tg_tree.specs.FrameSizes.{IsSizeOf}
 use Rattle.tg_instr.specs.Running.{lay_out, with_frame}
-use Rattle.tg_munch.specs.Bodies.{outs}
+use Rattle.tg_munch.specs.mirror.Bodies.{outs}
 use Rattle.tg_simulation.specs.Bytes.{AreBytes}
 use Rattle.tg_munch_proof.specs.Words.{IsWord, AreWords}
-use Rattle.tg_munch_proof.specs.Chosen.{chosen}
-use Rattle.tg_munch_proof.specs.Outlines.{Outline}
-use Rattle.tg_munch_proof.specs.Relating.{Program, outline_in, AreAlike, IsActivation, is_low, is_slot}
-use Rattle.tg_munch_proof.specs.Relating.{most_statics}
+use Rattle.tg_munch_proof.specs.laws.Chosen.{chosen}
+use Rattle.tg_munch_proof.specs.glue.Outlines.{Outline}
+use Rattle.tg_munch_proof.specs.glue.Relating.{Program, outline_in, AreAlike, IsActivation, is_low, is_slot}
+use Rattle.tg_munch_proof.specs.glue.Relating.{most_statics}
 use Rattle.tg_munch_proof.proofs.Frames.{lay_other, frame_holds, put_other, not_equal}
 use Rattle.tg_munch_proof.proofs.Outlines.{closed_behind, shut_within}
 

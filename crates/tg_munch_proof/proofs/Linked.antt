@@ -9,7 +9,7 @@ use Rattle.tg_frame.specs.declared.accesses.Access.{Access}
 use Rattle.tg_frame.specs.declared.accesses.Access.TheVariants.{InTemp, InFrame}
 use Rattle.tg_simulation.specs.Runs.{Run, turn}
 use Rattle.tg_simulation.specs.Ran.{Ran, Ended, WantsFuel, Wrong, stops}
-use Rattle.tg_simulation.specs.Simulating.{Simulates}
+use Rattle.tg_simulation.specs.laws.Simulating.{Simulates}
 use Rattle.tg_simulation.proofs.Simulations.{simulates_wrong, simulates_stopping, simulates_turn, simulates_less}
 use Rattle.tg_simulation.proofs.Simulations.{simulates_paying, simulates_with_credit}
 use Rattle.tg_tree.specs.Tree.{Linear, Function}
@@ -24,14 +24,14 @@ use Rattle.tg_instr.specs.declared.instr.Instr.{Instr}
 use Rattle.tg_instr.specs.Contents.{Contents, at_entry}
 use Rattle.tg_instr.specs.Meaning.{Back}
 use Rattle.tg_instr.specs.Running.{CodePoint, begin_code, with_frame}
-use Rattle.tg_munch.specs.Bodies.{munched}
-use Rattle.tg_munch.specs.Lengths.{kept_count}
-use Rattle.tg_munch_proof.specs.Places.{each_one}
-use Rattle.tg_munch_proof.specs.Chosen.{chosen}
-use Rattle.tg_munch_proof.specs.Outlines.{Outline, IsAbove, IsTop}
-use Rattle.tg_munch_proof.specs.Relating.{Program, AreAlike, ArePassed, EntersMatch, BacksMatch, IsActivation}
-use Rattle.tg_munch_proof.specs.Relating.{BodyMatches, IsPlaced, placed_all, placed_in_temp, placed_in_frame, going}
-use Rattle.tg_munch_proof.specs.Relating.{going_behind, code_behind}
+use Rattle.tg_munch.specs.laws.Lengths.{kept_count}
+use Rattle.tg_munch.specs.mirror.Bodies.{munched}
+use Rattle.tg_munch_proof.specs.glue.Places.{each_one}
+use Rattle.tg_munch_proof.specs.laws.Chosen.{chosen}
+use Rattle.tg_munch_proof.specs.glue.Outlines.{Outline, IsAbove, IsTop}
+use Rattle.tg_munch_proof.specs.glue.Relating.{Program, AreAlike, ArePassed, EntersMatch, BacksMatch, IsActivation}
+use Rattle.tg_munch_proof.specs.glue.Relating.{BodyMatches, IsPlaced, placed_all, placed_in_temp, placed_in_frame, going}
+use Rattle.tg_munch_proof.specs.glue.Relating.{going_behind, code_behind}
 
 -- arguments are placed, or the run goes wrong
 pub placed_case : (r n base : ℕ) (homes : List Access) (vs : List ℕ) (w : World) (t : Temps) (next : Next) (d : Run

@@ -16,8 +16,8 @@ use Rattle.tg_tree.specs.FlatValue.{onward, after_word, or_wrong, flat_value, fl
 use Rattle.tg_tree.specs.Actions.{World, Temps, Go, Around, over, with_given}
 use Rattle.tg_tree.specs.Meaning.{Enter, Point, values}
 use Rattle.tg_tree.proofs.FlatValues.{flat_runs, works_add, works_none}
-use Rattle.tg_munch.specs.Arguments.{is_trapping, may_end, is_in_register, is_in_frame, one_may_end}
-use Rattle.tg_munch.specs.Bodies.{count}
+use Rattle.tg_munch.specs.mirror.Arguments.{is_trapping, may_end, is_in_register, is_in_frame, one_may_end}
+use Rattle.tg_munch.specs.mirror.Bodies.{count}
 use Rattle.tg_base.specs.Words.{quot}
 
 -- all words, or how the run stops

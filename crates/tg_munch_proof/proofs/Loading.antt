@@ -18,14 +18,14 @@ use Rattle.tg_instr.specs.declared.instr.Instr.TheVariants as instr
 use Rattle.tg_instr.specs.Shapes.{Operand, Loads, FromSlot, shape}
 use Rattle.tg_instr.specs.Contents.{Word, Contents, held, content_of}
 use Rattle.tg_instr.specs.Meaning.{put_in, with_content_word, with_content}
-use Rattle.tg_munch.specs.Choosing.{NumbersDrawn, ◌>>=◌, give, defining}
-use Rattle.tg_munch.specs.Tiles as tiles
-use Rattle.tg_munch.specs.Tiles.{is_small, field, negated, field_of, offset_by, based, behind, loaded, loaded_byte}
-use Rattle.tg_munch.specs.Munching.{expression, based_at, loaded_at, byte_at}
+use Rattle.tg_munch.specs.mirror.Choosing.{NumbersDrawn, ◌>>=◌, give, defining}
+use Rattle.tg_munch.specs.mirror.Tiles as tiles
+use Rattle.tg_munch.specs.mirror.Tiles.{is_small, field, negated, field_of, offset_by, based, behind, loaded, loaded_byte}
+use Rattle.tg_munch.specs.mirror.Munching.{expression, based_at, loaded_at, byte_at}
 use Rattle.tg_munch.proofs.Walking.{load_is, load_byte_is}
-use Rattle.tg_munch_proof.specs.Places.{unsaid, Place, Behaves, goes, Walks}
-use Rattle.tg_munch_proof.specs.Values.{Result, Stay, IsOld, IsAskable, extra, Sees, Known, Scene}
 use Rattle.tg_munch_proof.specs.Words.{HasWords}
+use Rattle.tg_munch_proof.specs.glue.Places.{unsaid, Place, Behaves, goes, Walks}
+use Rattle.tg_munch_proof.specs.laws.Values.{Result, Stay, IsOld, IsAskable, extra, Sees, Known, Scene}
 use Rattle.tg_munch_proof.proofs.Arithmetic.{field_stands, sub_is_add, add_none}
 use Rattle.tg_munch_proof.proofs.Behaving.{here, bind, weaker, so, known, nothing_done, sets}
 use Rattle.tg_munch_proof.proofs.Expressions.{known_on, value, spent, Sides, Comes_to, onward_same, after_within}

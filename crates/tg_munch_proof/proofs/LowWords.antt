@@ -22,16 +22,16 @@ use Rattle.tg_instr.specs.Operands as operands
 use Rattle.tg_instr.specs.Shapes.{Operand, Stores, shape}
 use Rattle.tg_instr.specs.Contents.{Word, Contents, set, held}
 use Rattle.tg_instr.specs.Meaning.{with_content_word}
-use Rattle.tg_munch.specs.Choosing.{NumbersDrawn, ◌>>◌, put as puts, fresh}
-use Rattle.tg_munch.specs.Tiles.{constant}
-use Rattle.tg_munch.specs.Munching.{temp, store_low, store_far}
-use Rattle.tg_munch.specs.Bodies.{outs}
-use Rattle.tg_munch_proof.specs.Places.{goes}
-use Rattle.tg_munch_proof.specs.Values.{Stay, IsOld}
+use Rattle.tg_munch.specs.mirror.Choosing.{NumbersDrawn, ◌>>◌, put as puts, fresh}
+use Rattle.tg_munch.specs.mirror.Tiles.{constant}
+use Rattle.tg_munch.specs.mirror.Munching.{temp, store_low, store_far}
+use Rattle.tg_munch.specs.mirror.Bodies.{outs}
+use Rattle.tg_munch_proof.specs.glue.Places.{goes}
+use Rattle.tg_munch_proof.specs.laws.Values.{Stay, IsOld}
 use Rattle.tg_munch_proof.proofs.Behaving.{acts, from2, later_part}
 use Rattle.tg_munch_proof.proofs.Results.{SetTo, survives, set_holds, below_differs}
 use Rattle.tg_munch_proof.proofs.Tiled.{Sets, constant_does}
-use Rattle.tg_munch_proof.specs.Relating.{is_low, is_slot}
+use Rattle.tg_munch_proof.specs.glue.Relating.{is_low, is_slot}
 use Rattle.tg_munch_proof.proofs.Between.{Activated, place, AlikeIn, Matches, in_turn}
 use Rattle.tg_munch_proof.proofs.Between.{frame, works_behind, same_regions}
 use Rattle.tg_munch_proof.proofs.Frames.{puts_behind}

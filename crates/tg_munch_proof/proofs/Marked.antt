@@ -12,8 +12,8 @@ use Rattle.tg_instr.specs.declared.instr.Instr.{Instr}
 use Rattle.tg_instr.specs.declared.instr.Instr.TheVariants.{Mark}
 use Rattle.tg_instr.specs.Codes.{is_mark, marks_differ}
 use Rattle.tg_instr.specs.Running.{behind}
-use Rattle.tg_munch.specs.Choosing.{NumbersDrawn, ◌>>=◌}
-use Rattle.tg_munch.specs.Munching.{element, elements}
+use Rattle.tg_munch.specs.mirror.Choosing.{NumbersDrawn, ◌>>=◌}
+use Rattle.tg_munch.specs.mirror.Munching.{element, elements}
 use Rattle.tg_munch_proof.proofs.Growing.{element_grows}
 
 some_is : {X : Type 0} (x y : X) → Some x ≡ Some y → x ≡ y

@@ -8,11 +8,11 @@ use Rattle.tg_tree.specs.Actions.{Temps, set_temp}
 use Rattle.tg_instr.specs.declared.operands.Opnd.TheVariants.{Reg}
 use Rattle.tg_instr.specs.Shapes.{Operand}
 use Rattle.tg_instr.specs.Contents.{Word, Contents}
-use Rattle.tg_munch.specs.Choosing.{NumbersDrawn}
-use Rattle.tg_munch.specs.Munching.{temp}
-use Rattle.tg_munch_proof.specs.Values.{Known, Stay}
+use Rattle.tg_munch.specs.mirror.Choosing.{NumbersDrawn}
+use Rattle.tg_munch.specs.mirror.Munching.{temp}
+use Rattle.tg_munch_proof.specs.laws.Values.{Known, Stay}
 use Rattle.tg_munch_proof.specs.Words.{IsWord}
-use Rattle.tg_munch_proof.specs.Relating.{TempsAlike, AreKept}
+use Rattle.tg_munch_proof.specs.glue.Relating.{TempsAlike, AreKept}
 
 -- temporaries below a number that are what they were, all of them or all but one
 abbrev pub SameTemps : ℕ → Contents → Contents → Type 0

@@ -15,11 +15,11 @@ use Rattle.tg_instr.specs.declared.instr.Instr.{Instr}
 use Rattle.tg_instr.specs.declared.instr.Instr.TheVariants as instr
 use Rattle.tg_instr.specs.Shapes.{Operand, Hi, Lo, From2, shape, unless_zero}
 use Rattle.tg_instr.specs.Contents.{Word, Contents, set, held}
-use Rattle.tg_munch.specs.Choosing.{Choice, NumbersDrawn, ◌>>=◌, choose, put, defining}
-use Rattle.tg_munch.specs.Tiles.{operated, is_shift}
-use Rattle.tg_munch_proof.specs.Places.{unsaid, Place, Behaves}
-use Rattle.tg_munch_proof.specs.Values.{IsSettable, Result, Stay, IsAskable}
+use Rattle.tg_munch.specs.mirror.Choosing.{Choice, NumbersDrawn, ◌>>=◌, choose, put, defining}
+use Rattle.tg_munch.specs.mirror.Tiles.{operated, is_shift}
 use Rattle.tg_munch_proof.specs.Words.{IsWord}
+use Rattle.tg_munch_proof.specs.glue.Places.{unsaid, Place, Behaves}
+use Rattle.tg_munch_proof.specs.laws.Values.{IsSettable, Result, Stay, IsAskable}
 use Rattle.tg_munch_proof.proofs.Arithmetic.{low_product}
 use Rattle.tg_munch_proof.proofs.Behaving.{IsSaid, bind, weaker, so, known, from1, from2, halves2}
 use Rattle.tg_munch_proof.proofs.Results.{Target, choosing, target_drawn, target_settable, survives, stay_on}

@@ -5,7 +5,7 @@ use Rattle.std.proofs.lemmas.Bool.Decides.{nat_tests}
 use Rattle.std.proofs.lemmas.Bool.{cases_lt}
 use Rattle.std.specs.Prelude.{◌==◌, not, if◌then◌else◌}
 use Rattle.tg_tree.specs.Memory.{Memory, Cell, Closed, slot, lay}
-use Rattle.tg_munch_proof.specs.Relating.{is_slot}
+use Rattle.tg_munch_proof.specs.glue.Relating.{is_slot}
 use Rattle.tg_munch_proof.proofs.Frames.{lay_other}
 
 put_there : (b : Bool) (c d : Cell) → (b ≡ false → d ≡ c) → (if b then c else d) ≡ c

@@ -25,18 +25,18 @@ use Rattle.tg_instr.specs.Operands as operands
 use Rattle.tg_instr.specs.Shapes.{Operand, Base}
 use Rattle.tg_instr.specs.Contents.{Content, Word, Contents, set, held, cell_of}
 use Rattle.tg_instr.specs.Meaning.{with_content, with_content_word}
-use Rattle.tg_munch.specs.Choosing.{NumbersDrawn, ◌>>=◌, ◌>>◌, put as puts, fresh}
-use Rattle.tg_munch.specs.Tiles.{constant}
-use Rattle.tg_munch.specs.Munching.{temp, argument, kept_registers}
-use Rattle.tg_munch.specs.Bodies.{from_register, load_far, load_above, from_word, from_words, parameters}
-use Rattle.tg_munch.specs.Lengths.{kept_count}
-use Rattle.tg_munch_proof.specs.Places.{goes}
+use Rattle.tg_munch.specs.mirror.Choosing.{NumbersDrawn, ◌>>=◌, ◌>>◌, put as puts, fresh}
+use Rattle.tg_munch.specs.mirror.Tiles.{constant}
+use Rattle.tg_munch.specs.mirror.Munching.{temp, argument, kept_registers}
+use Rattle.tg_munch.specs.mirror.Bodies.{from_register, load_far, load_above, from_word, from_words, parameters}
+use Rattle.tg_munch.specs.laws.Lengths.{kept_count}
+use Rattle.tg_munch_proof.specs.glue.Places.{goes}
 use Rattle.tg_munch_proof.proofs.Behaving.{sets, from2, later_part}
 use Rattle.tg_munch_proof.proofs.Growing.{above_grows, word_grows}
 use Rattle.tg_munch_proof.proofs.Results.{SetTo, set_holds, below_differs, itself}
 use Rattle.tg_munch_proof.proofs.Tiled.{Sets, constant_does}
-use Rattle.tg_munch_proof.specs.Relating.{TempsAlike, AreKept, ArePassed, IsPlaced, placed_all, placed_in_temp}
-use Rattle.tg_munch_proof.specs.Relating.{placed_in_frame, most_statics}
+use Rattle.tg_munch_proof.specs.glue.Relating.{TempsAlike, AreKept, ArePassed, IsPlaced, placed_all, placed_in_temp}
+use Rattle.tg_munch_proof.specs.glue.Relating.{placed_in_frame, most_statics}
 use Rattle.tg_munch_proof.proofs.Between.{Activated, place, within, AlikeIn, Matches, in_turn, works_behind}
 use Rattle.tg_munch_proof.proofs.Between.{same_regions}
 use Rattle.tg_munch_proof.proofs.Frames.{not_equal}

@@ -5,7 +5,7 @@ use Rattle.std.proofs.lemmas.Bool.Decides.{nat_tests}
 use Rattle.std.specs.Prelude.{◌==◌, nat_lt, Some, None, if◌then◌else◌}
 use Rattle.tg_simulation.specs.Runs.{Run}
 use Rattle.tg_simulation.specs.Ran.{Ran, Ended, WantsFuel, Wrong}
-use Rattle.tg_simulation.specs.Simulating.{Simulates}
+use Rattle.tg_simulation.specs.laws.Simulating.{Simulates}
 use Rattle.tg_simulation.proofs.Simulations.{simulates_along, simulates_wrong, simulates_with_credit}
 use Rattle.tg_tree.specs.Tree.{Tx, Txs, no_txs, tx}
 use Rattle.tg_tree.specs.Shapes.{IsFlat, AreFlat}
@@ -19,20 +19,20 @@ use Rattle.tg_instr.specs.declared.operands.Opnd.TheVariants.{Reg}
 use Rattle.tg_instr.specs.declared.instr.Instr.{Instr}
 use Rattle.tg_instr.specs.Shapes.{Operand}
 use Rattle.tg_instr.specs.Contents.{Word, Contents, held}
-use Rattle.tg_munch.specs.Choosing.{Choice, NumbersDrawn, ◌>>=◌, ◌>>◌, give}
-use Rattle.tg_munch.specs.Arguments.{is_in_register, is_in_frame, is_anywhere, one_may_end, ordered}
-use Rattle.tg_munch.specs.Munching.{argument, expression, store_low, passed, arguments}
-use Rattle.tg_munch.specs.Bodies.{outs, count}
-use Rattle.tg_munch.specs.Lengths.{kept_count}
-use Rattle.tg_munch_proof.specs.Places.{Behaves, goes}
-use Rattle.tg_munch_proof.specs.Values.{Result}
+use Rattle.tg_munch.specs.mirror.Choosing.{Choice, NumbersDrawn, ◌>>=◌, ◌>>◌, give}
+use Rattle.tg_munch.specs.mirror.Arguments.{is_in_register, is_in_frame, is_anywhere, one_may_end, ordered}
+use Rattle.tg_munch.specs.mirror.Munching.{argument, expression, store_low, passed, arguments}
+use Rattle.tg_munch.specs.mirror.Bodies.{outs, count}
+use Rattle.tg_munch.specs.laws.Lengths.{kept_count}
 use Rattle.tg_munch_proof.specs.Words.{IsWord, HasWords, HaveWords}
+use Rattle.tg_munch_proof.specs.glue.Places.{Behaves, goes}
+use Rattle.tg_munch_proof.specs.laws.Values.{Result}
 use Rattle.tg_munch_proof.proofs.Behaving.{known, so, later_part}
 use Rattle.tg_munch_proof.proofs.Does.{does_simulate}
 use Rattle.tg_munch_proof.proofs.Growing.{behind_it, gives, store_grows, expression_grows, arguments_grow}
 use Rattle.tg_munch_proof.proofs.Loading.{expression_does}
 use Rattle.tg_munch_proof.proofs.Results.{itself}
-use Rattle.tg_munch_proof.specs.Relating.{TempsAlike, ArePassed}
+use Rattle.tg_munch_proof.specs.glue.Relating.{TempsAlike, ArePassed}
 use Rattle.tg_munch_proof.proofs.Asking.{same_input}
 use Rattle.tg_munch_proof.proofs.Between.{Activated, place, worth, spends, AlikeIn, Matches, in_turn, let_go, done}
 use Rattle.tg_munch_proof.proofs.Between.{scene_in, literals}

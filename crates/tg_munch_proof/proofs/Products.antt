@@ -13,12 +13,12 @@ use Rattle.tg_tree.specs.Actions.{World, Temps}
 use Rattle.tg_instr.specs.declared.operands.Opnd.{Opnd}
 use Rattle.tg_instr.specs.Shapes.{Hi}
 use Rattle.tg_instr.specs.Contents.{Word, Contents}
-use Rattle.tg_munch.specs.Choosing.{NumbersDrawn, ◌>>=◌, choose}
-use Rattle.tg_munch.specs.Tiles.{constant_side, first_tile, tiled, operated}
-use Rattle.tg_munch.specs.Munching.{expression}
-use Rattle.tg_munch_proof.specs.Places.{Place, Behaves, Walks}
-use Rattle.tg_munch_proof.specs.Values.{Result, IsAskable, extra, Sees, Known, Scene}
+use Rattle.tg_munch.specs.mirror.Choosing.{NumbersDrawn, ◌>>=◌, choose}
+use Rattle.tg_munch.specs.mirror.Tiles.{constant_side, first_tile, tiled, operated}
+use Rattle.tg_munch.specs.mirror.Munching.{expression}
 use Rattle.tg_munch_proof.specs.Words.{HasWords}
+use Rattle.tg_munch_proof.specs.glue.Places.{Place, Behaves, Walks}
+use Rattle.tg_munch_proof.specs.laws.Values.{Result, IsAskable, extra, Sees, Known, Scene}
 use Rattle.tg_munch_proof.proofs.Behaving.{weaker}
 use Rattle.tg_munch_proof.proofs.Expressions.{value, spent, sums}
 use Rattle.tg_munch_proof.proofs.Loading.{as_side, expression_does}

@@ -7,7 +7,7 @@ use Rattle.tg_state.specs.State.{stack_top}
 use Rattle.tg_simulation.specs.Runs.{Run}
 use Rattle.tg_simulation.specs.Ran.{Ran, Ended, Wrong}
 use Rattle.tg_simulation.specs.Preserving.{Preserves}
-use Rattle.tg_simulation.specs.Simulating.{Simulates}
+use Rattle.tg_simulation.specs.laws.Simulating.{Simulates}
 use Rattle.tg_simulation.proofs.Simulations.{simulation_preserves, simulates_wrong, simulates_stopping}
 use Rattle.tg_tree.specs.Tree.{Linear, Function}
 use Rattle.tg_tree.specs.Memory.{Closed, Unset, begin}
@@ -19,13 +19,13 @@ use Rattle.tg_tree.specs.Running.{placed, entered, function_of, with_slots, with
 use Rattle.tg_instr.specs.declared.instr.Instr.{Instr}
 use Rattle.tg_instr.specs.Contents.{no_contents, at_entry}
 use Rattle.tg_instr.specs.Running.{CodePoint, begin_code, code_run, with_frame}
-use Rattle.tg_munch.specs.Bodies.{munched}
+use Rattle.tg_munch.specs.mirror.Bodies.{munched}
 use Rattle.tg_simulation.specs.Bytes.{AreBytes}
-use Rattle.tg_munch_proof.specs.Places.{each_one}
+use Rattle.tg_munch_proof.specs.glue.Places.{each_one}
 use Rattle.tg_munch_proof.specs.Words.{AreWords}
-use Rattle.tg_munch_proof.specs.Chosen.{chosen, added_work}
-use Rattle.tg_munch_proof.specs.Outlines.{Outline, IsAbove, IsTop}
-use Rattle.tg_munch_proof.specs.Relating.{Program, AreAlike, BodyMatches, going, going_behind, code_behind}
+use Rattle.tg_munch_proof.specs.laws.Chosen.{chosen, added_work}
+use Rattle.tg_munch_proof.specs.glue.Outlines.{Outline, IsAbove, IsTop}
+use Rattle.tg_munch_proof.specs.glue.Relating.{Program, AreAlike, BodyMatches, going, going_behind, code_behind}
 use Rattle.tg_munch_proof.proofs.Linked.{placed_case, not_below, calls_match}
 
 abbrev nothing_open : Outline

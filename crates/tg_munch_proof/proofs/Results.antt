@@ -1,5 +1,5 @@
 -- Where an expression's word comes to stand, and what stays.
-use Rattle.tg_munch_proof.specs.Values.{IsOld, IsOther, Stay, IsThereAs, IsAskable, Result}
+use Rattle.tg_munch_proof.specs.laws.Values.{IsOld, IsOther, Stay, IsThereAs, IsAskable, Result}
 use Rattle.std.proofs.Common.{◌≡◌, ◌≤◌, ◌<◌, ℕ, ◌+◌, ◌-◌, Bool, refl, ap, ◌∙◌, arith}
 use Rattle.std.proofs.lemmas.Bool.Decides.{nat_tests}
 use Rattle.std.specs.Prelude.{◌==◌, false, true, Option, Some, None, if◌then◌else◌}
@@ -10,10 +10,10 @@ use Rattle.tg_instr.specs.declared.operands.Opnd.TheVariants.{Temp, Reg}
 use Rattle.tg_instr.specs.Operands.{is_same}
 use Rattle.tg_instr.specs.Shapes.{Operand}
 use Rattle.tg_instr.specs.Contents.{Content, Word, Contents, set, held}
-use Rattle.tg_munch.specs.Choosing.{Choice, NumbersDrawn, ◌>>=◌, choose}
-use Rattle.tg_munch.specs.Munching.{temp}
-use Rattle.tg_munch_proof.specs.Places.{Place, Behaves}
-use Rattle.tg_munch_proof.specs.Values.{IsSettable}
+use Rattle.tg_munch.specs.mirror.Choosing.{Choice, NumbersDrawn, ◌>>=◌, choose}
+use Rattle.tg_munch.specs.mirror.Munching.{temp}
+use Rattle.tg_munch_proof.specs.glue.Places.{Place, Behaves}
+use Rattle.tg_munch_proof.specs.laws.Values.{IsSettable}
 
 -- the operand that is chosen to be written
 pub data Target (d : NumbersDrawn) : Option Opnd → Opnd → NumbersDrawn → Type 0 where

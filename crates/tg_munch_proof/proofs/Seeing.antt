@@ -9,9 +9,9 @@ use Rattle.tg_tree.specs.Memory.{Memory, Cell, Closed, Unset, Has, Kept, spot, o
 use Rattle.tg_tree.specs.Memory.{word_in, slot}
 use Rattle.tg_tree.specs.Actions.{World, Temps}
 use Rattle.tg_tree.specs.Holding.{WorldHoldsAtLeast}
-use Rattle.tg_munch_proof.specs.Places.{each_one, Walks, Place}
-use Rattle.tg_munch_proof.specs.Values.{Sees}
 use Rattle.tg_munch_proof.specs.Words.{IsWord}
+use Rattle.tg_munch_proof.specs.glue.Places.{each_one, Walks, Place}
+use Rattle.tg_munch_proof.specs.laws.Values.{Sees}
 use Rattle.tg_munch_proof.proofs.Marked.{behind_is}
 use Rattle.tg_munch_proof.proofs.Words.{loads_seen, bytes_seen, ReadsWords, flat_words}
 use Rattle.tg_instr.specs.Codes.{marks_differ}

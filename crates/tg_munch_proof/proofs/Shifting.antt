@@ -1,5 +1,5 @@
 -- A shift by a word: a shift after a branch, for each of the five lower bits.
-use Rattle.tg_munch_proof.specs.Places.{Walks}
+use Rattle.tg_munch_proof.specs.glue.Places.{Walks}
 use Rattle.std.proofs.Common.{◌≡◌, ◌≤◌, ◌<◌, ℕ, zero, suc, ◌+◌, ◌-◌, ◌*◌, ◌/◌, ◌%◌, ◌^◌, List, [], ◌∷◌, Bool, refl}
 use Rattle.std.proofs.Common.{sym, ap, ◌∙◌, arith}
 use Rattle.std.proofs.lemmas.Bool.Decides.{nat_tests}
@@ -9,7 +9,7 @@ use Rattle.std.specs.Prelude.{◌==◌, false, true, Option, Some, bit_and, if�
 use Rattle.tg_base.specs.Words.{shift_left, shift_right, shift_signed}
 use Rattle.tg_simulation.specs.Runs.{Run}
 use Rattle.tg_simulation.specs.Ran.{Ran, works}
-use Rattle.tg_simulation.specs.Simulating.{Comes}
+use Rattle.tg_simulation.specs.laws.Simulating.{Comes}
 use Rattle.tg_tree.proofs.FlatValues.{works_add}
 use Rattle.tg_tree.specs.declared.operators.Bin.{Bin}
 use Rattle.tg_tree.specs.declared.operators.Bin.TheVariants as bin
@@ -24,12 +24,12 @@ use Rattle.tg_instr.specs.Shapes.{Operand}
 use Rattle.tg_instr.specs.Contents.{Content, Word, Contents, set, held}
 use Rattle.tg_instr.specs.Meaning.{with_content_word, jump, skip}
 use Rattle.tg_instr.specs.Running.{behind, code_going, jump_to}
-use Rattle.tg_munch.specs.Choosing.{NumbersDrawn, ◌>>=◌}
-use Rattle.tg_munch.specs.Tiles.{nothing, if_equal, shift_by, shift_bit}
-use Rattle.tg_munch.specs.Munching.{temp}
-use Rattle.tg_munch_proof.specs.Places.{each_one, gives, Place, Behaves, goes}
-use Rattle.tg_munch_proof.specs.Values.{Stay, IsOld}
+use Rattle.tg_munch.specs.mirror.Choosing.{NumbersDrawn, ◌>>=◌}
+use Rattle.tg_munch.specs.mirror.Tiles.{nothing, if_equal, shift_by, shift_bit}
+use Rattle.tg_munch.specs.mirror.Munching.{temp}
 use Rattle.tg_munch_proof.specs.Words.{IsWord}
+use Rattle.tg_munch_proof.specs.glue.Places.{each_one, gives, Place, Behaves, goes}
+use Rattle.tg_munch_proof.specs.laws.Values.{Stay, IsOld}
 use Rattle.tg_munch_proof.proofs.Arithmetic.{right_twice, left_twice, signed_twice, left_none, signed_none}
 use Rattle.tg_munch_proof.proofs.Behaving.{here, later_part}
 use Rattle.tg_munch_proof.proofs.Results.{itself, below_differs}

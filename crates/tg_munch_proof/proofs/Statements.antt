@@ -8,7 +8,7 @@ use Rattle.tg_state.specs.State.{statics_base, heap_base}
 use Rattle.tg_base.specs.Words.{add, sub, extended, product_high}
 use Rattle.tg_simulation.specs.Runs.{Run}
 use Rattle.tg_simulation.specs.Ran.{Ran, Wrong, works}
-use Rattle.tg_simulation.specs.Simulating.{Simulates}
+use Rattle.tg_simulation.specs.laws.Simulating.{Simulates}
 use Rattle.tg_simulation.proofs.Simulations.{simulates_along, simulates_wrong, simulates_with_credit}
 use Rattle.tg_tree.specs.Tree as tree
 use Rattle.tg_tree.specs.Tree.{Tx, Ts, Literal, Linear}
@@ -27,15 +27,15 @@ use Rattle.tg_instr.specs.declared.instr.Instr.TheVariants.{Sw, Sb, FrameStore, 
 use Rattle.tg_instr.specs.Shapes.{Operand, Stores, shape}
 use Rattle.tg_instr.specs.Contents.{Word, Contents, set, held, cell_of}
 use Rattle.tg_instr.specs.Meaning.{with_content_word, with_content}
-use Rattle.tg_munch.specs.Choosing.{Choice, NumbersDrawn, ◌>>=◌, ◌>>◌, put as puts}
-use Rattle.tg_munch.specs.Tiles as tiles
-use Rattle.tg_munch.specs.Tiles.{constant}
-use Rattle.tg_munch.specs.Munching.{temp, kept_registers, expression, based_at, stored, asked, element}
-use Rattle.tg_munch.specs.Lengths.{kept_count}
-use Rattle.tg_munch.specs.Products.{is_same, leaves_product}
-use Rattle.tg_munch_proof.specs.Places.{Behaves, goes}
-use Rattle.tg_munch_proof.specs.Values.{Result, Scene}
+use Rattle.tg_munch.specs.mirror.Choosing.{Choice, NumbersDrawn, ◌>>=◌, ◌>>◌, put as puts}
+use Rattle.tg_munch.specs.mirror.Tiles as tiles
+use Rattle.tg_munch.specs.mirror.Tiles.{constant}
+use Rattle.tg_munch.specs.mirror.Munching.{temp, kept_registers, expression, based_at, stored, asked, element}
+use Rattle.tg_munch.specs.laws.Lengths.{kept_count}
+use Rattle.tg_munch.specs.mirror.Products.{is_same, leaves_product}
 use Rattle.tg_munch_proof.specs.Words.{IsWord, AreWords, HasWords}
+use Rattle.tg_munch_proof.specs.glue.Places.{Behaves, goes}
+use Rattle.tg_munch_proof.specs.laws.Values.{Result, Scene}
 use Rattle.tg_munch_proof.proofs.Behaving.{acts, known, later_part}
 use Rattle.tg_munch_proof.proofs.Does.{does_simulate}
 use Rattle.tg_munch_proof.proofs.Loading.{Located, LeftDoes, located, as_side, expression_does, slot_is}
@@ -43,7 +43,7 @@ use Rattle.tg_munch_proof.proofs.Products.{Upper, product_does}
 use Rattle.tg_munch_proof.proofs.Results.{survives, set_holds}
 use Rattle.tg_munch_proof.proofs.Tiled.{Sets, constant_does}
 use Rattle.tg_munch_proof.proofs.Words.{bytes_seen}
-use Rattle.tg_munch_proof.specs.Relating.{TempsAlike, HiIsThere, most_statics}
+use Rattle.tg_munch_proof.specs.glue.Relating.{TempsAlike, HiIsThere, most_statics}
 use Rattle.tg_munch_proof.proofs.Asking.{same_input, service_simulates}
 use Rattle.tg_munch_proof.proofs.Between.{Activated, place, literals, flat_goes, flat_worth, worth, spends, within}
 use Rattle.tg_munch_proof.proofs.Between.{AlikeIn, InBody, Matches, in_turn, let_go, scene_in, frame}

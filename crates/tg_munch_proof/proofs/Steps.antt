@@ -13,12 +13,12 @@ use Rattle.tg_instr.specs.declared.instr.Instr.TheVariants.{Move, Return}
 use Rattle.tg_instr.specs.Shapes.{Operand}
 use Rattle.tg_instr.specs.Contents.{Content, Found, Contents, set, held, handed}
 use Rattle.tg_instr.specs.Meaning.{with_content, put_in}
-use Rattle.tg_munch.specs.Choosing.{NumbersDrawn, ◌>>=◌}
-use Rattle.tg_munch.specs.Bodies.{kept}
-use Rattle.tg_munch.specs.Munching.{temp, given_back, kept_registers}
-use Rattle.tg_munch_proof.specs.Places.{Place, goes}
+use Rattle.tg_munch.specs.mirror.Choosing.{NumbersDrawn, ◌>>=◌}
+use Rattle.tg_munch.specs.mirror.Bodies.{kept}
+use Rattle.tg_munch.specs.mirror.Munching.{temp, given_back, kept_registers}
+use Rattle.tg_munch_proof.specs.glue.Places.{Place, goes}
 use Rattle.tg_munch_proof.proofs.Behaving.{here}
-use Rattle.tg_munch_proof.specs.Relating.{AreKept}
+use Rattle.tg_munch_proof.specs.glue.Relating.{AreKept}
 
 module _ (p : Place) where
   -- what is found is moved to a temporary

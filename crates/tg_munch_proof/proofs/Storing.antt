@@ -14,7 +14,7 @@ use Rattle.tg_tree.specs.Holding.{CellHoldsAtLeast, WorldHoldsAtLeast, in_stack}
 use Rattle.tg_tree.proofs.Filled.{filled_keeps}
 use Rattle.tg_simulation.specs.Bytes.{AreBytes}
 use Rattle.tg_munch_proof.specs.Words.{IsWord, AreWords}
-use Rattle.tg_munch_proof.specs.Outlines.{Outline, Alike}
+use Rattle.tg_munch_proof.specs.glue.Outlines.{Outline, Alike}
 use Rattle.tg_munch_proof.proofs.Reading.{word_set}
 
 none_is : {A : Type 0} (a : A) → None ≡ Some a → ⊥

@@ -14,11 +14,11 @@ use Rattle.tg_instr.specs.declared.instr.Instr.TheVariants as instr
 use Rattle.tg_instr.specs.Operands.{is_same}
 use Rattle.tg_instr.specs.Shapes.{Operand, Hi, Lo, From0}
 use Rattle.tg_instr.specs.Contents.{Word, Contents, set, held}
-use Rattle.tg_munch.specs.Choosing.{Choice, NumbersDrawn, ◌>>=◌, ◌>>◌, put, defining}
-use Rattle.tg_munch.specs.Tiles.{nothing, is_small, field, constant, halves, instruction, with_field}
-use Rattle.tg_munch_proof.specs.Places.{Does, Place, Behaves, Lands, goes}
-use Rattle.tg_munch_proof.specs.Values.{IsSettable, Result, Stay, IsAskable}
+use Rattle.tg_munch.specs.mirror.Choosing.{Choice, NumbersDrawn, ◌>>=◌, ◌>>◌, put, defining}
+use Rattle.tg_munch.specs.mirror.Tiles.{nothing, is_small, field, constant, halves, instruction, with_field}
 use Rattle.tg_munch_proof.specs.Words.{IsWord}
+use Rattle.tg_munch_proof.specs.glue.Places.{Does, Place, Behaves, Lands, goes}
+use Rattle.tg_munch_proof.specs.laws.Values.{IsSettable, Result, Stay, IsAskable}
 use Rattle.tg_munch_proof.proofs.Behaving.{IsSaid, bind, weaker, so, known, sets, from1}
 use Rattle.tg_munch_proof.proofs.Fields.{DoesAs, halves_are, upper_alone, low_alone, small_alone}
 use Rattle.tg_munch_proof.proofs.Results.{Target, SetTo, choosing, finish, set_holds, target_drawn, target_settable}

@@ -7,10 +7,10 @@ use Rattle.tg_simulation.specs.Bytes.{AreBytes}
 use Rattle.tg_tree.specs.Tree.{Linear, Function, Literal}
 use Rattle.tg_tree.specs.Named.{Named, function, literal, fault, temporary, constant, named_flat}
 use Rattle.tg_tree.specs.Memory.{Closed, Has, statics_of, begin}
-use Rattle.tg_munch.specs.Laws.{MarksDiffer}
+use Rattle.tg_munch.specs.laws.Laws.{MarksDiffer}
 use Rattle.tg_munch_proof.specs.Words.{AreWords}
-use Rattle.tg_munch_proof.specs.Chosen.{MayBeChosen, MunchIsCorrect}
-use Rattle.tg_munch_proof.specs.Relating.{Program, BodyMatches}
+use Rattle.tg_munch_proof.specs.laws.Chosen.{MayBeChosen, MunchIsCorrect}
+use Rattle.tg_munch_proof.specs.glue.Relating.{Program, BodyMatches}
 use Rattle.tg_munch_proof.proofs.Bodies.{body_matches}
 use Rattle.tg_munch_proof.proofs.Naming.{IsAllowed, all_of, code_words}
 use Rattle.tg_munch_proof.proofs.Program.{programs_match}

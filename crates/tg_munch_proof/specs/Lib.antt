@@ -1,6 +1,3 @@
 pub mod Words
-pub mod Places
-pub mod Values
-pub mod Outlines
-pub mod Chosen
-pub mod Relating
+pub mod glue
+pub mod laws

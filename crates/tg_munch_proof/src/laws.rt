@@ -1,9 +1,9 @@
-ghost use Rattle.tg_munch_proof.specs.Chosen.{
+ghost use Rattle.tg_munch_proof.specs.laws.Chosen.{
   MunchKeepsCounts,
   MunchIsCorrect,
   MunchKeepsWords,
 };
-ghost use Rattle.tg_munch_proof.specs.Values.{BranchesCompare, ExpressionsGiveValues};
+ghost use Rattle.tg_munch_proof.specs.laws.Values.{BranchesCompare, ExpressionsGiveValues};
 
 use tg_munch::code_is_marked;
 

@@ -8,12 +8,12 @@ use Rattle.tg_syntax.specs.declared.tokens.Token.TheVariants as token
 use Rattle.tg_syntax.specs.declared.tokens.Spanned.{Spanned}
 use Rattle.tg_syntax.specs.declared.tokens.Ident.{Ident}
 use Rattle.tg_syntax_laws.specs.declared.marks.Mark.{Mark}
-use Rattle.tg_syntax_laws.specs.Steps.{token_of, Answer, Got, Bad, Job, Of, Steps, OneSpan, OneName, give, want, name, split, call}
-use Rattle.tg_syntax_laws.specs.Reading.{Does, job, give_got, want_got, want_bad, want_out, name_got, name_bad, name_out, split_yes, split_no, split_out}
-use Rattle.tg_syntax_laws.specs.Reading.{call_got, call_bad, call_out}
+use Rattle.tg_syntax_laws.specs.mirror.Steps.{token_of, Answer, Got, Bad, Job, Of, Steps, OneSpan, OneName, give, want, name, split, call}
+use Rattle.tg_syntax_laws.specs.mirror.Reading.{Does, job, give_got, want_got, want_bad, want_out, name_got, name_bad, name_out, split_yes, split_no, split_out}
+use Rattle.tg_syntax_laws.specs.mirror.Reading.{call_got, call_bad, call_out}
 use Rattle.tg_parser.specs.declared.faults.Stop.{Stop}
 use Rattle.tg_parser.specs.declared.faults.Stop.TheVariants.{Wrong, More}
-use Rattle.tg_parser.specs.Given.{AnswersJob, Refuses, refuses, wants, no_memory}
+use Rattle.tg_parser.specs.glue.Given.{AnswersJob, Refuses, refuses, wants, no_memory}
 
 -- the first token
 pub take_yes : (m : Mark) (ts : List Spanned) (t : Spanned) (rest : List Spanned) → ts ≡ t ∷ rest → t.token ≡ token_of m →

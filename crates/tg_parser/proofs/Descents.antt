@@ -13,14 +13,14 @@ use Rattle.tg_syntax.specs.Grammar.{Level}
 use Rattle.tg_parser.specs.declared.faults.Stop.{Stop}
 use Rattle.tg_parser.specs.declared.faults.Stop.TheVariants.{Wrong, More}
 use Rattle.tg_parser.specs.declared.heads.DeclarationKind.{DeclarationKind}
-use Rattle.tg_parser.specs.Given.{Refuses, refuses, wants, AnswersJob}
-use Rattle.tg_parser.specs.Opens.{Leads, Skips, Operates, Elses}
-use Rattle.tg_parser.specs.Heads.{one_of, Declares}
+use Rattle.tg_parser.specs.glue.Given.{Refuses, refuses, wants, AnswersJob}
+use Rattle.tg_parser.specs.glue.Opens.{Leads, Skips, Operates, Elses}
+use Rattle.tg_parser.specs.glue.Heads.{one_of, Declares}
 use Rattle.tg_parser.proofs.Leading.{last_suffix}
 use Rattle.tg_syntax_laws.specs.declared.marks.Mark.{Mark}
 use Rattle.tg_syntax_laws.specs.declared.marks.Mark.TheVariants.{OfWord}
-use Rattle.tg_syntax_laws.specs.Steps.{Got, Job, Of, At, Suffix, MoreDecs, Steps, give, want, refuse, split, oper, leaf, look, test}
-use Rattle.tg_syntax_laws.specs.Reading.{Does, refuse_bad, leaf_yes, leaf_no, leaf_out, look_at, job, last, more_decs}
+use Rattle.tg_syntax_laws.specs.mirror.Steps.{Got, Job, Of, At, Suffix, MoreDecs, Steps, give, want, refuse, split, oper, leaf, look, test}
+use Rattle.tg_syntax_laws.specs.mirror.Reading.{Does, refuse_bad, leaf_yes, leaf_no, leaf_out, look_at, job, last, more_decs}
 
 -- a value, and a program, that equal others
 pub got_is : (j : Job) {s : Steps (Of j)} {x y : Of j} {ts rest : List Spanned} → x ≡ y → Does j s ts (Got y rest) → Does j s ts (Got x rest)

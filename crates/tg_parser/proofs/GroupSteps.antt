@@ -8,8 +8,8 @@ use Rattle.tg_syntax.specs.declared.trees.FunDec.{FunDec}
 use Rattle.tg_syntax.specs.declared.trees.FunDecs.{FunDecs, out-FunDecs, roll-FunDecs}
 use Rattle.tg_syntax.specs.Tree.{Decs, no_decs, types, functions, function}
 use Rattle.tg_syntax.specs.Groups.{Dec as PlainDec, one_type, one_variable, one_function, snoc_dec, snoc_function}
-use Rattle.tg_syntax.specs.Plain.{plain, plain_type, plain_dec}
-use Rattle.tg_syntax.specs.Lists.{decs_of, functions_of}
+use Rattle.tg_syntax.specs.glue.Plain.{plain, plain_type, plain_dec}
+use Rattle.tg_syntax.specs.glue.Lists.{decs_of, functions_of}
 use Rattle.tg_syntax.proofs.ListLaws.{plain_functions-items, plain_functions-made}
 
 -- one more goes after what follows

@@ -13,16 +13,16 @@ use Rattle.tg_syntax.specs.Grammar.{Level}
 use Rattle.tg_parser.specs.declared.faults.Stop.{Stop}
 use Rattle.tg_parser.specs.declared.faults.Stop.TheVariants.{More}
 use Rattle.tg_parser.specs.declared.heads.DeclarationKind.{DeclarationKind}
-use Rattle.tg_parser.specs.Given.{Refuses, refuses, wants, no_memory, AnswersJob}
-use Rattle.tg_parser.specs.Opens.{Leads, BeginsJob, BeginsTwo, Skips, Operates, Elses}
-use Rattle.tg_parser.specs.Heads.{Declares}
+use Rattle.tg_parser.specs.glue.Given.{Refuses, refuses, wants, no_memory, AnswersJob}
+use Rattle.tg_parser.specs.glue.Opens.{Leads, BeginsJob, BeginsTwo, Skips, Operates, Elses}
+use Rattle.tg_parser.specs.glue.Heads.{Declares}
 use Rattle.tg_parser.proofs.Chains.{want_on, name_on, call_stops, no_truth}
 use Rattle.tg_syntax_laws.specs.declared.marks.Mark.{Mark}
 use Rattle.tg_syntax_laws.specs.declared.marks.Mark.TheVariants.{OfWord}
-use Rattle.tg_syntax_laws.specs.Steps.{token_of, op_of, Answer, Got, Bad, Out, Job, Of, At, After, Suffix, MoreDecs, Steps, OneSpan, OneName, give, want}
-use Rattle.tg_syntax_laws.specs.Steps.{name, split, oper, test, call}
-use Rattle.tg_syntax_laws.specs.Reading.{Does, give_got, want_got, want_bad, split_yes, split_no, split_out, oper_yes, oper_no, oper_out, test_yes}
-use Rattle.tg_syntax_laws.specs.Reading.{test_no, call_got, more_decs, job, last}
+use Rattle.tg_syntax_laws.specs.mirror.Steps.{token_of, op_of, Answer, Got, Bad, Out, Job, Of, At, After, Suffix, MoreDecs, Steps, OneSpan, OneName, give, want}
+use Rattle.tg_syntax_laws.specs.mirror.Steps.{name, split, oper, test, call}
+use Rattle.tg_syntax_laws.specs.mirror.Reading.{Does, give_got, want_got, want_bad, split_yes, split_no, split_out, oper_yes, oper_no, oper_out, test_yes}
+use Rattle.tg_syntax_laws.specs.mirror.Reading.{test_no, call_got, more_decs, job, last}
 
 -- one after the other
 pub then : {j : Job} {s z w : Steps (Of j)} {ts us vs : List Spanned} → Leads j s ts z us → Leads j z us w vs → Leads j s ts w vs

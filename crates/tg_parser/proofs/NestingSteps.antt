@@ -4,7 +4,7 @@ use Rattle.std.proofs.lemmas.List.{take_more, drop_more, take_all, take-append-d
 use Rattle.tg_syntax.specs.declared.tokens.Spanned.{Spanned}
 use Rattle.tg_syntax.specs.Nesting.{nesting_of, after_token, NestsWithin}
 use Rattle.tg_syntax.specs.SyntaxFaults.{IsShallow}
-use Rattle.tg_parser.specs.Deep.{IsFirstDeep}
+use Rattle.tg_parser.specs.glue.Deep.{IsFirstDeep}
 
 -- the counts after some tokens
 unfoldable pub counts_after : List ℕ → List Spanned → List ℕ

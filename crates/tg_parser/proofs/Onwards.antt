@@ -8,18 +8,18 @@ use Rattle.tg_syntax.specs.declared.tokens.Spanned.{Spanned}
 use Rattle.tg_syntax.specs.declared.trees.Exp.{Exp as CodeExp}
 use Rattle.tg_syntax.specs.declared.trees.Init.{Init as CodeInit}
 use Rattle.tg_syntax.specs.Tree.{Exp, Exps, exp, no_exps, Inits, init, no_inits, Decs}
-use Rattle.tg_syntax.specs.Plain.{plain}
-use Rattle.tg_syntax.specs.Lists.{exps_of, inits_of}
+use Rattle.tg_syntax.specs.glue.Plain.{plain}
+use Rattle.tg_syntax.specs.glue.Lists.{exps_of, inits_of}
 use Rattle.tg_syntax.specs.Groups.{snoc, snoc_init, snoc_dec}
 use Rattle.tg_syntax.specs.Grammar.{Level, Whole}
 use Rattle.tg_syntax_laws.specs.declared.marks.Mark.TheVariants.{OfSign}
-use Rattle.tg_syntax_laws.specs.Steps.{Answer, Got, Bad, Out, Job, Of, At, After, Items, OneInit, MoreInits, MoreDecs, Steps, split}
-use Rattle.tg_syntax_laws.specs.Reading.{Does, job, last, operators, items, more_inits, more_decs, give_got, call_got, call_bad, call_out}
+use Rattle.tg_syntax_laws.specs.mirror.Steps.{Answer, Got, Bad, Out, Job, Of, At, After, Items, OneInit, MoreInits, MoreDecs, Steps, split}
+use Rattle.tg_syntax_laws.specs.mirror.Reading.{Does, job, last, operators, items, more_inits, more_decs, give_got, call_got, call_bad, call_out}
 use Rattle.tg_parser.specs.declared.faults.Stop.{Stop}
 use Rattle.tg_parser.specs.declared.heads.DeclarationKind.{DeclarationKind}
-use Rattle.tg_parser.specs.Given.{Refuses, refuses, wants, no_memory}
-use Rattle.tg_parser.specs.Opens.{Leads}
-use Rattle.tg_parser.specs.Heads.{one_of}
+use Rattle.tg_parser.specs.glue.Given.{Refuses, refuses, wants, no_memory}
+use Rattle.tg_parser.specs.glue.Opens.{Leads}
+use Rattle.tg_parser.specs.glue.Heads.{one_of}
 
 -- lists with one more at their end
 pub exps_end : (es : List CodeExp) (e : CodeExp) → exps_of (es ++ e ∷ []) ≡ snoc (exps_of es) (plain e)

@@ -5,10 +5,10 @@ use Rattle.tg_syntax.specs.declared.tokens.Sign.TheVariants.{Comma}
 use Rattle.tg_syntax.specs.declared.tokens.Spanned.{Spanned}
 use Rattle.tg_syntax.specs.declared.trees.Param.{Param}
 use Rattle.tg_syntax_laws.specs.declared.marks.Mark.TheVariants.{OfSign}
-use Rattle.tg_syntax_laws.specs.Steps.{token_of, Answer, Got, Bad, Out, OneParam, MoreParams}
-use Rattle.tg_syntax_laws.specs.Reading.{Does, last, one_param, more_params, give_got, call_got, call_bad, call_out}
+use Rattle.tg_syntax_laws.specs.mirror.Steps.{token_of, Answer, Got, Bad, Out, OneParam, MoreParams}
+use Rattle.tg_syntax_laws.specs.mirror.Reading.{Does, last, one_param, more_params, give_got, call_got, call_bad, call_out}
 use Rattle.tg_parser.specs.declared.faults.Stop.{Stop}
-use Rattle.tg_parser.specs.Given.{Refuses, refuses, wants, no_memory}
+use Rattle.tg_parser.specs.glue.Given.{Refuses, refuses, wants, no_memory}
 use Rattle.tg_parser.proofs.Chains.{split_on}
 
 -- reading on after these parameters is reading on after the first ones

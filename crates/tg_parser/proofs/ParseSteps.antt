@@ -7,15 +7,15 @@ use Rattle.tg_syntax.specs.Tree.{Exp}
 use Rattle.tg_syntax.specs.Nesting.{nesting_of, after_token, NestsWithin}
 use Rattle.tg_syntax.specs.Grammar.{IsProgram, program}
 use Rattle.tg_syntax.specs.SyntaxFaults.{IsShallow, HasUnexpected, HasTooDeep, HasNoEnd, EndsOnce}
-use Rattle.tg_syntax_laws.specs.Steps.{Got, Bad, Out, Whole_program}
-use Rattle.tg_syntax_laws.specs.Reading.{whole_program, Does}
-use Rattle.tg_syntax_laws.specs.Laws.{ReadsPrograms, RefusesFirst, WantsMore, EndsAlways}
+use Rattle.tg_syntax_laws.specs.mirror.Steps.{Got, Bad, Out, Whole_program}
+use Rattle.tg_syntax_laws.specs.mirror.Reading.{whole_program, Does}
+use Rattle.tg_syntax_laws.specs.laws.Laws.{ReadsPrograms, RefusesFirst, WantsMore, EndsAlways}
 use Rattle.tg_syntax_laws.proofs.Sound.{Fine, fine_got, fine}
 use Rattle.tg_syntax_laws.proofs.ValidJobs.{all_valid, valid}
 use Rattle.tg_parser.specs.declared.faults.Stop.{Stop}
 use Rattle.tg_parser.specs.declared.faults.Stop.TheVariants.{Wrong, More}
-use Rattle.tg_parser.specs.Given.{Refuses, refuses, wants}
-use Rattle.tg_parser.specs.Deep.{IsFirstDeep, IsReadable, all, cut}
+use Rattle.tg_parser.specs.glue.Given.{Refuses, refuses, wants}
+use Rattle.tg_parser.specs.glue.Deep.{IsFirstDeep, IsReadable, all, cut}
 use Rattle.tg_parser.proofs.NestingSteps.{counts_after, within_more}
 
 pub head_is : {t r : Spanned} {a b : List Spanned} → t ∷ a ≡ r ∷ b → t ≡ r

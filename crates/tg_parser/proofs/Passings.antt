@@ -9,14 +9,14 @@ use Rattle.tg_syntax.specs.Grammar as level
 use Rattle.tg_parser.specs.declared.faults.Stop.{Stop}
 use Rattle.tg_parser.specs.declared.ranks.Rank.{Rank}
 use Rattle.tg_parser.specs.declared.ranks.Rank.TheVariants.{Disjunction, Conjunction, Comparison, Sum, Term, Unary}
-use Rattle.tg_parser.specs.Ranks.{level_of, NoneWithin, at_unary, looser}
-use Rattle.tg_parser.specs.Given.{Refuses}
-use Rattle.tg_parser.specs.Opens.{Leads, Passes}
+use Rattle.tg_parser.specs.glue.Ranks.{level_of, NoneWithin, at_unary, looser}
+use Rattle.tg_parser.specs.glue.Given.{Refuses}
+use Rattle.tg_parser.specs.glue.Opens.{Leads, Passes}
 use Rattle.tg_parser.proofs.Chains.{call_stops}
 use Rattle.tg_parser.proofs.Leading.{then, gives, test_is, test_not, oper_not}
 use Rattle.tg_parser.proofs.Descents.{level_does}
-use Rattle.tg_syntax_laws.specs.Steps.{op_of, Job, Of, At, After, Steps, oper, test}
-use Rattle.tg_syntax_laws.specs.Reading.{give_got, call_got, below, job}
+use Rattle.tg_syntax_laws.specs.mirror.Steps.{op_of, Job, Of, At, After, Steps, oper, test}
+use Rattle.tg_syntax_laws.specs.mirror.Reading.{give_got, call_got, below, job}
 
 -- no operator of a level follows
 record Quiet (k : Level) (l : Exp) (ts : List Spanned) : Type 0 where

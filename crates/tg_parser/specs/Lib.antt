@@ -1,6 +1,2 @@
 pub mod Answers
-pub mod Deep
-pub mod Given
-pub mod Heads
-pub mod Opens
-pub mod Ranks
+pub mod glue

@@ -1,7 +1,7 @@
 ghost use Rattle.std.specs.Prelude.{◌≡◌, IfOk};
-ghost use Rattle.tg_syntax.specs.Plain.{plain, plain_lvalue};
+ghost use Rattle.tg_syntax.specs.glue.Plain.{plain, plain_lvalue};
 ghost use Rattle.tg_syntax.specs.Spans.{joined as joined_span, span_of as plain_span_of};
-ghost use Rattle.tg_syntax.specs.Lists.{exps_of, inits_of, decs_of};
+ghost use Rattle.tg_syntax.specs.glue.Lists.{exps_of, inits_of, decs_of};
 ghost use Rattle.tg_syntax.specs.Tree.{
   Call as PlainCall,
   Make as PlainMake,
@@ -16,7 +16,7 @@ ghost use Rattle.tg_syntax.specs.Tree.{
   Neg as PlainNeg,
   Index as PlainIndex,
 };
-ghost use Rattle.tg_syntax_laws.specs.Reading.{binary as plain_binary};
+ghost use Rattle.tg_syntax_laws.specs.mirror.Reading.{binary as plain_binary};
 
 use std::alloc::Global;
 use tg_base::{Memory, Span};

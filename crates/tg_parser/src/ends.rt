@@ -1,6 +1,6 @@
 ghost use Rattle.std.specs.Prelude.{◌≡◌};
-ghost use Rattle.tg_syntax.specs.Plain.{plain};
 ghost use Rattle.tg_syntax.specs.Tails.{ends_tail as has_tail, is_short as has_short};
+ghost use Rattle.tg_syntax.specs.glue.Plain.{plain};
 
 use tg_syntax::{Exp, Kind};
 

@@ -1,8 +1,8 @@
 ghost use Rattle.std.specs.Prelude.{◌≡◌, ◌<◌, ◌≤◌, IfOk, length, ◌∷◌, []};
-ghost use Rattle.tg_syntax.specs.Plain.{plain_form, plain_type};
+ghost use Rattle.tg_syntax.specs.glue.Plain.{plain_form, plain_type};
 ghost use Rattle.tg_syntax.specs.Groups.{one_type};
-ghost use Rattle.tg_parser.specs.Given.{AnswersJob};
-ghost use Rattle.tg_syntax_laws.specs.Reading.{
+ghost use Rattle.tg_parser.specs.glue.Given.{AnswersJob};
+ghost use Rattle.tg_syntax_laws.specs.mirror.Reading.{
   one_param,
   more_params,
   listed_params,
@@ -10,7 +10,7 @@ ghost use Rattle.tg_syntax_laws.specs.Reading.{
   annotation,
   type_dec,
 };
-ghost use Rattle.tg_syntax_laws.specs.Steps.{
+ghost use Rattle.tg_syntax_laws.specs.mirror.Steps.{
   OneParam,
   MoreParams,
   ListedParams,

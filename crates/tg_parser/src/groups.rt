@@ -1,7 +1,7 @@
 ghost use Rattle.std.specs.Prelude.{◌≡◌, [], ◌∷◌, IfOk, OnOk};
 ghost use Rattle.tg_syntax.specs.Groups.{snoc_dec, one_type, one_variable, one_function};
-ghost use Rattle.tg_syntax.specs.Lists.{decs_of};
-ghost use Rattle.tg_syntax.specs.Plain.{plain, plain_type};
+ghost use Rattle.tg_syntax.specs.glue.Lists.{decs_of};
+ghost use Rattle.tg_syntax.specs.glue.Plain.{plain, plain_type};
 
 use std::alloc::Global;
 use tg_base::{ListOf, Memory};

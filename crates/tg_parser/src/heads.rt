@@ -1,17 +1,17 @@
 ghost use Rattle.std.specs.Prelude.{◌≡◌, ◌<◌, ◌≤◌, true, IfOk, IfSome, length};
 ghost use Rattle.tg_syntax.specs.declared.tokens.Word.TheVariants.{WFor};
 ghost use Rattle.tg_syntax.specs.declared.tokens.Sign.TheVariants.{LeftParen, RightParen};
-ghost use Rattle.tg_syntax.specs.Plain.{plain};
+ghost use Rattle.tg_syntax.specs.glue.Plain.{plain};
 ghost use Rattle.tg_syntax_laws.specs.declared.marks.Mark.TheVariants.{OfSign, OfWord};
-ghost use Rattle.tg_syntax_laws.specs.Steps.{want, name, call, ListedParams, Annotation};
-ghost use Rattle.tg_syntax_laws.specs.Reading.{
+ghost use Rattle.tg_syntax_laws.specs.mirror.Steps.{want, name, call, ListedParams, Annotation};
+ghost use Rattle.tg_syntax_laws.specs.mirror.Reading.{
   unary as unary_steps,
   atom as atom_of_token,
   assigning,
 };
-ghost use Rattle.tg_parser.specs.Ranks.{level_of};
-ghost use Rattle.tg_parser.specs.Opens.{BeginsJob, BeginsTwo, Skips, Operates, Elses, Passes};
-ghost use Rattle.tg_parser.specs.Heads.{unary_of, plain_of, assigning_to, Declares};
+ghost use Rattle.tg_parser.specs.glue.Ranks.{level_of};
+ghost use Rattle.tg_parser.specs.glue.Opens.{BeginsJob, BeginsTwo, Skips, Operates, Elses, Passes};
+ghost use Rattle.tg_parser.specs.glue.Heads.{unary_of, plain_of, assigning_to, Declares};
 
 use crate::ends::{ends_tail, is_short};
 use crate::faults::Stop;

@@ -10,7 +10,7 @@ ghost use Rattle.tg_syntax.specs.Nesting.{
   after_token,
 };
 ghost use Rattle.tg_syntax.specs.SyntaxFaults.{IsShallow};
-ghost use Rattle.tg_parser.specs.Deep.{IsFirstDeep};
+ghost use Rattle.tg_parser.specs.glue.Deep.{IsFirstDeep};
 
 use std::alloc::{AllocFailed, Global};
 use std::marker::Model;

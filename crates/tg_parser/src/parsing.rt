@@ -1,10 +1,10 @@
 ghost use Rattle.std.specs.Prelude.{IfOk};
 ghost use Rattle.tg_base.specs.FirstFaults.{OnBad};
 ghost use Rattle.tg_syntax.specs.Grammar.{IsProgram};
-ghost use Rattle.tg_syntax.specs.Plain.{plain};
 ghost use Rattle.tg_syntax.specs.SyntaxFaults.{EndsOnce, IsShallow};
+ghost use Rattle.tg_syntax.specs.glue.Plain.{plain};
 ghost use Rattle.tg_parser.specs.Answers.{HasSyntaxFault};
-ghost use Rattle.tg_parser.specs.Deep.{IsReadable};
+ghost use Rattle.tg_parser.specs.glue.Deep.{IsReadable};
 
 use crate::faults::{Stop, SyntaxFault, SyntaxRule};
 use crate::nesting::first_deep;

@@ -1,8 +1,8 @@
 ghost use Rattle.std.specs.Prelude.{◌≡◌, false};
 ghost use Rattle.tg_syntax.specs.Grammar.{or_op, and_op, rel_op, sum_op, term_op};
-ghost use Rattle.tg_syntax_laws.specs.Steps.{op_of};
-ghost use Rattle.tg_syntax_laws.specs.Reading.{below as below_level};
-ghost use Rattle.tg_parser.specs.Ranks.{level_of, NoneWithin};
+ghost use Rattle.tg_syntax_laws.specs.mirror.Steps.{op_of};
+ghost use Rattle.tg_syntax_laws.specs.mirror.Reading.{below as below_level};
+ghost use Rattle.tg_parser.specs.glue.Ranks.{level_of, NoneWithin};
 
 use tg_syntax::{Op, Sign, Token};
 

@@ -1,6 +1,6 @@
 ghost use Rattle.std.specs.Prelude.{◌≡◌, ◌<◌, ◌≤◌, IfOk, length};
-ghost use Rattle.tg_syntax.specs.Plain.{plain, plain_lvalue};
-ghost use Rattle.tg_syntax.specs.Lists.{exps_of, inits_of, decs_of};
+ghost use Rattle.tg_syntax.specs.glue.Plain.{plain, plain_lvalue};
+ghost use Rattle.tg_syntax.specs.glue.Lists.{exps_of, inits_of, decs_of};
 ghost use Rattle.tg_syntax.specs.Tree.{Read, exp, no_exps, init, no_inits, no_decs};
 ghost use Rattle.tg_syntax.specs.Groups.{snoc_dec};
 ghost use Rattle.tg_syntax.specs.Grammar.{
@@ -8,7 +8,7 @@ ghost use Rattle.tg_syntax.specs.Grammar.{
   Comparison as ComparisonLevel,
   Unary as UnaryLevel,
 };
-ghost use Rattle.tg_syntax_laws.specs.Steps.{
+ghost use Rattle.tg_syntax_laws.specs.mirror.Steps.{
   Of,
   At,
   After,
@@ -27,7 +27,7 @@ ghost use Rattle.tg_syntax_laws.specs.Steps.{
   name,
   call,
 };
-ghost use Rattle.tg_syntax_laws.specs.Reading.{
+ghost use Rattle.tg_syntax_laws.specs.mirror.Reading.{
   job,
   below as below_level,
   last,
@@ -41,10 +41,10 @@ ghost use Rattle.tg_syntax_laws.specs.Reading.{
   naming as naming_steps,
   indexing as indexing_steps,
 };
-ghost use Rattle.tg_parser.specs.Given.{AnswersJob};
-ghost use Rattle.tg_parser.specs.Ranks.{level_of};
-ghost use Rattle.tg_parser.specs.Opens.{BeginsJob, BeginsTwo, Completes};
-ghost use Rattle.tg_parser.specs.Heads.{one_of};
+ghost use Rattle.tg_parser.specs.glue.Given.{AnswersJob};
+ghost use Rattle.tg_parser.specs.glue.Ranks.{level_of};
+ghost use Rattle.tg_parser.specs.glue.Opens.{BeginsJob, BeginsTwo, Completes};
+ghost use Rattle.tg_parser.specs.glue.Heads.{one_of};
 
 use crate::building::{
     build_array, build_assignment, build_call, build_choice, build_choice_of_two, build_element,

@@ -1,7 +1,7 @@
 ghost use Rattle.std.specs.Prelude.{◌≡◌, ◌<◌, ◌+◌, ◌↔◌, IsTrue, IfOk, MatchResult, [], ◌∷◌, length};
 ghost use Rattle.tg_parser.specs.declared.faults.Stop.TheVariants.{More};
-ghost use Rattle.tg_parser.specs.Given.{AnswersJob};
-ghost use Rattle.tg_syntax_laws.specs.Steps.{token_of, want, name, give, OneSpan, OneName};
+ghost use Rattle.tg_parser.specs.glue.Given.{AnswersJob};
+ghost use Rattle.tg_syntax_laws.specs.mirror.Steps.{token_of, want, name, give, OneSpan, OneName};
 
 use crate::faults::Stop;
 use tg_base::Span;

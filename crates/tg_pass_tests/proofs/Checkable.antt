@@ -9,7 +9,7 @@ use Rattle.tg_syntax_laws.proofs.NamesKnown.{all_named}
 use Rattle.tg_syntax_laws.proofs.Standing.{tokens_stand}
 use Rattle.tg_syntax_laws.proofs.Orders.{apart}
 use Rattle.tg_syntax_laws.proofs.Begun.{in_order}
-use Rattle.tg_pass_tests.specs.Texts.{IsCheckable}
+use Rattle.tg_pass_tests.specs.glue.Texts.{IsCheckable}
 
 pub checkable : {names : List (List ℕ)} {text : List ℕ} {tokens : List Spanned} (body : Exp) → Lexes names 0 text tokens →
     IsProgram tokens body → IsCheckable names body

@@ -3,8 +3,8 @@ use Rattle.std.proofs.Common.{◌≡◌, ◌<◌, ℕ, List, sym, ap, ◌∙◌,
 use Rattle.std.specs.Prelude.{All, map}
 use Rattle.std.proofs.lemmas.List.{get_or-map, length-map}
 use Rattle.tg_tree.specs.declared.fragments.Fragment.{Fragment}
-use Rattle.tg_tree.specs.Plain.{plain_fragment}
-use Rattle.tg_compile.specs.Passes.{IsWellFormed}
+use Rattle.tg_tree.specs.glue.Plain.{plain_fragment}
+use Rattle.tg_compile.specs.glue.Passes.{IsWellFormed}
 
 pub one_is : (bodies : List Fragment) (at : ℕ) (one : Fragment) → All IsWellFormed (map plain_fragment bodies) →
     at < length bodies → one ≡ get_or bodies at one → IsWellFormed (plain_fragment one)

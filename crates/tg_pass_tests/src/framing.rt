@@ -1,6 +1,6 @@
 ghost use Rattle.std.specs.Prelude.{All, map};
-ghost use Rattle.tg_tree.specs.Plain.{plain_fragment};
-ghost use Rattle.tg_compile.specs.Passes.{IsWellFormed};
+ghost use Rattle.tg_tree.specs.glue.Plain.{plain_fragment};
+ghost use Rattle.tg_compile.specs.glue.Passes.{IsWellFormed};
 
 use crate::reading::read;
 use std::alloc::Global;

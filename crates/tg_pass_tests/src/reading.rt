@@ -1,6 +1,6 @@
 ghost use Rattle.std.specs.Prelude.{IfOk};
-ghost use Rattle.tg_pass_tests.specs.Texts.{IsCheckable};
-ghost use Rattle.tg_syntax.specs.Plain.{plain};
+ghost use Rattle.tg_pass_tests.specs.glue.Texts.{IsCheckable};
+ghost use Rattle.tg_syntax.specs.glue.Plain.{plain};
 
 use std::alloc::Global;
 use std::test::Fail;

@@ -20,7 +20,7 @@ use Rattle.tg_live.specs.Interference.{defines_beside_at, Interferes, moves, col
 use Rattle.tg_irc.specs.declared.moves.Move.{Move as MoveBetween}
 use Rattle.tg_irc.specs.declared.rounds.Round.{Round}
 use Rattle.tg_irc.specs.Policies.{Rule}
-use Rattle.tg_irc.specs.Classes.{IsUntouched, class_of}
+use Rattle.tg_irc.specs.laws.Classes.{IsUntouched, class_of}
 use Rattle.tg_irc.proofs.Within.{untouched_stand_alone}
 use Rattle.std.proofs.lemmas.List.Elements.{All-from_recursion, recursion_from_All}
 use Rattle.std.specs.Prelude.{filter}
@@ -31,7 +31,7 @@ use Rattle.tg_regalloc.specs.declared.placing.Placed.{Placed}
 use Rattle.tg_regalloc.specs.Rewriting.{loads, stores, drawn, in_slot, placed, target, first_use, second_use, next_after, instruction_rewritten, code_rewritten}
 use Rattle.tg_regalloc.specs.Rewriting.{is_original, slotted, slot_after}
 use Rattle.tg_regalloc.specs.Rounds.{BetweenRounds, IsRoundOf}
-use Rattle.tg_regalloc.specs.Explained.{problem_of}
+use Rattle.tg_regalloc.specs.laws.Explained.{problem_of}
 use Rattle.tg_regalloc.proofs.Renamed.{temp, replaced, named_placed, here, uses_named, defs_named}
 use Rattle.tg_regalloc.proofs.Slotting.{is_temp, ends_of, all_moves, slot_none}
 use Rattle.tg_regalloc.proofs.OneRound.{HasTempsBelow, is_graph, are_nodes}

@@ -9,8 +9,8 @@ use Rattle.tg_instr.specs.declared.instr.Instr.{Instr}
 use Rattle.tg_instr.specs.Codes.{has_temps_below}
 use Rattle.tg_instr.specs.Renaming.{named, renamed}
 use Rattle.tg_instr.proofs.Tests.{left_holds, right_holds}
-use Rattle.tg_regalloc.specs.Below.{is_option_below}
 use Rattle.tg_regalloc.specs.declared.placing.Placed.{Placed}
+use Rattle.tg_regalloc.specs.glue.Below.{is_option_below}
 use Rattle.tg_regalloc.specs.Rewriting.{loads, stores, drawn, in_slot, placed, target, first_use, second_use, next_after, instruction_rewritten}
 use Rattle.tg_regalloc.specs.Rewriting.{code_rewritten, temps_after}
 use Rattle.tg_regalloc.proofs.Naming.{to_below, first_below, second_below}

@@ -10,8 +10,8 @@ use Rattle.tg_instr.specs.declared.renaming.Named.{Named}
 use Rattle.tg_instr.specs.Codes.{is_below}
 use Rattle.tg_instr.specs.Renaming.{named}
 use Rattle.tg_instr.specs.Lengths.{words_of}
-use Rattle.tg_regalloc.specs.Growth.{most_steps, steps}
 use Rattle.tg_regalloc.specs.Rewriting.{next_after}
+use Rattle.tg_regalloc.specs.laws.Growth.{most_steps, steps}
 use Rattle.tg_regalloc.proofs.Renamed.{temp, is_move}
 
 -- a register, or a temporary of the code that was handed in

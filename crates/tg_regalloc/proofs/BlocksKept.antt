@@ -12,7 +12,7 @@ use Rattle.tg_instr.specs.declared.instr.Instr.TheVariants.{Move, FrameLoad, Fra
 use Rattle.tg_instr.specs.declared.renaming.Named.{Named}
 use Rattle.tg_instr.specs.Renaming.{names, named, renamed}
 use Rattle.tg_regalloc.specs.declared.placing.Placed.{Placed}
-use Rattle.tg_regalloc.specs.Growth.{steps, blocks_rewritten}
+use Rattle.tg_regalloc.specs.laws.Growth.{steps, blocks_rewritten}
 use Rattle.tg_regalloc.specs.Rewriting.{loads, stores, drawn_for, drawn, in_slot, placed, target, first_use, second_use, next_after}
 use Rattle.tg_regalloc.specs.Rewriting.{instruction_rewritten, code_rewritten, temps_after}
 use Rattle.tg_regalloc.proofs.Renamed.{temp, is_move, replaced, named_placed, words_renamed, steps_renamed, move_renamed, temps_append, temps_rise, code_append}

@@ -6,7 +6,7 @@ use Rattle.tg_irc.proofs.Explaining.{moves_are_explained}
 use Rattle.tg_regalloc.specs.Rewriting.{slotted}
 use Rattle.tg_regalloc.specs.Rounds.{BetweenRounds, IsRoundOf, AreRounds, slots_by, last_round}
 use Rattle.tg_regalloc.specs.Rounds.AreRounds.{last, more}
-use Rattle.tg_regalloc.specs.Explained.{problem_of, MovesOfAllocationsStayForACause}
+use Rattle.tg_regalloc.specs.laws.Explained.{problem_of, MovesOfAllocationsStayForACause}
 use Rattle.tg_regalloc.proofs.RewrittenBelow.{temps_below}
 use Rattle.tg_regalloc.proofs.OneRound.{HasTempsBelow, are_nodes}
 

@@ -7,10 +7,10 @@ use Rattle.tg_instr.specs.declared.instr.Instr.{Instr}
 use Rattle.tg_instr.specs.declared.instr.Instr.TheVariants.{Move, Mark, FrameLoad, FrameStore, FrameAddress, Address, Branch, Return}
 use Rattle.tg_instr.specs.Lengths.{words_of, words, most_words}
 use Rattle.tg_instr.specs.Renaming.{named, renamed}
-use Rattle.tg_regalloc.specs.Growth.{most_steps, steps}
+use Rattle.tg_regalloc.specs.laws.Growth.{most_steps, steps}
 use Rattle.tg_regalloc.proofs.Renamed.{steps_renamed}
 use Rattle.tg_regalloc.proofs.Blocks.{count_of, operands}
-use Rattle.tg_regalloc.specs.InFrame.{through_named, loaded, stored, moved, through_slots, instruction_in_frame, code_in_frame}
+use Rattle.tg_regalloc.specs.mirror.InFrame.{through_named, loaded, stored, moved, through_slots, instruction_in_frame, code_in_frame}
 
 loaded_length : (base r : ℕ) (o : Option Opnd) → length (loaded base r o) ≤ 1
 loaded_length base r (Some (Temp t)) = lit≤ tt

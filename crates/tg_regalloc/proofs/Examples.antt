@@ -5,7 +5,7 @@ use Rattle.tg_instr.specs.declared.operands.Opnd.{Opnd}
 use Rattle.tg_instr.specs.declared.operands.Opnd.TheVariants.{Temp, Reg}
 use Rattle.tg_instr.specs.declared.instr.Instr.TheVariants.{Add, Addi, Sw, Move, FrameLoad, FrameStore, Branch, Call, Return}
 use Rattle.tg_regalloc.specs.declared.allocations.Location.TheVariants.{Slot}
-use Rattle.tg_regalloc.specs.InFrame.{code_in_frame, locations_from}
+use Rattle.tg_regalloc.specs.mirror.InFrame.{code_in_frame, locations_from}
 
 abbrev t : ℕ → Opnd
 t n = Temp (record { 0 = n })

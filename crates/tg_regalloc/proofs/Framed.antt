@@ -9,7 +9,7 @@ use Rattle.tg_instr.specs.declared.instr.Instr.TheVariants.{Jump, Fault, Return,
 use Rattle.tg_instr.specs.Codes.{is_end}
 use Rattle.tg_instr.specs.Renaming.{named, renamed}
 use Rattle.tg_instr.proofs.Tests.{all_append}
-use Rattle.tg_regalloc.specs.InFrame.{through_named, loaded, stored, moved, through_slots, instruction_in_frame, code_in_frame}
+use Rattle.tg_regalloc.specs.mirror.InFrame.{through_named, loaded, stored, moved, through_slots, instruction_in_frame, code_in_frame}
 use Rattle.tg_regalloc.proofs.Replacing.{is_access, Replaces, AreReplaced, around, by_accesses}
 use Rattle.tg_regalloc.proofs.Replacing.AreReplaced.{none, also}
 

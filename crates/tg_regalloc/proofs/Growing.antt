@@ -23,14 +23,14 @@ use Rattle.tg_instr.specs.declared.codes.Code.{Code}
 use Rattle.tg_irc.specs.declared.rounds.Round.{Round}
 use Rattle.tg_irc.specs.Policies.{Rule}
 use Rattle.tg_regalloc.specs.declared.allocations.Allocation.{Allocation}
-use Rattle.tg_regalloc.specs.Below.{is_option_below}
-use Rattle.tg_regalloc.specs.InFrame.{moved, instruction_in_frame, code_in_frame}
+use Rattle.tg_regalloc.specs.glue.Below.{is_option_below}
+use Rattle.tg_regalloc.specs.mirror.InFrame.{moved, instruction_in_frame, code_in_frame}
 use Rattle.tg_regalloc.specs.Rewriting.{next_after, code_rewritten, temps_after}
 use Rattle.tg_regalloc.specs.Painting.{is_idle, painted_named, instruction_painted, code_painted, colour_of}
 use Rattle.tg_regalloc.specs.Rounds.{BetweenRounds, stage_of, AreRounds, slots_by, next_stage, last_round}
 use Rattle.tg_regalloc.specs.Rounds.AreRounds.{last, more}
-use Rattle.tg_regalloc.specs.Growth.{most_steps, steps, blocks_rewritten, blocks_behind, blocks_of, BlockIsSmall, AreSmall, AllocationsGrowLittle}
-use Rattle.tg_regalloc.specs.Growth.AreSmall.{none, also}
+use Rattle.tg_regalloc.specs.laws.Growth.{most_steps, steps, blocks_rewritten, blocks_behind, blocks_of, BlockIsSmall, AreSmall, AllocationsGrowLittle}
+use Rattle.tg_regalloc.specs.laws.Growth.AreSmall.{none, also}
 use Rattle.tg_regalloc.proofs.Counts.{one_length, named_steps, through_steps}
 use Rattle.tg_regalloc.proofs.Naming.{to_below, first_below, second_below}
 use Rattle.tg_regalloc.proofs.RewrittenBelow.{temps_below}

@@ -13,9 +13,9 @@ use Rattle.tg_instr.specs.Codes.{has_temps_below}
 use Rattle.tg_instr.specs.Operands.{is_one_row, is_zero}
 use Rattle.tg_instr.specs.Renaming.{named, stays_one_row}
 use Rattle.tg_instr.proofs.Tests.{left_holds, right_holds}
-use Rattle.tg_regalloc.specs.Below.{is_option_below}
-use Rattle.tg_regalloc.specs.InFrame.{through, through_named, through_slots, instruction_in_frame}
 use Rattle.tg_regalloc.specs.Painting.{painted, painted_named}
+use Rattle.tg_regalloc.specs.glue.Below.{is_option_below}
+use Rattle.tg_regalloc.specs.mirror.InFrame.{through, through_named, through_slots, instruction_in_frame}
 
 pub to_below : (most : ℕ) (one : Instr) → IsTrue (has_temps_below most one) → IsTrue (is_option_below most (named one).to)
 to_below most (Sll rd rt n) h = left_holds _ _ (right_holds _ _ h)

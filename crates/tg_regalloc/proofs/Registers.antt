@@ -14,9 +14,9 @@ use Rattle.tg_instr.specs.Codes.{is_below, is_register, has_temps_below, has_reg
 use Rattle.tg_instr.specs.Renaming.{named, renamed, tested, stays_one_row}
 use Rattle.tg_instr.specs.Uses.{uses_of, defs_of}
 use Rattle.tg_instr.proofs.Tests.{left_holds, right_holds, both_hold, all_append}
-use Rattle.tg_regalloc.specs.Below.{is_option_below}
 use Rattle.tg_regalloc.specs.Conditions.{is_fixed}
-use Rattle.tg_regalloc.specs.InFrame.{through_named, loaded, stored, moved, through_slots, instruction_in_frame, code_in_frame}
+use Rattle.tg_regalloc.specs.glue.Below.{is_option_below}
+use Rattle.tg_regalloc.specs.mirror.InFrame.{through_named, loaded, stored, moved, through_slots, instruction_in_frame, code_in_frame}
 use Rattle.tg_regalloc.proofs.Naming.{to_below, first_below, second_below, stays}
 use Rattle.tg_regalloc.proofs.RegisterNames.{fixed_allocated, names_weaker, names_renamed}
 

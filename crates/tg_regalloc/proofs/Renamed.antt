@@ -13,8 +13,8 @@ use Rattle.tg_instr.specs.Renaming.{names, named, renamed, tested, stays_one_row
 use Rattle.tg_instr.specs.Lengths.{words_of}
 use Rattle.tg_instr.specs.Uses.{uses_of, defs_of}
 use Rattle.tg_live.specs.Live.{is_among}
-use Rattle.tg_regalloc.specs.Growth.{most_steps}
 use Rattle.tg_regalloc.specs.Rewriting.{drawn, placed, target, first_use, second_use, next_after, instruction_rewritten, code_rewritten, temps_after}
+use Rattle.tg_regalloc.specs.laws.Growth.{most_steps}
 
 abbrev pub temp : ℕ → Opnd
 temp t = Temp (record { 0 = t })

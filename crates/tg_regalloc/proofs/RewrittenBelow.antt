@@ -14,9 +14,9 @@ use Rattle.tg_instr.specs.Operands.{is_one_row}
 use Rattle.tg_instr.specs.Renaming.{named, renamed, tested}
 use Rattle.tg_instr.specs.Uses.{uses_of, defs_of}
 use Rattle.tg_instr.proofs.Tests.{left_holds, right_holds, both_hold, all_append}
-use Rattle.tg_regalloc.specs.Below.{is_option_below}
 use Rattle.tg_regalloc.specs.Rewriting.{loads, stores, drawn_for, drawn, in_slot, placed, target, first_use, second_use, next_after}
 use Rattle.tg_regalloc.specs.Rewriting.{instruction_rewritten, code_rewritten, temps_after}
+use Rattle.tg_regalloc.specs.glue.Below.{is_option_below}
 use Rattle.tg_regalloc.proofs.Naming.{to_below, first_below, second_below}
 
 -- what holds of each element by a weaker test too

@@ -10,11 +10,11 @@ use Rattle.tg_irc.specs.declared.rounds.Round.{Round}
 use Rattle.tg_irc.specs.Policies.{Rule}
 use Rattle.tg_irc.specs.States.{problem}
 use Rattle.tg_irc.specs.Rounds.{IsRound}
-use Rattle.tg_irc.specs.Laws.{IsTemporary, RoundsAreOfNodes}
+use Rattle.tg_irc.specs.laws.Laws.{IsTemporary, RoundsAreOfNodes}
 use Rattle.tg_interference.specs.Pairs.{IsInterference}
 use Rattle.tg_interference.specs.Moves.{moves_of}
 use Rattle.tg_interference.specs.Facts.{facts_of_nodes}
-use Rattle.tg_coalesce.specs.Standing.{graph_of}
+use Rattle.tg_coalesce.specs.glue.Standing.{graph_of}
 use Rattle.tg_regalloc.specs.Rounds.{IsOfTemps, IsRoundOf, stage_of}
 use Rattle.tg_regalloc.proofs.Sizes.{AreEnds}
 

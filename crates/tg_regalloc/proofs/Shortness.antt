@@ -19,8 +19,8 @@ use Rattle.tg_irc.specs.Policies.{Rule}
 use Rattle.tg_irc.specs.States.{Problem, RoundState, start, facts_at}
 use Rattle.tg_irc.specs.Steps.{after, after_all, AreTaken}
 use Rattle.tg_irc.specs.Rounds.{end}
-use Rattle.tg_irc.specs.Laws.{AreNodes, StandsWell}
-use Rattle.tg_irc.specs.Classes.{class_of, NamesClasses}
+use Rattle.tg_irc.specs.laws.Laws.{AreNodes, StandsWell}
+use Rattle.tg_irc.specs.laws.Classes.{class_of, NamesClasses}
 use Rattle.tg_irc.proofs.Deciding.{clash, or_left, or_right, same_test, tells}
 use Rattle.tg_irc.proofs.Counting.{count_le, count_out, stays_in}
 use Rattle.tg_irc.proofs.Answering.{listed_at}
@@ -32,8 +32,8 @@ use Rattle.tg_interference.specs.Facts.{occurrences, facts_of, facts_of_nodes}
 use Rattle.tg_regalloc.specs.Rewriting.{slot_after, is_original, slotted, slot_by}
 use Rattle.tg_regalloc.specs.Rounds.{BetweenRounds, stage_of, IsRoundOf, AreRounds, slots_by, next_stage, last_round}
 use Rattle.tg_regalloc.specs.Rounds.AreRounds.{last, more}
-use Rattle.tg_regalloc.specs.Explained.{problem_of}
-use Rattle.tg_regalloc.specs.Growth.{slots_given, AllocationsAreShort, SpillsMadeAlone, AllInFrameIsLast}
+use Rattle.tg_regalloc.specs.laws.Explained.{problem_of}
+use Rattle.tg_regalloc.specs.laws.Growth.{slots_given, AllocationsAreShort, SpillsMadeAlone, AllInFrameIsLast}
 use Rattle.tg_regalloc.proofs.RewrittenBelow.{temps_below}
 use Rattle.tg_regalloc.proofs.Renamed.{temp, temps_rise}
 use Rattle.tg_regalloc.proofs.OneRound.{HasTempsBelow, is_graph, are_nodes}
@@ -315,7 +315,7 @@ module _ (rule : Rule) (n : ℕ) (s : BetweenRounds) (round : Round) (r : IsRoun
       handed_in : (facts_at p (end p round) (25 + t)).made ≡ false
       handed_in =
           ap (λ (m : NodeFacts). m.made) (marked (25 + t) (omega (arith, l, some)))
-              ∙ (facts_made (25 + t) (omega arith) ∙ small ((25 + t) - 25) (omega (arith, l)))
+          ∙ (facts_made (25 + t) (omega arith) ∙ small ((25 + t) - 25) (omega (arith, l)))
         where
           small : (j : ℕ) → j < n → nat_le n j ≡ false
           small j k = grind (arith, nat_tests)

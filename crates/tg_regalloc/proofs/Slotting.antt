@@ -19,8 +19,8 @@ use Rattle.tg_irc.specs.declared.moves.Move.{Move as MoveBetween}
 use Rattle.tg_irc.specs.declared.rounds.Round.{Round}
 use Rattle.tg_irc.specs.Policies.{Rule}
 use Rattle.tg_irc.specs.States.{Problem}
-use Rattle.tg_irc.specs.Laws.{AreNodes, IsTemporary}
-use Rattle.tg_irc.specs.Classes.{class_of, HasWholeMoves, IsTouchedFrom, IsAlone}
+use Rattle.tg_irc.specs.laws.Laws.{AreNodes, IsTemporary}
+use Rattle.tg_irc.specs.laws.Classes.{class_of, HasWholeMoves, IsTouchedFrom, IsAlone}
 use Rattle.tg_irc.proofs.Deciding.{both, and_true, same_node}
 use Rattle.tg_irc.proofs.AmongNodes.{rounds_are_of_nodes}
 use Rattle.tg_irc.proofs.Within.{classes_stay_within, one_neighbour_is_joined}
@@ -29,7 +29,7 @@ use Rattle.tg_interference.specs.Nodes.{node_of}
 use Rattle.tg_interference.specs.Moves.{between, move_of, moves_of}
 use Rattle.tg_regalloc.specs.Rewriting.{is_original, slotted, slot_by, slot_after}
 use Rattle.tg_regalloc.specs.Rounds.{BetweenRounds, IsRoundOf, slots_by}
-use Rattle.tg_regalloc.specs.Explained.{problem_of}
+use Rattle.tg_regalloc.specs.laws.Explained.{problem_of}
 use Rattle.tg_regalloc.proofs.Sizes.{node_below}
 use Rattle.tg_regalloc.proofs.Renamed.{temp, is_move}
 use Rattle.tg_regalloc.proofs.Blocks.{is_outer, Known, IsClosed, IsOpen, IsFinal, AreFinal, IsBlock, AreBlocks, code_of, slot_at, IsSlotting}

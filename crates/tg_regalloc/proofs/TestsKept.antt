@@ -10,12 +10,12 @@ use Rattle.tg_instr.specs.Renaming.{named, renamed}
 use Rattle.tg_instr.proofs.Tests.{left_holds, right_holds, both_hold, all_append}
 use Rattle.tg_irc.specs.declared.rounds.Round.{Round}
 use Rattle.tg_irc.specs.Policies.{Rule}
-use Rattle.tg_regalloc.specs.InFrame.{through_named, loaded, stored, moved, through_slots, instruction_in_frame, code_in_frame}
+use Rattle.tg_regalloc.specs.mirror.InFrame.{through_named, loaded, stored, moved, through_slots, instruction_in_frame, code_in_frame}
 use Rattle.tg_regalloc.specs.Rewriting.{loads, stores, target, first_use, second_use, next_after, instruction_rewritten, code_rewritten}
 use Rattle.tg_regalloc.specs.Painting.{colour_of, is_idle, instruction_painted, code_painted}
 use Rattle.tg_regalloc.specs.Rounds.{BetweenRounds, AreRounds, slots_by, last_round}
 use Rattle.tg_regalloc.specs.Rounds.AreRounds.{last, more}
-use Rattle.tg_regalloc.specs.Explained.{IgnoresOperands, AllocationsKeepTests}
+use Rattle.tg_regalloc.specs.laws.Explained.{IgnoresOperands, AllocationsKeepTests}
 
 module _ (test : Instr → Bool) (ignores : IgnoresOperands test) where
   abbrev Pass : List Instr → Type 0

@@ -12,7 +12,7 @@ use Rattle.tg_irc.specs.Policies.{Rule}
 use Rattle.tg_regalloc.specs.declared.allocations.Allocation.{Allocation}
 use Rattle.tg_regalloc.specs.declared.allocations.Location.{Location}
 use Rattle.tg_regalloc.specs.declared.allocations.Location.TheVariants.{Colour, Slot}
-use Rattle.tg_regalloc.specs.InFrame.{code_in_frame, locations_from}
+use Rattle.tg_regalloc.specs.mirror.InFrame.{code_in_frame, locations_from}
 use Rattle.tg_regalloc.specs.Painting.{code_painted, colour_of}
 use Rattle.tg_regalloc.specs.Rewriting.{slotted, slot_after, slot_in, code_rewritten, temps_after}
 use Rattle.tg_regalloc.specs.Rounds.{BetweenRounds, stage_of, IsRoundOf, AreRounds, last_round, location_in, location_by}

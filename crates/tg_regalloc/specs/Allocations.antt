@@ -7,7 +7,7 @@ use Rattle.tg_instr.specs.declared.codes.Allocated.{Allocated}
 use Rattle.tg_instr.specs.declared.codes.Code.{Code}
 use Rattle.tg_irc.specs.Policies.{Rule}
 use Rattle.tg_regalloc.specs.declared.allocations.Allocation.{Allocation}
-use Rattle.tg_regalloc.specs.InFrame.{code_in_frame, locations_from}
+use Rattle.tg_regalloc.specs.mirror.InFrame.{code_in_frame, locations_from}
 use Rattle.tg_regalloc.specs.Painting.{code_painted, colour_of}
 use Rattle.tg_regalloc.specs.Rounds.{BetweenRounds, stage_of, AreRounds, location_by, last_round}
 

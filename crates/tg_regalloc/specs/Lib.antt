@@ -1,9 +1,8 @@
-pub mod Below
 pub mod Conditions
-pub mod InFrame
 pub mod Rewriting
 pub mod Painting
 pub mod Rounds
 pub mod Allocations
-pub mod Explained
-pub mod Growth
+pub mod glue
+pub mod laws
+pub mod mirror

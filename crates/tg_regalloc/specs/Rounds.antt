@@ -14,7 +14,7 @@ use Rattle.tg_irc.specs.Rounds.{IsRound}
 use Rattle.tg_interference.specs.Pairs.{IsInterference}
 use Rattle.tg_interference.specs.Moves.{moves_of}
 use Rattle.tg_interference.specs.Facts.{facts_of_nodes}
-use Rattle.tg_coalesce.specs.Standing.{graph_of}
+use Rattle.tg_coalesce.specs.glue.Standing.{graph_of}
 use Rattle.tg_regalloc.specs.declared.allocations.Location.{Location}
 use Rattle.tg_regalloc.specs.declared.allocations.Location.TheVariants.{Colour, Slot}
 use Rattle.tg_regalloc.specs.Rewriting.{slotted, slot_after, slot_in, code_rewritten, temps_after}

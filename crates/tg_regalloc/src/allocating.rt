@@ -3,7 +3,7 @@ ghost use Rattle.std.specs.List.{list_all};
 ghost use Rattle.tg_instr.specs.Codes.{has_slots_below, is_allocated, names_registers};
 ghost use Rattle.tg_regalloc.specs.Allocations.{HasFrame, IsAllocation};
 ghost use Rattle.tg_regalloc.specs.Conditions.{is_fixed};
-ghost use Rattle.tg_regalloc.specs.InFrame.{code_in_frame, locations_from};
+ghost use Rattle.tg_regalloc.specs.mirror.InFrame.{code_in_frame, locations_from};
 
 use crate::allocations::Allocation;
 use crate::frames::in_frame;

@@ -7,7 +7,7 @@ ghost use Rattle.tg_instr.specs.Codes.{
   names_registers,
 };
 ghost use Rattle.tg_regalloc.specs.Conditions.{is_fixed};
-ghost use Rattle.tg_regalloc.specs.InFrame.{code_in_frame, locations_from};
+ghost use Rattle.tg_regalloc.specs.mirror.InFrame.{code_in_frame, locations_from};
 
 use crate::allocations::{Allocation, Location, Locations, Rounds};
 use crate::loading::put;

@@ -1,9 +1,9 @@
-ghost use Rattle.tg_regalloc.specs.Explained.{
+ghost use Rattle.tg_regalloc.specs.laws.Explained.{
   AllocationsKeepTests,
   ColourableNeedsOneRound,
   MovesOfAllocationsStayForACause,
 };
-ghost use Rattle.tg_regalloc.specs.Growth.{
+ghost use Rattle.tg_regalloc.specs.laws.Growth.{
   AllocationsAreShort,
   AllInFrameIsLast,
   AllocationsGrowLittle,

@@ -1,4 +1,4 @@
-ghost use Rattle.tg_regalloc.specs.InFrame.{StaysShort};
+ghost use Rattle.tg_regalloc.specs.mirror.InFrame.{StaysShort};
 
 /// The law that code in the frame is at most four instructions, and at most ten words of code, for
 /// each instruction.

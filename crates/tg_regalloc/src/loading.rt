@@ -1,8 +1,8 @@
 ghost use Rattle.std.specs.Prelude.{◌≡◌, ◌<◌, ◌^◌, ◌+◌, ◌++◌, IsTrue, OnOk};
 ghost use Rattle.tg_instr.specs.Codes.{has_temps_below};
-ghost use Rattle.tg_regalloc.specs.Below.{is_option_below};
+ghost use Rattle.tg_regalloc.specs.glue.Below.{is_option_below};
 ghost use Rattle.tg_instr.specs.Renaming.{named};
-ghost use Rattle.tg_regalloc.specs.InFrame.{
+ghost use Rattle.tg_regalloc.specs.mirror.InFrame.{
   instruction_in_frame,
   loaded,
   moved,

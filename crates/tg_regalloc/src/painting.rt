@@ -1,7 +1,6 @@
 ghost use Rattle.std.specs.Prelude.{◌≡◌, ◌<◌, ◌≤◌, ◌++◌, ◌∷◌, [], IfOk, IsTrue, OnOk, length, cond};
 ghost use Rattle.std.specs.List.{list_all};
 ghost use Rattle.tg_instr.specs.Codes.{has_temps_below, is_below};
-ghost use Rattle.tg_regalloc.specs.Below.{is_option_below};
 ghost use Rattle.tg_regalloc.specs.Painting.{
   code_painted,
   colour_in,
@@ -12,6 +11,7 @@ ghost use Rattle.tg_regalloc.specs.Painting.{
   painted_named,
   register_of,
 };
+ghost use Rattle.tg_regalloc.specs.glue.Below.{is_option_below};
 
 use std::alloc::Global;
 use tg_base::Memory;

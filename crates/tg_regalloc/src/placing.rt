@@ -1,7 +1,6 @@
 ghost use Rattle.std.specs.Prelude.{◌≡◌, ◌<◌, ◌+◌, ◌++◌, ◌^◌, IsTrue, OnOk, length};
 ghost use Rattle.tg_instr.specs.declared.operands.Opnd.TheVariants.{Temp as TempOf};
 ghost use Rattle.tg_instr.specs.Codes.{is_below};
-ghost use Rattle.tg_regalloc.specs.Below.{is_option_below};
 ghost use Rattle.tg_regalloc.specs.Rewriting.{
   drawn,
   in_slot,
@@ -11,6 +10,7 @@ ghost use Rattle.tg_regalloc.specs.Rewriting.{
   staying,
   stores,
 };
+ghost use Rattle.tg_regalloc.specs.glue.Below.{is_option_below};
 
 use tg_base::{Memory, Temp};
 use tg_instr::{Instr, Opnd, push_instr};

@@ -13,15 +13,15 @@ use Rattle.tg_instr.specs.Operands.{is_same, is_zero}
 use Rattle.tg_instr.specs.Renaming.{named, renamed, stays_one_row}
 use Rattle.tg_instr.specs.Shapes.{shape}
 use Rattle.tg_instr.proofs.Same.{same_itself}
-use Rattle.tg_regalloc.specs.InFrame.{through, through_named, loaded, stored, through_slots, moved, instruction_in_frame}
-use Rattle.tg_regalloc.specs.InFrame.{code_in_frame}
+use Rattle.tg_regalloc.specs.mirror.InFrame.{through, through_named, loaded, stored, through_slots, moved, instruction_in_frame}
+use Rattle.tg_regalloc.specs.mirror.InFrame.{code_in_frame}
 use Rattle.tg_regalloc_proof.specs.Blocks.{code_of}
 use Rattle.tg_regalloc_proof.specs.Keeping.{Keeps}
 use Rattle.tg_regalloc_proof.specs.Named.{to_of, first_of, second_of}
 use Rattle.tg_regalloc_proof.specs.Places.{IsTemp, Place, In, At, are_one, IsPlainPlace, IsClear, fetched, kept, through as through_place}
 use Rattle.tg_regalloc_proof.specs.Places.{fetched_for, kept_for, through_for, Needs, NeedsFor, IsBlock, around, load, store, both}
 use Rattle.tg_regalloc_proof.specs.Places.{Stands, nothing, a_block}
-use Rattle.tg_regalloc_proof.specs.Replaced.{living, Replaced}
+use Rattle.tg_regalloc_proof.specs.laws.Replaced.{living, Replaced}
 use Rattle.tg_regalloc_proof.proofs.Living.{beside_differ}
 use Rattle.tg_regalloc_proof.proofs.Kept.{replaced_keeps}
 use Rattle.tg_regalloc_proof.proofs.Frames.{HasItsFrame}

@@ -19,7 +19,7 @@ use Rattle.tg_regalloc_proof.specs.Places.{IsTemp, Place, In, At, IsPlainPlace, 
 use Rattle.tg_regalloc_proof.specs.Places.{Stands, nothing, a_block}
 use Rattle.tg_regalloc_proof.specs.Keeping.{Charged, charged_by, functions_of, units_of, Holds, AreHeld, Surroundings, run_of, seen_of, IsWatcher}
 use Rattle.tg_regalloc_proof.specs.Keeping.{DoesNoMore, Keeps}
-use Rattle.tg_regalloc_proof.specs.Replaced.{living, Replaced, ReplacedKeep}
+use Rattle.tg_regalloc_proof.specs.laws.Replaced.{living, Replaced, ReplacedKeep}
 use Rattle.tg_regalloc_proof.proofs.Living.{beside_differ}
 use Rattle.tg_regalloc_proof.proofs.Replacing.{replaced_programs, replaced_seen}
 

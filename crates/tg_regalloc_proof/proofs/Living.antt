@@ -21,7 +21,7 @@ use Rattle.tg_live.specs.Interference.{moves, defines_beside_at, IsDefinedBeside
 use Rattle.tg_tree.specs.Actions.{Activation}
 use Rattle.tg_regalloc_proof.specs.Named.{passes}
 use Rattle.tg_regalloc_proof.specs.Places.{Places, are_one}
-use Rattle.tg_regalloc_proof.specs.Replaced.{IsLiveAt, living}
+use Rattle.tg_regalloc_proof.specs.laws.Replaced.{IsLiveAt, living}
 use Rattle.tg_regalloc_proof.proofs.Contents.{leads}
 use Rattle.tg_regalloc_proof.proofs.Scenes.{Flows}
 use Rattle.tg_regalloc_proof.proofs.Suffixes.{IsRest, whole, next}

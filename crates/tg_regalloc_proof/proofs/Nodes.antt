@@ -20,18 +20,18 @@ use Rattle.tg_irc.specs.declared.rounds.Round.{Round}
 use Rattle.tg_irc.specs.Graphs.{every}
 use Rattle.tg_irc.specs.Policies.{Rule}
 use Rattle.tg_irc.specs.States.{Problem}
-use Rattle.tg_irc.specs.Laws.{AreNodes}
-use Rattle.tg_irc.specs.Classes.{class_of}
+use Rattle.tg_irc.specs.laws.Laws.{AreNodes}
+use Rattle.tg_irc.specs.laws.Classes.{class_of}
 use Rattle.tg_irc.proofs.Deciding.{every_is}
 use Rattle.tg_irc.proofs.ProperColouring.{colours_differ, registers_are_coloured, colours_are_registers}
 use Rattle.tg_irc.proofs.AmongNodes.{rounds_are_of_nodes}
 use Rattle.tg_irc.proofs.Coloured.{each_is_coloured, classes_are_apart}
 use Rattle.tg_interference.specs.Nodes.{operand_at, node_of}
-use Rattle.tg_interference.specs.Laws.{NoOtherStands, NodesExist}
+use Rattle.tg_interference.specs.laws.Laws.{NoOtherStands, NodesExist}
 use Rattle.tg_regalloc.specs.Rewriting.{slotted, slot_by}
 use Rattle.tg_regalloc.specs.Painting.{colour_or_first, colour_of, register_of, painted}
 use Rattle.tg_regalloc.specs.Rounds.{BetweenRounds, IsRoundOf, slots_by}
-use Rattle.tg_regalloc.specs.Explained.{problem_of}
+use Rattle.tg_regalloc.specs.laws.Explained.{problem_of}
 use Rattle.tg_regalloc.proofs.OneRound.{HasTempsBelow, is_graph, are_nodes}
 use Rattle.tg_regalloc.proofs.Sizes.{node_below}
 use Rattle.tg_regalloc.proofs.Slotting.{node_of_temp}

@@ -20,7 +20,7 @@ use Rattle.tg_regalloc_proof.specs.Keeping.{Keeps}
 use Rattle.tg_regalloc_proof.specs.Named.{to_of, first_of, second_of, reshaped}
 use Rattle.tg_regalloc_proof.specs.Places.{IsTemp, IsPlain, Place, In, At, are_one, IsPlainPlace, fetched_for, kept_for, through_for, NeedsFor}
 use Rattle.tg_regalloc_proof.specs.Places.{IsBlock, around, falls_away, Stands, nothing, a_block}
-use Rattle.tg_regalloc_proof.specs.Replaced.{living, Replaced}
+use Rattle.tg_regalloc_proof.specs.laws.Replaced.{living, Replaced}
 use Rattle.tg_regalloc_proof.proofs.Kept.{replaced_keeps}
 use Rattle.tg_regalloc_proof.proofs.Named.{tested_shape}
 use Rattle.tg_regalloc_proof.proofs.Frames.{HasItsFrame}

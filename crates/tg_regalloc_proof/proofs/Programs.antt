@@ -12,9 +12,9 @@ use Rattle.tg_regalloc_proof.specs.Keeping.AreKept.{none as none_kept, also as a
 use Rattle.tg_regalloc_proof.proofs.Composing.{all_held, does_no_more_on, programs_are_kept}
 use Rattle.tg_regalloc_proof.proofs.Cheaper.{functions_charged, to_charged, from_charged}
 use Rattle.tg_regalloc.specs.declared.allocations.Allocation.{Allocation}
-use Rattle.tg_regalloc.specs.Growth.{most_steps, steps, blocks_of, AreSmall, AllocationsGrowLittle}
-use Rattle.tg_regalloc.specs.Growth.AreSmall.{none, also}
-use Rattle.tg_regalloc_proof.specs.Laws.{AllocationsKeep, RegallocIsCorrect, Allocates, functions_over, function_over}
+use Rattle.tg_regalloc.specs.laws.Growth.{most_steps, steps, blocks_of, AreSmall, AllocationsGrowLittle}
+use Rattle.tg_regalloc.specs.laws.Growth.AreSmall.{none, also}
+use Rattle.tg_regalloc_proof.specs.laws.Laws.{AllocationsKeep, RegallocIsCorrect, Allocates, functions_over, function_over}
 
 module _ (units : Instr → ℕ) (few : (one : Instr) → units one ≤ most_steps one) where
   abbrev words : Charge

@@ -3,9 +3,9 @@ use Rattle.std.proofs.Common.{ℕ, ◌≡◌, Bool, true, false, not, List, [], 
 use Rattle.std.specs.Prelude.{if◌then◌else◌}
 use Rattle.tg_instr.specs.declared.instr.Instr.{Instr}
 use Rattle.tg_regalloc_proof.specs.Blocks.{Blocks, code_of, drop_as_many, take_as_many, regrouped}
-use Rattle.tg_regalloc.specs.Growth.{blocks_rewritten}
 use Rattle.tg_regalloc.specs.Painting.{is_idle, instruction_painted, code_painted}
 use Rattle.tg_regalloc.specs.Rewriting.{instruction_rewritten, next_after, code_rewritten, temps_after}
+use Rattle.tg_regalloc.specs.laws.Growth.{blocks_rewritten}
 use Rattle.tg_regalloc.proofs.Painted.{unless_idle}
 use Rattle.tg_regalloc_proof.proofs.Painting.{each_painted}
 use Rattle.tg_regalloc_proof.proofs.Rewriting.{each_rewritten}

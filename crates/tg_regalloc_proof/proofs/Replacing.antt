@@ -24,7 +24,7 @@ use Rattle.tg_instr.specs.Running.{code_step, code_run}
 use Rattle.tg_regalloc_proof.specs.Blocks.{Blocks, code_of, Covers}
 use Rattle.tg_regalloc_proof.specs.Keeping.{Holds as HoldsFrame, program, Surroundings, MemoriesAgree, IsWatcher, seen_from, seen}
 use Rattle.tg_regalloc_proof.specs.Places.{IsTemp, At, Places, Stands, nothing, a_block}
-use Rattle.tg_regalloc_proof.specs.Replaced.{living, Replaced}
+use Rattle.tg_regalloc_proof.specs.laws.Replaced.{living, Replaced}
 use Rattle.tg_regalloc_proof.proofs.Simulating.{Simulates, does_itself, same_run, between, by_fuel, paid}
 use Rattle.tg_regalloc_proof.proofs.Worlds.{Beside}
 use Rattle.tg_regalloc_proof.proofs.Serving.{Worlds, by_end}

@@ -17,7 +17,7 @@ use Rattle.tg_regalloc_proof.specs.Keeping.{Keeps}
 use Rattle.tg_regalloc_proof.specs.Named.{to_of, first_of, second_of, reshaped}
 use Rattle.tg_regalloc_proof.specs.Places.{IsTemp, Place, In, At, are_one, IsPlainPlace, IsClear, fetched_for, kept_for, through_for, Needs}
 use Rattle.tg_regalloc_proof.specs.Places.{NeedsFor, IsBlock, around, Stands, nothing, a_block}
-use Rattle.tg_regalloc_proof.specs.Replaced.{living, Replaced}
+use Rattle.tg_regalloc_proof.specs.laws.Replaced.{living, Replaced}
 use Rattle.tg_regalloc_proof.proofs.Kept.{replaced_keeps}
 use Rattle.tg_regalloc_proof.proofs.Named.{IsLow, named_to, named_first, named_second, renamed_shape, reshaped_same, row_stays, not_equal}
 use Rattle.tg_regalloc_proof.proofs.Frames.{HasItsFrame}

@@ -7,21 +7,21 @@ use Rattle.tg_instr.specs.declared.instr.Instr.{Instr}
 use Rattle.tg_instr.specs.Codes.{has_temps_below, names_registers}
 use Rattle.tg_irc.specs.declared.rounds.Round.{Round}
 use Rattle.tg_irc.specs.Policies.{Rule}
-use Rattle.tg_interference.specs.Laws.{NoOtherStands, NodesExist}
+use Rattle.tg_interference.specs.laws.Laws.{NoOtherStands, NodesExist}
 use Rattle.tg_regalloc_proof.specs.Blocks.{Blocks, regrouped}
 use Rattle.tg_regalloc_proof.specs.Keeping.{Keeps}
 use Rattle.tg_regalloc_proof.proofs.Kept.{singles, unchanged_keeps}
 use Rattle.tg_regalloc_proof.proofs.Composing.{keeps_compose}
 use Rattle.tg_regalloc.specs.Conditions.{is_fixed}
-use Rattle.tg_regalloc.specs.Growth.{blocks_rewritten, blocks_behind}
-use Rattle.tg_regalloc.specs.InFrame.{code_in_frame, instruction_in_frame}
 use Rattle.tg_regalloc.specs.Painting.{colour_of, code_painted}
 use Rattle.tg_regalloc.specs.Rewriting.{slotted}
 use Rattle.tg_regalloc.specs.Rounds.{BetweenRounds, stage_of, slots_by, next_stage, IsRoundOf, AreRounds, last_round}
 use Rattle.tg_regalloc.specs.Rounds.AreRounds.{last, more}
+use Rattle.tg_regalloc.specs.laws.Growth.{blocks_rewritten, blocks_behind}
+use Rattle.tg_regalloc.specs.mirror.InFrame.{code_in_frame, instruction_in_frame}
 use Rattle.tg_regalloc.proofs.OneRound.{HasTempsBelow}
 use Rattle.tg_regalloc.proofs.RewrittenBelow.{temps_below}
-use Rattle.tg_regalloc_proof.specs.Laws.{AllocationsKeep, FramesKeep}
+use Rattle.tg_regalloc_proof.specs.laws.Laws.{AllocationsKeep, FramesKeep}
 use Rattle.tg_regalloc_proof.proofs.Painting.{each_painted, painting_keeps}
 use Rattle.tg_regalloc_proof.proofs.Rewriting.{each_rewritten, rewriting_keeps}
 use Rattle.tg_regalloc_proof.proofs.InFrame.{in_frame_keeps}

@@ -15,9 +15,9 @@ use Rattle.tg_instr.specs.Renaming.{named}
 use Rattle.tg_live.specs.Live.{uses_at, IsLiveOut}
 use Rattle.tg_live.proofs.Reach.{used_along}
 use Rattle.tg_live.proofs.Numbers.{among_all}
-use Rattle.tg_regalloc_proof.specs.Replaced.{living}
-use Rattle.tg_regalloc.specs.Below.{is_option_below}
+use Rattle.tg_regalloc_proof.specs.laws.Replaced.{living}
 use Rattle.tg_regalloc.specs.Conditions.{is_fixed}
+use Rattle.tg_regalloc.specs.glue.Below.{is_option_below}
 use Rattle.tg_regalloc.proofs.Naming.{to_below, first_below, second_below}
 use Rattle.tg_regalloc.proofs.Renamed.{here}
 use Rattle.tg_regalloc_proof.proofs.Named.{IsLow}

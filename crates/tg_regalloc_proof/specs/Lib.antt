@@ -2,5 +2,4 @@ pub mod Blocks
 pub mod Named
 pub mod Places
 pub mod Keeping
-pub mod Replaced
-pub mod Laws
+pub mod laws

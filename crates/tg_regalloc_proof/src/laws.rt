@@ -3,8 +3,8 @@ ghost use Rattle.tg_regalloc_proof.specs.Keeping.{
   KeepsCompose,
   ProgramsAreKept,
 };
-ghost use Rattle.tg_regalloc_proof.specs.Laws.{RegallocIsCorrect, AllocationsKeep, FramesKeep};
-ghost use Rattle.tg_regalloc_proof.specs.Replaced.{ReplacedKeep};
+ghost use Rattle.tg_regalloc_proof.specs.laws.Laws.{RegallocIsCorrect, AllocationsKeep, FramesKeep};
+ghost use Rattle.tg_regalloc_proof.specs.laws.Replaced.{ReplacedKeep};
 
 use tg_interference::nodes_are_operands;
 use tg_regalloc::regalloc_is_bounded;

@@ -6,8 +6,8 @@ use Rattle.std.proofs.lemmas.List.Elements.{All-contains}
 use Rattle.std.proofs.lemmas.List.Sums.{AllPass-from_list_all}
 use Rattle.tg_tree.specs.Tree.{Ts, Function}
 use Rattle.tg_tree.specs.Named.{Named, constant, named_ts}
-use Rattle.tg_runtime.specs.Routines.{runtime}
-use Rattle.tg_runtime.specs.Laws.{is_own, AreRoutines, AllAreRoutines, RuntimeHasWords}
+use Rattle.tg_runtime.specs.mirror.Routines.{runtime}
+use Rattle.tg_runtime.specs.laws.Laws.{is_own, AreRoutines, AllAreRoutines, RuntimeHasWords}
 
 pub all_are_routines : AllAreRoutines
 all_are_routines = (

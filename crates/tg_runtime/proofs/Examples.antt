@@ -11,8 +11,8 @@ use Rattle.tg_tree.specs.Units.{Trees}
 use Rattle.tg_tree.specs.Running.{tree_run}
 use Rattle.tg_runtime.specs.declared.routines.Routine.{Routine}
 use Rattle.tg_runtime.specs.declared.routines.Routine.TheVariants as routine
-use Rattle.tg_runtime.specs.Labels.{label_of}
-use Rattle.tg_runtime.specs.Routines.{runtime}
+use Rattle.tg_runtime.specs.mirror.Labels.{label_of}
+use Rattle.tg_runtime.specs.mirror.Routines.{runtime}
 
 -- literals, by their labels
 abbrev tiger : Tx

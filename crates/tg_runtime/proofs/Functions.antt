@@ -4,7 +4,7 @@ use Rattle.std.proofs.lemmas.List.{map-append}
 use Rattle.tg_tree.specs.declared.fragments.Fragment.{Fragment}
 use Rattle.tg_tree.specs.declared.fragments.Literal.{Literal}
 use Rattle.tg_tree.specs.Tree.{Ts, Function, Code}
-use Rattle.tg_tree.specs.Plain.{plain_fragment, plain_literal}
+use Rattle.tg_tree.specs.glue.Plain.{plain_fragment, plain_literal}
 
 -- one more list after those before it
 pub joined :

@@ -1,3 +1,2 @@
-pub mod Labels
-pub mod Routines
-pub mod Laws
+pub mod laws
+pub mod mirror

@@ -1,6 +1,6 @@
 ghost use Rattle.std.specs.Prelude.{◌≡◌, IfOk};
-ghost use Rattle.tg_tree.specs.Plain.{plain_ts};
-ghost use Rattle.tg_runtime.specs.Routines as routines;
+ghost use Rattle.tg_tree.specs.glue.Plain.{plain_ts};
+ghost use Rattle.tg_runtime.specs.mirror.Routines as routines;
 
 use crate::forms::{MINUS_ONE, TAKE, advance, assign, is_negative, sum, temp, walk};
 use std::alloc::Global;

@@ -1,9 +1,9 @@
 ghost use Rattle.std.specs.Prelude.{◌≡◌, IfOk, map};
-ghost use Rattle.tg_tree.specs.Plain.{plain_tx, plain_cond, plain_ts};
 ghost use Rattle.tg_tree.specs.Tree as tree;
 ghost use Rattle.tg_tree.specs.declared.operators.Bin.TheVariants.{Add as PlainAdd};
 ghost use Rattle.tg_tree.specs.declared.operators.Rel.TheVariants.{Equal as PlainEqual};
-ghost use Rattle.tg_runtime.specs.Routines as routines;
+ghost use Rattle.tg_tree.specs.glue.Plain.{plain_tx, plain_cond, plain_ts};
+ghost use Rattle.tg_runtime.specs.mirror.Routines as routines;
 
 use std::alloc::Global;
 use tg_base::{Memory, Temp};

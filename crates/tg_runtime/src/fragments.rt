@@ -1,7 +1,7 @@
 ghost use Rattle.std.specs.Prelude.{◌≡◌, ◌≤◌, IfOk, length, map};
 ghost use Rattle.tg_frame.specs.Homes.{temps_of};
-ghost use Rattle.tg_tree.specs.Plain.{plain_ts, plain_fragment, plain_fragments};
-ghost use Rattle.tg_runtime.specs.Routines as routines;
+ghost use Rattle.tg_tree.specs.glue.Plain.{plain_ts, plain_fragment, plain_fragments};
+ghost use Rattle.tg_runtime.specs.mirror.Routines as routines;
 
 use crate::creation::{make_array, make_record};
 use crate::routines::Routine;

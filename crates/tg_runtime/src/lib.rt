@@ -2,7 +2,7 @@
 //!
 //! What makes records, arrays and strings, the comparison of strings, and the standard functions,
 //! as trees that go through the same passes as a program's own functions. Promises exactly the
-//! functions of `specs/Routines.antt`.
+//! functions of `specs/mirror/Routines.antt`.
 #![tactic(auto)]
 
 mod creation;

@@ -1,5 +1,5 @@
 ghost use Rattle.std.specs.Prelude.{◌≡◌};
-ghost use Rattle.tg_runtime.specs.Labels.{label_of};
+ghost use Rattle.tg_runtime.specs.mirror.Labels.{label_of};
 
 use tg_base::Label;
 

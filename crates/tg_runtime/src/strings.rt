@@ -1,6 +1,6 @@
 ghost use Rattle.std.specs.Prelude.{◌≡◌, IfOk};
-ghost use Rattle.tg_tree.specs.Plain.{plain_tx, plain_cond, plain_ts};
-ghost use Rattle.tg_runtime.specs.Routines as routines;
+ghost use Rattle.tg_tree.specs.glue.Plain.{plain_tx, plain_cond, plain_ts};
+ghost use Rattle.tg_runtime.specs.mirror.Routines as routines;
 
 use crate::forms::{
     MINUS_ONE, advance, assign, byte_at, bytes_of, compare_temps, copy_bytes, copy_words,

@@ -7,7 +7,7 @@ use Rattle.tg_state.specs.State.{heap_base}
 use Rattle.tg_state.specs.Services.{whole_words}
 use Rattle.tg_simulation.specs.Runs.{Run}
 use Rattle.tg_simulation.specs.Ran.{Ran, Ended}
-use Rattle.tg_simulation.specs.Simulating.{Comes}
+use Rattle.tg_simulation.specs.laws.Simulating.{Comes}
 use Rattle.tg_simulation.proofs.Simulations.{comes_itself, comes_working, comes_writing}
 use Rattle.tg_tree.specs.declared.operators.Rel.{Rel}
 use Rattle.tg_tree.specs.Tree as tree
@@ -20,9 +20,9 @@ use Rattle.tg_tree.specs.Actions.{World, Temps, set_temp, Around, Go, Next, over
 use Rattle.tg_tree.specs.Actions.{read_byte}
 use Rattle.tg_tree.specs.Meaning.{run_all}
 use Rattle.tg_tree.proofs.Alikes.{next_is}
-use Rattle.tg_runtime.specs.Routines.{minus_one}
+use Rattle.tg_runtime.specs.mirror.Routines.{minus_one}
 use Rattle.tg_runtime_proof.specs.Settings.{Setting, does, heads}
-use Rattle.tg_runtime_proof.specs.Serving.{first_of, with_input}
+use Rattle.tg_runtime_proof.specs.laws.Serving.{first_of, with_input}
 use Rattle.tg_runtime_proof.proofs.Coming.{comes_along, comes_within, value_comes, choice_comes, compare_comes}
 use Rattle.tg_runtime_proof.proofs.Coming.{is_word, units, tests, value_of}
 

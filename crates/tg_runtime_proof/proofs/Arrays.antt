@@ -11,7 +11,7 @@ use Rattle.tg_state.specs.Services.{whole_words}
 use Rattle.tg_state.specs.State.{heap_base}
 use Rattle.tg_simulation.specs.Runs.{Run}
 use Rattle.tg_simulation.specs.Ran.{Ran, Ended}
-use Rattle.tg_simulation.specs.Simulating.{Comes}
+use Rattle.tg_simulation.specs.laws.Simulating.{Comes}
 use Rattle.tg_simulation.proofs.Simulations.{comes_itself}
 use Rattle.tg_tree.specs.declared.operators.Bin.TheVariants.{Add, ShiftLeft}
 use Rattle.tg_tree.specs.declared.operators.Rel.TheVariants.{Less, NotBelow}
@@ -23,10 +23,10 @@ use Rattle.tg_tree.specs.FlatValue.{or_wrong}
 use Rattle.tg_tree.specs.Actions.{World, Temps, set_temp, Around, Next, over, leaving}
 use Rattle.tg_tree.specs.Running.{no_temps}
 use Rattle.tg_runtime.specs.declared.routines.Routine.TheVariants as routine
-use Rattle.tg_runtime.specs.Routines.{make_array, plus, minus_one, advance}
+use Rattle.tg_runtime.specs.mirror.Routines.{make_array, plus, minus_one, advance}
 use Rattle.tg_runtime_proof.specs.Memories.{elements_block, array_block}
 use Rattle.tg_runtime_proof.specs.Settings.{Setting, does}
-use Rattle.tg_runtime_proof.specs.Serving.{Serves, Makes, with_block}
+use Rattle.tg_runtime_proof.specs.laws.Serving.{Serves, Makes, with_block}
 use Rattle.tg_runtime_proof.proofs.Coming.{return_comes, store_comes, move_comes, advance_comes, comes_within}
 use Rattle.tg_runtime_proof.proofs.Acting.{after, rest, sequence_of, chosen_comes, passed_comes, fault_comes}
 use Rattle.tg_runtime_proof.proofs.Acting.{take_comes, full_comes, full_done, grown}

@@ -6,16 +6,16 @@ use Rattle.tg_base.specs.Words.{add}
 use Rattle.tg_state.specs.State.{heap_base}
 use Rattle.tg_simulation.specs.Runs.{Run}
 use Rattle.tg_simulation.specs.Ran.{Ran, Ended}
-use Rattle.tg_simulation.specs.Simulating.{Comes}
+use Rattle.tg_simulation.specs.laws.Simulating.{Comes}
 use Rattle.tg_tree.specs.Tree.{Const, Temp}
 use Rattle.tg_tree.specs.Operators.{word}
 use Rattle.tg_tree.specs.FlatValue.{or_wrong}
 use Rattle.tg_tree.specs.Actions.{World, Temps, set_temp, Around, Next, over}
-use Rattle.tg_runtime.specs.Routines.{bytes_of, take_string, string_of_byte}
+use Rattle.tg_runtime.specs.mirror.Routines.{bytes_of, take_string, string_of_byte}
 use Rattle.tg_tree.specs.Memory.{string_block}
 use Rattle.tg_runtime_proof.specs.Memories.{IsMemory}
 use Rattle.tg_runtime_proof.specs.Settings.{Setting, does}
-use Rattle.tg_runtime_proof.specs.Serving.{with_block}
+use Rattle.tg_runtime_proof.specs.laws.Serving.{with_block}
 use Rattle.tg_runtime_proof.proofs.Coming.{comes_within, store_comes, store_byte_comes}
 use Rattle.tg_runtime_proof.proofs.Acting.{rest, sequence_of, take_comes, full_comes}
 use Rattle.tg_runtime_proof.proofs.Memories.{blocked, store_in_block, store_byte_in_block}

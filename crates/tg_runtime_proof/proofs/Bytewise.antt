@@ -8,7 +8,7 @@ use Rattle.tg_base.specs.Words.{add}
 use Rattle.tg_state.specs.State.{heap_base}
 use Rattle.tg_simulation.specs.Runs.{Run}
 use Rattle.tg_simulation.specs.Ran.{Ran, Ended}
-use Rattle.tg_simulation.specs.Simulating.{Comes}
+use Rattle.tg_simulation.specs.laws.Simulating.{Comes}
 use Rattle.tg_simulation.proofs.Simulations.{comes_itself}
 use Rattle.tg_semantics.specs.Operators.{is_below}
 use Rattle.tg_tree.specs.declared.operators.Rel.TheVariants.{Equal, NotBelow}
@@ -19,10 +19,10 @@ use Rattle.tg_tree.specs.FlatValue.{or_wrong}
 use Rattle.tg_tree.specs.Actions.{World, Temps, set_temp, Next, over}
 use Rattle.tg_tree.specs.Running.{no_temps}
 use Rattle.tg_runtime.specs.declared.routines.Routine.TheVariants as routine
-use Rattle.tg_runtime.specs.Routines.{minus_one, ord, chr, bytes_of, string_of_byte}
+use Rattle.tg_runtime.specs.mirror.Routines.{minus_one, ord, chr, bytes_of, string_of_byte}
 use Rattle.tg_runtime_proof.specs.Memories.{IsStringAt}
 use Rattle.tg_runtime_proof.specs.Settings.{does}
-use Rattle.tg_runtime_proof.specs.Serving.{Serves, Makes, first_of, with_block}
+use Rattle.tg_runtime_proof.specs.laws.Serving.{Serves, Makes, first_of, with_block}
 use Rattle.tg_runtime_proof.proofs.Coming.{return_comes, comes_within}
 use Rattle.tg_runtime_proof.proofs.Acting.{rest, sequence_of, chosen_comes, passed_comes, fault_comes}
 use Rattle.tg_runtime_proof.proofs.Strings.{string_length, string_byte, string_ends}

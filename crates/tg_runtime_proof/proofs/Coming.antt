@@ -3,7 +3,7 @@ use Rattle.std.proofs.Common.{◌≡◌, ℕ, zero, suc, ◌+◌, ◌≤◌, Opt
 use Rattle.std.specs.Prelude.{Bool, if◌then◌else◌}
 use Rattle.tg_simulation.specs.Runs.{Run}
 use Rattle.tg_simulation.specs.Ran.{Ran, works}
-use Rattle.tg_simulation.specs.Simulating.{Comes}
+use Rattle.tg_simulation.specs.laws.Simulating.{Comes}
 use Rattle.tg_simulation.proofs.Simulations.{comes_working}
 use Rattle.tg_base.specs.Words.{add}
 use Rattle.tg_tree.specs.declared.operators.Bin.TheVariants.{Add}
@@ -22,7 +22,7 @@ use Rattle.tg_tree.specs.Running.{with_fuel}
 use Rattle.tg_tree.proofs.Alikes.{next_is}
 use Rattle.tg_tree.proofs.Flatness.{flat_tested}
 use Rattle.tg_tree.proofs.FlatValues.{flat_runs, word_spends}
-use Rattle.tg_runtime.specs.Routines.{plus, advance}
+use Rattle.tg_runtime.specs.mirror.Routines.{plus, advance}
 use Rattle.tg_runtime_proof.specs.Settings.{Setting, heads, does, Steps}
 
 -- equal runs come alike

@@ -8,7 +8,7 @@ use Rattle.std.proofs.lemmas.List.{drop_more, drop_all}
 use Rattle.tg_base.specs.Words.{add, less}
 use Rattle.tg_simulation.specs.Runs.{Run}
 use Rattle.tg_simulation.specs.Ran.{Ran}
-use Rattle.tg_simulation.specs.Simulating.{Comes}
+use Rattle.tg_simulation.specs.laws.Simulating.{Comes}
 use Rattle.tg_simulation.proofs.Simulations.{comes_itself}
 use Rattle.tg_semantics.specs.Operators.{string_less}
 use Rattle.tg_tree.specs.declared.operators.Bin.TheVariants.{Add}
@@ -21,10 +21,10 @@ use Rattle.tg_tree.specs.FlatValue.{or_wrong}
 use Rattle.tg_tree.specs.Actions.{World, Temps, set_temp, Around, Next, leaving}
 use Rattle.tg_tree.specs.Running.{no_temps}
 use Rattle.tg_runtime.specs.declared.routines.Routine.TheVariants as routine
-use Rattle.tg_runtime.specs.Routines.{compare, compare_bytes, common_end, minus_one, advance, bytes_of}
+use Rattle.tg_runtime.specs.mirror.Routines.{compare, compare_bytes, common_end, minus_one, advance, bytes_of}
 use Rattle.tg_runtime_proof.specs.Memories.{IsStringAt}
 use Rattle.tg_runtime_proof.specs.Settings.{Setting, does}
-use Rattle.tg_runtime_proof.specs.Serving.{Serves, order_of}
+use Rattle.tg_runtime_proof.specs.laws.Serving.{Serves, order_of}
 use Rattle.tg_runtime_proof.proofs.Coming.{return_comes, move_comes, advance_comes, loaded, loaded_byte, summed}
 use Rattle.tg_runtime_proof.proofs.Coming.{comes_within, is_word}
 use Rattle.tg_runtime_proof.proofs.Acting.{after, behind, rest, sequence_of, chosen_comes, other_comes, passed_comes}

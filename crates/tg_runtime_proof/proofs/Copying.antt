@@ -9,16 +9,16 @@ use Rattle.tg_state.specs.Services.{whole_words}
 use Rattle.tg_state.specs.State.{heap_base}
 use Rattle.tg_simulation.specs.Runs.{Run}
 use Rattle.tg_simulation.specs.Ran.{Ran, Ended}
-use Rattle.tg_simulation.specs.Simulating.{Comes}
+use Rattle.tg_simulation.specs.laws.Simulating.{Comes}
 use Rattle.tg_tree.specs.Tree.{Const, Temp, Load, LoadByte, Ts, Store, StoreByte}
 use Rattle.tg_tree.specs.Forms.{stms}
 use Rattle.tg_tree.specs.Memory.{Memory, load, load_byte, store, store_byte}
 use Rattle.tg_tree.specs.FlatValue.{or_wrong}
 use Rattle.tg_tree.specs.Actions.{World, Temps, set_temp, Around, Next, over}
-use Rattle.tg_runtime.specs.Routines.{plus, advance, take_string}
+use Rattle.tg_runtime.specs.mirror.Routines.{plus, advance, take_string}
 use Rattle.tg_runtime_proof.specs.Memories.{IsMemory}
 use Rattle.tg_runtime_proof.specs.Settings.{Setting, does}
-use Rattle.tg_runtime_proof.specs.Serving.{with_block}
+use Rattle.tg_runtime_proof.specs.laws.Serving.{with_block}
 use Rattle.tg_runtime_proof.proofs.Coming.{store_comes, store_byte_comes, advance_comes, loaded, loaded_byte}
 use Rattle.tg_runtime_proof.proofs.Coming.{summed, comes_within}
 use Rattle.tg_runtime_proof.proofs.Acting.{after, behind, rest, sequence_of, take_comes, full_comes, grown}

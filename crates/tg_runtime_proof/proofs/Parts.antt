@@ -10,7 +10,7 @@ use Rattle.tg_base.specs.Words.{add, sub, is_negative, less}
 use Rattle.tg_state.specs.State.{heap_base}
 use Rattle.tg_simulation.specs.Runs.{Run}
 use Rattle.tg_simulation.specs.Ran.{Ran, Ended}
-use Rattle.tg_simulation.specs.Simulating.{Comes}
+use Rattle.tg_simulation.specs.laws.Simulating.{Comes}
 use Rattle.tg_simulation.proofs.Simulations.{comes_itself}
 use Rattle.tg_tree.specs.declared.operators.Bin.TheVariants.{Add, Sub}
 use Rattle.tg_tree.specs.declared.operators.Rel.TheVariants.{Less, Greater}
@@ -22,11 +22,11 @@ use Rattle.tg_tree.specs.FlatValue.{or_wrong, onward}
 use Rattle.tg_tree.specs.Actions.{World, Temps, set_temp, Around, Next, over, leaving}
 use Rattle.tg_tree.specs.Running.{no_temps}
 use Rattle.tg_runtime.specs.declared.routines.Routine.TheVariants as routine
-use Rattle.tg_runtime.specs.Routines as code
-use Rattle.tg_runtime.specs.Routines.{substring, plus, advance, take_string, bytes_of}
+use Rattle.tg_runtime.specs.mirror.Routines as code
+use Rattle.tg_runtime.specs.mirror.Routines.{substring, plus, advance, take_string, bytes_of}
 use Rattle.tg_runtime_proof.specs.Memories.{IsStringAt}
 use Rattle.tg_runtime_proof.specs.Settings.{Setting, does}
-use Rattle.tg_runtime_proof.specs.Serving.{Serves, Makes, is_outside, with_block}
+use Rattle.tg_runtime_proof.specs.laws.Serving.{Serves, Makes, is_outside, with_block}
 use Rattle.tg_runtime_proof.proofs.Coming.{return_comes, move_comes, comes_within}
 use Rattle.tg_runtime_proof.proofs.Acting.{after, rest, sequence_of, fault_comes, IsTested, compare_tested}
 use Rattle.tg_runtime_proof.proofs.Acting.{either_tested, tested_comes, failed_comes}

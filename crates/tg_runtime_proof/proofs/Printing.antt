@@ -5,7 +5,7 @@ use Rattle.std.proofs.lemmas.List.{drop_more, drop_all}
 use Rattle.tg_base.specs.Words.{add}
 use Rattle.tg_simulation.specs.Runs.{Run}
 use Rattle.tg_simulation.specs.Ran.{Ran}
-use Rattle.tg_simulation.specs.Simulating.{Comes}
+use Rattle.tg_simulation.specs.laws.Simulating.{Comes}
 use Rattle.tg_simulation.proofs.Simulations.{comes_itself}
 use Rattle.tg_tree.specs.declared.operators.Bin.TheVariants.{Add}
 use Rattle.tg_tree.specs.Tree.{Const, Temp, Binary, Load, LoadByte, Service, Ts, Do}
@@ -15,10 +15,10 @@ use Rattle.tg_tree.specs.Memory.{load_byte}
 use Rattle.tg_tree.specs.Actions.{World, Temps, set_temp, Around, Next, leaving, written}
 use Rattle.tg_tree.specs.Running.{no_temps}
 use Rattle.tg_runtime.specs.declared.routines.Routine.TheVariants as routine
-use Rattle.tg_runtime.specs.Routines.{print, advance, bytes_of}
+use Rattle.tg_runtime.specs.mirror.Routines.{print, advance, bytes_of}
 use Rattle.tg_runtime_proof.specs.Memories.{IsStringAt}
 use Rattle.tg_runtime_proof.specs.Settings.{Setting, does}
-use Rattle.tg_runtime_proof.specs.Serving.{Serves}
+use Rattle.tg_runtime_proof.specs.laws.Serving.{Serves}
 use Rattle.tg_runtime_proof.proofs.Coming.{return_comes, move_comes, advance_comes, summed, loaded, loaded_byte}
 use Rattle.tg_runtime_proof.proofs.Coming.{comes_within}
 use Rattle.tg_runtime_proof.proofs.Acting.{after, behind, rest, sequence_of, write_comes}

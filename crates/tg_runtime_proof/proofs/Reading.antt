@@ -5,17 +5,17 @@ use Rattle.tg_state.specs.declared.ends.RunEnd.TheVariants.{HeapFull}
 use Rattle.tg_state.specs.State.{heap_base}
 use Rattle.tg_simulation.specs.Runs.{Run}
 use Rattle.tg_simulation.specs.Ran.{Ran, Ended}
-use Rattle.tg_simulation.specs.Simulating.{Comes}
+use Rattle.tg_simulation.specs.laws.Simulating.{Comes}
 use Rattle.tg_simulation.proofs.Simulations.{comes_itself}
 use Rattle.tg_tree.specs.declared.operators.Rel.TheVariants.{Less}
 use Rattle.tg_tree.specs.Tree.{Const, Temp, Ts}
 use Rattle.tg_tree.specs.Actions.{World, set_temp, Next, over}
 use Rattle.tg_tree.specs.Running.{no_temps}
 use Rattle.tg_runtime.specs.declared.routines.Routine.TheVariants as routine
-use Rattle.tg_runtime.specs.Routines.{minus_one, getchar, take_string, string_of_byte}
+use Rattle.tg_runtime.specs.mirror.Routines.{minus_one, getchar, take_string, string_of_byte}
 use Rattle.tg_tree.specs.Memory.{string_block}
 use Rattle.tg_runtime_proof.specs.Settings.{does}
-use Rattle.tg_runtime_proof.specs.Serving.{Makes, first_of, with_block, with_input}
+use Rattle.tg_runtime_proof.specs.laws.Serving.{Makes, first_of, with_block, with_input}
 use Rattle.tg_runtime_proof.proofs.Coming.{return_comes, comes_within}
 use Rattle.tg_runtime_proof.proofs.Acting.{rest, sequence_of, chosen_comes, other_comes, read_comes}
 use Rattle.tg_runtime_proof.proofs.Signs.{not_negative}

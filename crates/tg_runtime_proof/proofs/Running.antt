@@ -14,9 +14,9 @@ use Rattle.tg_tree.specs.Memory.{Memory, Closed, Has, load, load_byte, string_bl
 use Rattle.tg_tree.specs.Running.{enter, going, function_of}
 use Rattle.tg_tree.specs.Links.{LinkedPoint, linked_going, enter_linked}
 use Rattle.tg_tree.proofs.TreeRuns.{trees_step}
-use Rattle.tg_runtime.specs.Routines.{runtime}
+use Rattle.tg_runtime.specs.mirror.Routines.{runtime}
 use Rattle.tg_runtime_proof.specs.Settings.{RunsBySteps, HasRuntime}
-use Rattle.tg_runtime_proof.specs.Serving.{TreesAreServed, LinkedAreServed, trees_host, linked_host}
+use Rattle.tg_runtime_proof.specs.laws.Serving.{TreesAreServed, LinkedAreServed, trees_host, linked_host}
 use Rattle.tg_tree.proofs.Linked.{linked_own}
 use Rattle.tg_runtime_proof.proofs.Whole.{runtime_is_correct}
 

@@ -6,18 +6,18 @@ use Rattle.tg_frame.specs.declared.accesses.Access.{Access}
 use Rattle.tg_frame.specs.declared.accesses.Access.TheVariants.{InTemp}
 use Rattle.tg_simulation.specs.Runs.{Run}
 use Rattle.tg_simulation.specs.Ran.{Ran, Ended}
-use Rattle.tg_simulation.specs.Simulating.{Comes}
+use Rattle.tg_simulation.specs.laws.Simulating.{Comes}
 use Rattle.tg_tree.specs.Tree.{Ts, Function}
 use Rattle.tg_tree.specs.Units.{marked_entry_units}
 use Rattle.tg_tree.specs.Actions.{World, Temps, Around, Back, Next, wrong, over}
 use Rattle.tg_tree.specs.Meaning.{Enter, Point}
 use Rattle.tg_tree.specs.Running.{no_temps, outermost, function_of, body_point}
 use Rattle.tg_runtime.specs.declared.routines.Routine.{Routine}
-use Rattle.tg_runtime.specs.Labels.{label_of}
-use Rattle.tg_runtime.specs.Routines.{runtime}
+use Rattle.tg_runtime.specs.mirror.Labels.{label_of}
+use Rattle.tg_runtime.specs.mirror.Routines.{runtime}
 use Rattle.tg_runtime_proof.specs.Memories.{IsMemory}
 use Rattle.tg_runtime_proof.specs.Settings.{Setting, does, Steps, Host, setting_of, HasRuntime, RunsBySteps}
-use Rattle.tg_runtime_proof.specs.Serving.{Serves, Makes, call_units, turn_units, with_block}
+use Rattle.tg_runtime_proof.specs.laws.Serving.{Serves, Makes, call_units, turn_units, with_block}
 use Rattle.tg_runtime_proof.proofs.Coming.{comes_along, comes_within}
 use Rattle.tg_runtime_proof.proofs.Calling.{call_comes, placed_world, placed_temps}
 

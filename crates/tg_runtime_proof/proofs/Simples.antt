@@ -10,7 +10,7 @@ use Rattle.tg_state.specs.Services.{whole_words}
 use Rattle.tg_state.specs.State.{heap_base}
 use Rattle.tg_simulation.specs.Runs.{Run}
 use Rattle.tg_simulation.specs.Ran.{Ran, Ended}
-use Rattle.tg_simulation.specs.Simulating.{Comes}
+use Rattle.tg_simulation.specs.laws.Simulating.{Comes}
 use Rattle.tg_simulation.proofs.Simulations.{comes_itself, comes_working}
 use Rattle.tg_semantics.specs.Operators.{record_bytes}
 use Rattle.tg_tree.specs.declared.operators.Rel.TheVariants.{Equal}
@@ -20,9 +20,9 @@ use Rattle.tg_tree.specs.FlatValue.{or_wrong}
 use Rattle.tg_tree.specs.Actions.{World, Temps, set_temp, Go, Next, over}
 use Rattle.tg_tree.specs.Running.{no_temps}
 use Rattle.tg_runtime.specs.declared.routines.Routine.TheVariants as routine
-use Rattle.tg_runtime.specs.Routines as code
+use Rattle.tg_runtime.specs.mirror.Routines as code
 use Rattle.tg_runtime_proof.specs.Memories.{IsStringAt}
-use Rattle.tg_runtime_proof.specs.Serving.{Serves, Makes, with_block}
+use Rattle.tg_runtime_proof.specs.laws.Serving.{Serves, Makes, with_block}
 use Rattle.tg_runtime_proof.proofs.Coming.{return_comes, comes_within}
 use Rattle.tg_runtime_proof.proofs.Acting.{rest, sequence_of, chosen_comes, passed_comes, service_comes}
 use Rattle.tg_runtime_proof.proofs.Acting.{taken_comes, heap_full, grown}

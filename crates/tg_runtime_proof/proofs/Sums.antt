@@ -10,7 +10,7 @@ use Rattle.tg_base.specs.Words.{add, shift_left, shift_right}
 use Rattle.tg_state.specs.State.{heap_base, most_room, word_at}
 use Rattle.tg_simulation.specs.Runs.{Run}
 use Rattle.tg_simulation.specs.Ran.{Ran, Ended}
-use Rattle.tg_simulation.specs.Simulating.{Comes}
+use Rattle.tg_simulation.specs.laws.Simulating.{Comes}
 use Rattle.tg_simulation.proofs.Simulations.{comes_itself}
 use Rattle.tg_tree.specs.declared.operators.Bin.TheVariants.{Add, ShiftLeft, ShiftRight}
 use Rattle.tg_tree.specs.Tree.{Const, Temp, Load, LoadByte, Binary, Ts, Store, StoreByte}
@@ -21,11 +21,11 @@ use Rattle.tg_tree.specs.FlatValue.{or_wrong, onward}
 use Rattle.tg_tree.specs.Actions.{World, Temps, set_temp, Around, Next, over, leaving}
 use Rattle.tg_tree.specs.Running.{no_temps}
 use Rattle.tg_runtime.specs.declared.routines.Routine.TheVariants as routine
-use Rattle.tg_runtime.specs.Routines as code
-use Rattle.tg_runtime.specs.Routines.{concat, begin_with, append, plus, advance, take_string, bytes_of}
+use Rattle.tg_runtime.specs.mirror.Routines as code
+use Rattle.tg_runtime.specs.mirror.Routines.{concat, begin_with, append, plus, advance, take_string, bytes_of}
 use Rattle.tg_runtime_proof.specs.Memories.{IsStringAt}
 use Rattle.tg_runtime_proof.specs.Settings.{Setting, does}
-use Rattle.tg_runtime_proof.specs.Serving.{Makes, with_block}
+use Rattle.tg_runtime_proof.specs.laws.Serving.{Makes, with_block}
 use Rattle.tg_runtime_proof.proofs.Coming.{return_comes, move_comes, loaded, summed, is_word, comes_within}
 use Rattle.tg_runtime_proof.proofs.Acting.{after, rest, sequence_of}
 use Rattle.tg_runtime_proof.proofs.Walking.{Walk, walk_comes}

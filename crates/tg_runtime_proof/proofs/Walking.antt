@@ -5,7 +5,7 @@ use Rattle.std.proofs.Common.{arith, subst, eq-eqb, ne_eqb}
 use Rattle.std.specs.Prelude.{not}
 use Rattle.tg_simulation.specs.Runs.{Run}
 use Rattle.tg_simulation.specs.Ran.{Ran, stops, WantsFuel}
-use Rattle.tg_simulation.specs.Simulating.{Comes}
+use Rattle.tg_simulation.specs.laws.Simulating.{Comes}
 use Rattle.tg_simulation.proofs.Simulations.{comes_working, comes_turn}
 use Rattle.tg_tree.specs.declared.operators.Rel.TheVariants.{Equal, NotEqual}
 use Rattle.tg_tree.specs.Tree.{Temp, Ts, Break, Compare}
@@ -13,7 +13,7 @@ use Rattle.tg_tree.specs.Forms.{stms, sequence, when, repeat_until, nothing}
 use Rattle.tg_tree.specs.FlatValue.{or_wrong}
 use Rattle.tg_tree.specs.Actions.{World, Temps, Around, Next, leaving}
 use Rattle.tg_tree.specs.Running.{with_fuel}
-use Rattle.tg_runtime.specs.Routines.{walk}
+use Rattle.tg_runtime.specs.mirror.Routines.{walk}
 use Rattle.tg_runtime_proof.specs.Settings.{Setting, does, Steps}
 use Rattle.tg_runtime_proof.proofs.Coming.{turn_comes, comes_along, comes_within}
 use Rattle.tg_runtime_proof.proofs.Acting.{after, after_last, sequence_comes, chosen_comes, passed_comes}

@@ -1,7 +1,7 @@
 -- The runtime serves: each of its functions does what its standard function does.
 use Rattle.tg_tree.specs.Actions.{World}
 use Rattle.tg_runtime_proof.specs.Settings.{Host, RunsBySteps}
-use Rattle.tg_runtime_proof.specs.Serving.{MayCall, RuntimeIsCorrect}
+use Rattle.tg_runtime_proof.specs.laws.Serving.{MayCall, RuntimeIsCorrect}
 use Rattle.tg_runtime_proof.proofs.Serves.{Situation}
 use Rattle.tg_runtime_proof.proofs.Simples as simples
 use Rattle.tg_runtime_proof.proofs.Arrays as arrays

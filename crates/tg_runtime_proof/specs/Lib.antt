@@ -1,3 +1,3 @@
 pub mod Memories
 pub mod Settings
-pub mod Serving
+pub mod laws

@@ -7,7 +7,7 @@ use Rattle.tg_tree.specs.Units.{Trees}
 use Rattle.tg_tree.specs.Actions.{World, Temps, Around, Next}
 use Rattle.tg_tree.specs.Meaning.{Enter, Point, run}
 use Rattle.tg_tree.specs.Running.{Runner, with_fuel, function_of, body_point}
-use Rattle.tg_runtime.specs.Routines.{runtime}
+use Rattle.tg_runtime.specs.mirror.Routines.{runtime}
 
 -- What a body runs over, for any calls and any way to go on from a point: a run with static links
 -- has others than a run without.

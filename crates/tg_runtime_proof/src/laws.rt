@@ -1,4 +1,8 @@
-ghost use Rattle.tg_runtime_proof.specs.Serving.{LinkedAreServed, RuntimeIsCorrect, TreesAreServed};
+ghost use Rattle.tg_runtime_proof.specs.laws.Serving.{
+  LinkedAreServed,
+  RuntimeIsCorrect,
+  TreesAreServed,
+};
 
 /// The runtime serves: each of its functions does what the standard function (or the creation of an
 /// object) of its name does, in any code that has it and for frames of any size.

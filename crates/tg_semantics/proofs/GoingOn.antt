@@ -9,7 +9,7 @@ use Rattle.tg_semantics.specs.Evaluation.{eval, meaning, Job}
 use Rattle.tg_semantics.specs.Direct.{RunState, Result, gives, breaks, is_over, Direct, after, after_body, returned, fuelled, found, changed}
 use Rattle.tg_semantics.specs.Direct.{first_past, past_limit}
 use Rattle.tg_semantics.specs.Direct.{direct, told_outcome, outcome}
-use Rattle.tg_semantics.specs.Laws.{OutcomeGoesOn, so_far, NothingIsTakenBack}
+use Rattle.tg_semantics.specs.laws.Laws.{OutcomeGoesOn, so_far, NothingIsTakenBack}
 use Rattle.tg_semantics.proofs.Related.{Related, eval_same, meaning_same}
 
 pub goes_on : (o : Outcome Ending) → OutcomeGoesOn o o

@@ -10,7 +10,7 @@ use Rattle.tg_semantics.specs.Environments.{outermost_entries}
 use Rattle.tg_semantics.specs.Evaluation.{meaning, program, Job}
 use Rattle.tg_semantics.specs.Direct.{RunState, Result, gives, breaks, is_over, Direct, after, after_body, returned, fuelled, found, changed, direct, begin}
 use Rattle.tg_semantics.specs.Direct.{told_outcome, outcome, evaluate}
-use Rattle.tg_semantics.specs.Laws.{OutcomeGoesOn, so_far, MoreFuelIsIdle, MoreFuelGoesOn, HasOneOutcome}
+use Rattle.tg_semantics.specs.laws.Laws.{OutcomeGoesOn, so_far, MoreFuelIsIdle, MoreFuelGoesOn, HasOneOutcome}
 use Rattle.tg_semantics.proofs.Related.{Related, run_same, run_program_same}
 use Rattle.tg_semantics.proofs.GoingOn.{goes_on, whatever_end, now, Keeps, after_keeps, loop_keeps, returned_keeps, fuelled_keeps, all_keep, meaning_keeps}
 

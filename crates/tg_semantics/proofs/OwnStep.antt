@@ -7,7 +7,7 @@ use Rattle.tg_simulation.proofs.Fixpoint.{IsOwnStep}
 use Rattle.tg_semantics.specs.Values.{Value, Ending, SourceWorld}
 use Rattle.tg_semantics.specs.Evaluation.{Job, run}
 use Rattle.tg_semantics.specs.Passing.{Rest, Passing, passing}
-use Rattle.tg_semantics.specs.Laws.{behind}
+use Rattle.tg_semantics.specs.laws.Laws.{behind}
 use Rattle.tg_semantics.proofs.Unfolding.{fuel_unfolds}
 
 pub record Point : Type 0 where

@@ -6,7 +6,7 @@ use Rattle.tg_semantics.specs.Values.{Value, normal, by_heap, SourceWorld, initi
 use Rattle.tg_semantics.specs.Environments.{outermost_entries}
 use Rattle.tg_semantics.specs.Evaluation.{meaning, Job}
 use Rattle.tg_semantics.specs.Passing.{Rest, Passing, ends, with_turn, with_found, passing}
-use Rattle.tg_semantics.specs.Laws.{behind, FuelUnfolds, ProgramUnfolds}
+use Rattle.tg_semantics.specs.laws.Laws.{behind, FuelUnfolds, ProgramUnfolds}
 use Rattle.tg_semantics.proofs.Related.{Related, run_same, run_program_same}
 
 -- two runs that agree with at most k units of fuel

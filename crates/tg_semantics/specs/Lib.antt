@@ -7,4 +7,4 @@ pub mod Evaluation
 pub mod Direct
 pub mod Passing
 pub mod MachineEnds
-pub mod Laws
+pub mod laws

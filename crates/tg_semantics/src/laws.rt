@@ -1,5 +1,5 @@
 ghost use Rattle.tg_semantics.specs.MachineEnds.{TurnsAsSource, NoEndingIsFull, OnlyStuckIsStuck};
-ghost use Rattle.tg_semantics.specs.Laws.{
+ghost use Rattle.tg_semantics.specs.laws.Laws.{
   FormsAgree,
   NothingIsTakenBack,
   MoreFuelIsIdle,

@@ -9,7 +9,7 @@ use Rattle.tg_simulation.specs.Preserving.{DoesTheSame, Preserves}
 use Rattle.tg_simulation.specs.Outcomes.{End, ended, out_of_fuel, stuck}
 use Rattle.tg_simulation.specs.Bytes.{IsPrefix, least_frame}
 use Rattle.tg_simulation.specs.Agreement.{Source, Fits, Matches, same, cut, unsaid, Follows, IsCut, IsSame, Ends, Agrees, FillsStack}
-use Rattle.tg_simulation.specs.Laws.{NeverEndsFull, NeverStuck}
+use Rattle.tg_simulation.specs.laws.Laws.{NeverEndsFull, NeverStuck}
 
 spread : (k a b x : ℕ) → k * (a * x + b) ≡ k * a * x + k * b
 spread k a b x = mul-add k (a * x) b ∙ ap (λ y. y + k * b) (sym (mul_assoc k a x))

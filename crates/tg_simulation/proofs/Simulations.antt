@@ -5,7 +5,7 @@ use Rattle.tg_simulation.specs.Runs.{Run, turn}
 use Rattle.tg_simulation.specs.Ran.{Ran, Stop, WantsFuel, Wrong, stops, writes, works}
 use Rattle.tg_simulation.specs.Preserving.{DoesTheSame, Preserves}
 use Rattle.tg_simulation.specs.Agreement.{Source, Matches, Follows}
-use Rattle.tg_simulation.specs.Simulating.{Simulates, Comes}
+use Rattle.tg_simulation.specs.laws.Simulating.{Simulates, Comes}
 use Rattle.tg_simulation.proofs.Following.{match_works, match_credit}
 
 pub simulation_preserves : (a b : ℕ) (c d : Run Ran) → ((n : ℕ) → Simulates a b n c d) → Preserves a b c d

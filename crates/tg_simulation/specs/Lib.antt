@@ -4,5 +4,4 @@ pub mod Ran
 pub mod Outcomes
 pub mod Preserving
 pub mod Agreement
-pub mod Simulating
-pub mod Laws
+pub mod laws

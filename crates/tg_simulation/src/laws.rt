@@ -1,4 +1,4 @@
-ghost use Rattle.tg_simulation.specs.Laws.{
+ghost use Rattle.tg_simulation.specs.laws.Laws.{
   PassesCompose,
   FollowingAgrees,
   FollowingFills,
@@ -17,7 +17,7 @@ ghost use Rattle.tg_simulation.specs.Laws.{
   FollowsWithCredit,
   FollowsAlong,
 };
-ghost use Rattle.tg_simulation.specs.Simulating.{
+ghost use Rattle.tg_simulation.specs.laws.Simulating.{
   SimulationPreserves,
   SimulatesStopping,
   SimulatesWriting,

@@ -18,20 +18,20 @@ use Rattle.tg_types.specs.declared.notes.Means.{Means}
 use Rattle.tg_tree.specs.Tree as tree
 use Rattle.tg_tree.specs.Tree.{Tx, Const, Txs, no_txs, tx, Ts, Stms, no_stms}
 use Rattle.tg_tree.specs.Forms.{nothing}
-use Rattle.tg_tree.specs.Lists.{join_txs}
+use Rattle.tg_tree.specs.glue.Lists.{join_txs}
 use Rattle.tg_translate.specs.declared.homes.Within.{Within}
 use Rattle.tg_translate.specs.declared.wants.Want.{Want}
 use Rattle.tg_translate.specs.declared.wants.Want.TheVariants as want
-use Rattle.tg_translate.specs.States.{TranslationState, Translated, drawn, give}
-use Rattle.tg_translate.specs.Wants.{value, done, followed}
-use Rattle.tg_translate.specs.Constructs.{HeldAll, none_held, read, record_of, make_array, negation, repeat_while, in_body, in_test}
-use Rattle.tg_translate.specs.Choices.{left_want}
-use Rattle.tg_translate.specs.Scopes.{Findings, field_number}
-use Rattle.tg_translate.specs.Purity.{assigns_nothing, inits_assign_nothing}
-use Rattle.tg_translate.specs.Updates.{begins_with}
-use Rattle.tg_translate.specs.Functions.{at_of, asked, begun, inside, result_want, outermost, beginning, frame_for, program}
-use Rattle.tg_translate.specs.Translate.{is_zero, is_conjunction, expression, behind_read, locate, values, fields, sequence, declarations, bodies}
-use Rattle.tg_translate.specs.Translate.{program_body, translated}
+use Rattle.tg_translate.specs.mirror.States.{TranslationState, Translated, drawn, give}
+use Rattle.tg_translate.specs.mirror.Wants.{value, done, followed}
+use Rattle.tg_translate.specs.mirror.Constructs.{HeldAll, none_held, read, record_of, make_array, negation, repeat_while, in_body, in_test}
+use Rattle.tg_translate.specs.mirror.Choices.{left_want}
+use Rattle.tg_translate.specs.mirror.Scopes.{Findings, field_number}
+use Rattle.tg_translate.specs.mirror.Purity.{assigns_nothing, inits_assign_nothing}
+use Rattle.tg_translate.specs.mirror.Updates.{begins_with}
+use Rattle.tg_translate.specs.mirror.Functions.{at_of, asked, begun, inside, result_want, outermost, beginning, frame_for, program}
+use Rattle.tg_translate.specs.mirror.Translate.{is_zero, is_conjunction, expression, behind_read, locate, values, fields, sequence, declarations, bodies}
+use Rattle.tg_translate.specs.mirror.Translate.{program_body, translated}
 use Rattle.tg_translate_laws.proofs.Updating.{same_is_quiet}
 use Rattle.tg_translate_laws.proofs.Sizing.{negation_size, record_size, make_array_size, while_size, joined_size, followed_size}
 use Rattle.tg_stack_bounds.proofs.Leading.{LevelTable, Keeps, Crosses, AreAt, AreParamsAt, Leads, LeadsPlace, LeadsExps, LeadsInits, LeadsDecs, LeadsBodies}

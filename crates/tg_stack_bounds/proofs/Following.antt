@@ -19,7 +19,7 @@ use Rattle.tg_types.specs.Scopes.{Signature, Binding, variable_at, function_at, 
 use Rattle.tg_types.specs.Scopes.{outermost_scope, entry, standard_bindings, standard_of}
 use Rattle.tg_types.specs.Groups.{with_functions, with_params}
 use Rattle.tg_types.specs.Has as Has
-use Rattle.tg_translate.specs.Scopes.{Findings}
+use Rattle.tg_translate.specs.mirror.Scopes.{Findings}
 use Rattle.tg_translate_proof.proofs.invariant.Covered.{Declares, DeclareParams, DeclaresPlace, DeclaresExps, DeclaresInits, DeclaresDecs, DeclaresFunctions}
 use Rattle.tg_stack_bounds.proofs.Leading.{LevelTable, Crosses, AreAt, AreParamsAt, Leads, LeadsPlace, LeadsExps, LeadsInits, LeadsDecs, LeadsBodies}
 

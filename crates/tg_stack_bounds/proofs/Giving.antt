@@ -16,10 +16,10 @@ use Rattle.tg_translate.specs.declared.homes.Home.{Home}
 use Rattle.tg_translate.specs.declared.homes.Callee.{Callee}
 use Rattle.tg_translate.specs.declared.wants.Want.{Want}
 use Rattle.tg_translate.specs.declared.wants.Want.TheVariants as want
-use Rattle.tg_translate.specs.States.{TranslationState, Translated, drawn, Translates, after, give, fresh}
-use Rattle.tg_translate.specs.Wants.{arms}
-use Rattle.tg_translate.specs.Scopes.{declare_variable}
-use Rattle.tg_translate.specs.Functions.{at_of, asked, parameters, own_homes, frame_for, begun, with_body, finish, declare_functions}
+use Rattle.tg_translate.specs.mirror.States.{TranslationState, Translated, drawn, Translates, after, give, fresh}
+use Rattle.tg_translate.specs.mirror.Wants.{arms}
+use Rattle.tg_translate.specs.mirror.Scopes.{declare_variable}
+use Rattle.tg_translate.specs.mirror.Functions.{at_of, asked, parameters, own_homes, frame_for, begun, with_body, finish, declare_functions}
 use Rattle.tg_translate_laws.proofs.Actions.{answer, left}
 use Rattle.tg_stack_bounds.proofs.Leading as leading
 use Rattle.tg_stack_bounds.proofs.Leading.{LevelTable}

@@ -12,9 +12,9 @@ use Rattle.tg_types.specs.declared.notes.Means.{Means}
 use Rattle.tg_types.specs.declared.notes.Means.TheVariants as means
 use Rattle.tg_translate.specs.declared.homes.Home.{Home}
 use Rattle.tg_translate.specs.declared.homes.Callee.{Callee}
-use Rattle.tg_translate.specs.States.{TranslationState}
-use Rattle.tg_translate.specs.Scopes.{Findings}
-use Rattle.tg_translate.specs.Functions.{at_of}
+use Rattle.tg_translate.specs.mirror.States.{TranslationState}
+use Rattle.tg_translate.specs.mirror.Scopes.{Findings}
+use Rattle.tg_translate.specs.mirror.Functions.{at_of}
 
 -- the level of the text in which a variable or a function is declared, by the byte of its name
 pub record LevelTable : Type 0 where

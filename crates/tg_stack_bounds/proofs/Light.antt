@@ -4,10 +4,10 @@ use Rattle.std.specs.List.{AllZip}
 use Rattle.tg_syntax.specs.Functions.{Measures, program_functions}
 use Rattle.tg_syntax.specs.Tree.{Exp}
 use Rattle.tg_tree.specs.Tree.{Ts, Function}
-use Rattle.tg_translate.specs.Scopes.{Findings}
-use Rattle.tg_translate.specs.Translate.{translated}
-use Rattle.tg_translate_laws.specs.Laws.{FunctionIsWithin, FunctionsAreWithin}
-use Rattle.tg_stack_bounds.specs.Weights.{IsLight}
+use Rattle.tg_translate.specs.mirror.Scopes.{Findings}
+use Rattle.tg_translate.specs.mirror.Translate.{translated}
+use Rattle.tg_translate_laws.specs.laws.Laws.{FunctionIsWithin, FunctionsAreWithin}
+use Rattle.tg_stack_bounds.specs.laws.Weights.{IsLight}
 use Rattle.tg_stack_bounds.proofs.Leading.{LevelTable, Leads}
 use Rattle.tg_stack_bounds.proofs.Giving.{IsPaid}
 use Rattle.tg_stack_bounds.proofs.Crossing.{functions_are_paid}

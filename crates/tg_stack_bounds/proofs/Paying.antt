@@ -23,20 +23,20 @@ use Rattle.tg_translate.specs.declared.operands.Operand.TheVariants.{Number, Kep
 use Rattle.tg_translate.specs.declared.held.HeldAddress.TheVariants.{InOwnFrame, Beside, At}
 use Rattle.tg_translate.specs.declared.wants.Want.{Want}
 use Rattle.tg_translate.specs.declared.wants.Want.TheVariants as want
-use Rattle.tg_translate.specs.States.{TranslationState, Translated, Translates, after, give}
-use Rattle.tg_translate.specs.Wants.{Made, value, done, test, truth_into, value_of, put_in, dropped, test_of, as_statement, arms, deliver, followed}
-use Rattle.tg_translate.specs.Wants.{behind, behind_some, value_behind, done_behind}
-use Rattle.tg_translate.specs.Constructs as constructs
-use Rattle.tg_translate.specs.Constructs.{Storage, in_temp, at_address, operand, Held, keep, hold, HeldAll, hold_next, own_place, read, store_at}
-use Rattle.tg_translate.specs.Constructs.{want_for, assign, held_address, HeldAt, hold_base, hold_address, HeldPlace, held_in_temp, held_at}
-use Rattle.tg_translate.specs.Constructs.{hold_place, read_held, place_held, field_of, field_place, element_of, element_place, product_of, product}
-use Rattle.tg_translate.specs.Constructs.{quotient_of, checked_quotient, minus_one, quotient, comparison, operation, count_of, count, place_in}
-use Rattle.tg_translate.specs.Constructs.{frame_out}
-use Rattle.tg_translate.specs.Choices.{tested, chosen}
-use Rattle.tg_translate.specs.Scopes.{no_value, nowhere, frame_at, home_place, variable_place, compares_strings, routine_of, call_declared, call}
-use Rattle.tg_translate.specs.Returning.{given_back}
-use Rattle.tg_translate.specs.Functions.{gives_nothing, closing}
-use Rattle.tg_translate.specs.Translate.{connective, with_left, chosen_arm, choice, assignment, declaration_of, Begun}
+use Rattle.tg_translate.specs.mirror.States.{TranslationState, Translated, Translates, after, give}
+use Rattle.tg_translate.specs.mirror.Wants.{Made, value, done, test, truth_into, value_of, put_in, dropped, test_of, as_statement, arms, deliver, followed}
+use Rattle.tg_translate.specs.mirror.Wants.{behind, behind_some, value_behind, done_behind}
+use Rattle.tg_translate.specs.mirror.Constructs as constructs
+use Rattle.tg_translate.specs.mirror.Constructs.{Storage, in_temp, at_address, operand, Held, keep, hold, HeldAll, hold_next, own_place, read, store_at}
+use Rattle.tg_translate.specs.mirror.Constructs.{want_for, assign, held_address, HeldAt, hold_base, hold_address, HeldPlace, held_in_temp, held_at}
+use Rattle.tg_translate.specs.mirror.Constructs.{hold_place, read_held, place_held, field_of, field_place, element_of, element_place, product_of, product}
+use Rattle.tg_translate.specs.mirror.Constructs.{quotient_of, checked_quotient, minus_one, quotient, comparison, operation, count_of, count, place_in}
+use Rattle.tg_translate.specs.mirror.Constructs.{frame_out}
+use Rattle.tg_translate.specs.mirror.Choices.{tested, chosen}
+use Rattle.tg_translate.specs.mirror.Scopes.{no_value, nowhere, frame_at, home_place, variable_place, compares_strings, routine_of, call_declared, call}
+use Rattle.tg_translate.specs.mirror.Returning.{given_back}
+use Rattle.tg_translate.specs.mirror.Functions.{gives_nothing, closing}
+use Rattle.tg_translate.specs.mirror.Translate.{connective, with_left, chosen_arm, choice, assignment, declaration_of, Begun}
 use Rattle.tg_translate_laws.proofs.Spreading.{tx_length, tx_needs, cond_length, cond_needs, ts_length, ts_needs, stms_length, stms_needs, txs_needs}
 use Rattle.tg_translate_laws.proofs.Spreading.{less_ts, given_back_most}
 use Rattle.tg_translate_laws.proofs.Sizing.{most_arguments, made_length, made_needs, place_length, place_needs, held_length, held_needs, followed_size}

@@ -15,10 +15,10 @@ use Rattle.tg_types.proofs.NotesFound.{notes_are_found}
 use Rattle.tg_translate.specs.declared.homes.Home.{Home}
 use Rattle.tg_translate.specs.declared.homes.Callee.{Callee}
 use Rattle.tg_translate.specs.declared.wants.Want.TheVariants as want
-use Rattle.tg_translate.specs.Functions as functions
-use Rattle.tg_translate_laws.specs.Laws.{findings_in}
-use Rattle.tg_translate_proof.specs.Tables.{Table, IsSuffix}
-use Rattle.tg_translate_proof.specs.Laws.{findings_of}
+use Rattle.tg_translate.specs.mirror.Functions as functions
+use Rattle.tg_translate_laws.specs.laws.Laws.{findings_in}
+use Rattle.tg_translate_proof.specs.glue.Tables.{Table, IsSuffix}
+use Rattle.tg_translate_proof.specs.laws.Laws.{findings_of}
 use Rattle.tg_translate_proof.proofs.program.Program.{first_state}
 use Rattle.tg_translate_proof.proofs.invariant.Covered.{Declares, HasVariable, HasFunction, IsWeighed}
 use Rattle.tg_translate_proof.proofs.state.Tables.{Once, InTable}

@@ -9,21 +9,21 @@ use Rattle.tg_syntax.specs.Functions.{Measures, program_functions}
 use Rattle.tg_escape.specs.Escaping.{escapes_of}
 use Rattle.tg_tree.specs.Tree.{Ts, Function}
 use Rattle.tg_tree.specs.Named.{temporary}
-use Rattle.tg_runtime.specs.Routines.{runtime}
-use Rattle.tg_runtime.specs.Laws.{AreRoutines, AllAreRoutines, is_own}
-use Rattle.tg_translate.specs.Translate.{translated}
-use Rattle.tg_translate_laws.specs.Laws.{names, findings_in, CheckedBodiesAreClosed, CheckedTemporariesAreDrawn}
+use Rattle.tg_runtime.specs.mirror.Routines.{runtime}
+use Rattle.tg_runtime.specs.laws.Laws.{AreRoutines, AllAreRoutines, is_own}
+use Rattle.tg_translate.specs.mirror.Translate.{translated}
+use Rattle.tg_translate_laws.specs.laws.Laws.{names, findings_in, CheckedBodiesAreClosed, CheckedTemporariesAreDrawn}
 use Rattle.tg_flatten_proof.specs.Flattened.{flattened, MayBeFlattened}
-use Rattle.tg_flatten_proof.specs.Laws as carried
+use Rattle.tg_flatten_proof.specs.laws.Laws as carried
 use Rattle.tg_instr.proofs.Tests.{all_at}
 use Rattle.tg_irc.specs.Policies.{Rule}
 use Rattle.tg_regalloc.specs.declared.allocations.Allocation.{Allocation}
-use Rattle.tg_regalloc.specs.Growth.{AllocationsAreShort}
-use Rattle.tg_emit.specs.Lines.{size_of}
+use Rattle.tg_regalloc.specs.laws.Growth.{AllocationsAreShort}
+use Rattle.tg_emit.specs.mirror.Lines.{size_of}
 use Rattle.tg_code_bounds.specs.Allocating.{IsAllocationOf}
-use Rattle.tg_code_bounds.specs.Laws.{FramesAreSmall}
-use Rattle.tg_munch.specs.Lengths.{TemporariesAreFew, ShiftsAreLong}
-use Rattle.tg_stack_bounds.specs.Weights.{IsLight, FramesAreLight, FitsRuntime, AreWithinWeight, AcceptedTreesAreLight, ProgramFramesAreLight}
+use Rattle.tg_code_bounds.specs.laws.Laws.{FramesAreSmall}
+use Rattle.tg_munch.specs.laws.Lengths.{TemporariesAreFew, ShiftsAreLong}
+use Rattle.tg_stack_bounds.specs.laws.Weights.{IsLight, FramesAreLight, FitsRuntime, AreWithinWeight, AcceptedTreesAreLight, ProgramFramesAreLight}
 
 pub frames_are_light : carried.LengthStays → carried.NeedsStay → TemporariesAreFew → ShiftsAreLong →
     AllocationsAreShort → FramesAreLight

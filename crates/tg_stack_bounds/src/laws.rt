@@ -1,4 +1,4 @@
-ghost use Rattle.tg_stack_bounds.specs.Weights.{
+ghost use Rattle.tg_stack_bounds.specs.laws.Weights.{
   AcceptedTreesAreLight,
   FramesAreLight,
   ProgramFramesAreLight,

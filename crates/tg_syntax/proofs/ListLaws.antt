@@ -14,9 +14,9 @@ use Rattle.tg_syntax.specs.declared.trees.FunDecs.{FunDecs, FunDecs', out-FunDec
 use Rattle.tg_syntax.specs.declared.trees.FunDecs.{end_of-FunDec, more_of-FunDec, items-the_row-FunDec, items_shown-the_row-FunDec-2}
 use Rattle.tg_syntax.specs.declared.trees.Kind.{Kind, Let, Let', Row_of-Dec, end_of-Dec, more_of-Dec, items-the_row-Dec, items_hidden-the_row-Dec-0}
 use Rattle.tg_syntax.specs.Tree.{Let as PlainLet, exp, init, function}
-use Rattle.tg_syntax.specs.Plain.{plain_kind, plain_exps, plain_exp_row, plain_inits, plain_init_row, plain_functions, plain_function_row, plain_dec}
-use Rattle.tg_syntax.specs.Plain.{plain_decs}
-use Rattle.tg_syntax.specs.Lists.{exps_of, inits_of, decs_of, functions_of}
+use Rattle.tg_syntax.specs.glue.Plain.{plain_kind, plain_exps, plain_exp_row, plain_inits, plain_init_row, plain_functions, plain_function_row, plain_dec}
+use Rattle.tg_syntax.specs.glue.Plain.{plain_decs}
+use Rattle.tg_syntax.specs.glue.Lists.{exps_of, inits_of, decs_of, functions_of}
 
 plain_exp_row-items : (n : Count) (row : Row_of-Exp n) → plain_exp_row row ≡ exps_of (items-the_row-Exp n row)
 plain_exp_row-items n end_of-Exp = refl

@@ -5,8 +5,6 @@ pub mod Tree
 pub mod Spans
 pub mod Tails
 pub mod Groups
-pub mod Plain
-pub mod Lists
 pub mod Grammar
 pub mod Nesting
 pub mod SyntaxFaults
@@ -16,3 +14,4 @@ pub mod Beginnings
 pub mod Throughout
 pub mod NamesWithin
 pub mod OfWords
+pub mod glue

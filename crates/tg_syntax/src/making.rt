@@ -1,6 +1,6 @@
 ghost use Rattle.std.specs.Prelude.{◌≡◌, IfOk};
-ghost use Rattle.tg_syntax.specs.Plain.{plain, plain_lvalue};
-ghost use Rattle.tg_syntax.specs.Lists.{exps_of, inits_of, decs_of};
+ghost use Rattle.tg_syntax.specs.glue.Plain.{plain, plain_lvalue};
+ghost use Rattle.tg_syntax.specs.glue.Lists.{exps_of, inits_of, decs_of};
 ghost use Rattle.tg_syntax.specs.Tree.{
   Nil as PlainNil,
   Break as PlainBreak,

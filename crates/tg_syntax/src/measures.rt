@@ -9,7 +9,8 @@ ghost use Rattle.tg_syntax.specs.Measures.{
   functions_size,
   type_size,
 };
-ghost use Rattle.tg_syntax.specs.Plain.{
+ghost use Rattle.tg_syntax.specs.Tree.{no_decs};
+ghost use Rattle.tg_syntax.specs.glue.Plain.{
   plain,
   plain_lvalue,
   plain_exps,
@@ -18,7 +19,6 @@ ghost use Rattle.tg_syntax.specs.Plain.{
   plain_functions,
   plain_type,
 };
-ghost use Rattle.tg_syntax.specs.Tree.{no_decs};
 
 use crate::trees::{Dec, Exp, Exps, Form, FunDecs, Inits, Kind, TypeDec, TypeDecs, Var};
 

@@ -9,7 +9,7 @@ ghost use Rattle.tg_syntax.specs.Measures.{
   inner_functions,
 };
 ghost use Rattle.tg_syntax.specs.Functions.{program_size};
-ghost use Rattle.tg_syntax.specs.Plain.{
+ghost use Rattle.tg_syntax.specs.glue.Plain.{
   plain,
   plain_lvalue,
   plain_exps,

@@ -21,7 +21,7 @@ use Rattle.tg_syntax.specs.Grammar.{one_init, more_inits, AreAnyInits, any_no_in
 use Rattle.tg_syntax.specs.Grammar.{decs_none, decs_more, IsProgram, program}
 use Rattle.tg_syntax.specs.Beginnings.{param_beginnings, form_beginnings, type_beginnings, kind_beginnings, beginnings, place_beginnings}
 use Rattle.tg_syntax.specs.Beginnings.{exps_beginnings, inits_beginnings, decs_beginnings, function_beginnings, BeginsInOrder}
-use Rattle.tg_syntax_laws.specs.Places.{StandFrom}
+use Rattle.tg_syntax_laws.specs.laws.Places.{StandFrom}
 use Rattle.tg_syntax_laws.proofs.Orders.{Falls, falls_below, falling}
 
 -- the second list is the first bytes of some of the tokens, which are not the end, the last first, and then the first list

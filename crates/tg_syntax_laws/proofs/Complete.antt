@@ -31,15 +31,15 @@ use Rattle.tg_syntax.specs.Grammar.{more_inits, AreAnyInits, any_no_inits, any_i
 use Rattle.tg_syntax.specs.Grammar.{decs_more, IsProgram, program}
 use Rattle.tg_syntax_laws.specs.declared.marks.Mark.{Mark}
 use Rattle.tg_syntax_laws.specs.declared.marks.Mark.TheVariants.{OfSign, OfWord}
-use Rattle.tg_syntax_laws.specs.Steps.{token_of, op_of, Answer, Got, Bad, Out, Job, At, After, Suffix, Listed, Items, OneInit, ListedInits, MoreInits}
-use Rattle.tg_syntax_laws.specs.Steps.{OneParam, ListedParams, MoreParams, OneForm, Annotation, TypeDec, VarDec, FunDec, MoreDecs, Whole_program, Of}
-use Rattle.tg_syntax_laws.specs.Steps.{Steps, split}
-use Rattle.tg_syntax_laws.specs.Reading.{below, binary, atom_of, unary, level, operators, comparing, assigning, reading, naming, suffixes, listed, items}
-use Rattle.tg_syntax_laws.specs.Reading.{listed_inits, listed_params, more_params, one_form, annotation, more_decs, whole_program, job, Does, give_got}
-use Rattle.tg_syntax_laws.specs.Reading.{refuse_bad, want_got, name_got, name_bad, name_out, split_yes, split_no, oper_yes, oper_no, leaf_yes, leaf_no}
-use Rattle.tg_syntax_laws.specs.Reading.{leaf_out, look_at, test_yes, test_no, call_got, call_bad, call_out}
-use Rattle.tg_syntax_laws.specs.Reading.{one_init as one_init_steps}
-use Rattle.tg_syntax_laws.specs.Reading.{more_inits as more_inits_steps}
+use Rattle.tg_syntax_laws.specs.mirror.Steps.{token_of, op_of, Answer, Got, Bad, Out, Job, At, After, Suffix, Listed, Items, OneInit, ListedInits, MoreInits}
+use Rattle.tg_syntax_laws.specs.mirror.Steps.{OneParam, ListedParams, MoreParams, OneForm, Annotation, TypeDec, VarDec, FunDec, MoreDecs, Whole_program, Of}
+use Rattle.tg_syntax_laws.specs.mirror.Steps.{Steps, split}
+use Rattle.tg_syntax_laws.specs.mirror.Reading.{below, binary, atom_of, unary, level, operators, comparing, assigning, reading, naming, suffixes, listed, items}
+use Rattle.tg_syntax_laws.specs.mirror.Reading.{listed_inits, listed_params, more_params, one_form, annotation, more_decs, whole_program, job, Does, give_got}
+use Rattle.tg_syntax_laws.specs.mirror.Reading.{refuse_bad, want_got, name_got, name_bad, name_out, split_yes, split_no, oper_yes, oper_no, leaf_yes, leaf_no}
+use Rattle.tg_syntax_laws.specs.mirror.Reading.{leaf_out, look_at, test_yes, test_no, call_got, call_bad, call_out}
+use Rattle.tg_syntax_laws.specs.mirror.Reading.{one_init as one_init_steps}
+use Rattle.tg_syntax_laws.specs.mirror.Reading.{more_inits as more_inits_steps}
 use Rattle.tg_syntax_laws.proofs.Runs.{does_one, got_bad, got_out, got_value}
 
 -- how tightly a token binds to what stands before it

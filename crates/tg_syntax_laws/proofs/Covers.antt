@@ -8,7 +8,7 @@ use Rattle.tg_syntax.specs.Grammar.{Level, Reads, whole_assign, whole_up, or_up,
 use Rattle.tg_syntax.specs.Grammar.{term_up, term_more, unary_minus, unary_primary, unary_tail, primary_place, primary_nil, primary_int, primary_text}
 use Rattle.tg_syntax.specs.Grammar.{primary_break, primary_sequence, primary_call, primary_record, primary_let, tail_then, tail_else, tail_while}
 use Rattle.tg_syntax.specs.Grammar.{tail_for, tail_fill, IsPlace, place_simple, place_field, place_index}
-use Rattle.tg_syntax_laws.specs.Places.{IsSpanOf}
+use Rattle.tg_syntax_laws.specs.laws.Places.{IsSpanOf}
 
 alone : (t : Spanned) → IsSpanOf t.span (t ∷ [])
 alone t = record { first = t; behind = []; begins = refl; from_is = refl; before = []; last = t; ends = refl; to_is = refl }

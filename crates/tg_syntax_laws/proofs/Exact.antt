@@ -5,9 +5,9 @@ use Rattle.tg_syntax.specs.declared.tokens.Spanned.{Spanned}
 use Rattle.tg_syntax.specs.Tree.{Exp}
 use Rattle.tg_syntax.specs.Grammar.{IsProgram, program}
 use Rattle.tg_syntax.specs.SyntaxFaults.{BeginsProgram, HasNoEnd, EndsOnce}
-use Rattle.tg_syntax_laws.specs.Steps.{Got, Bad, Out, Whole_program}
-use Rattle.tg_syntax_laws.specs.Reading.{whole_program, Does}
-use Rattle.tg_syntax_laws.specs.Laws.{IsUnexpected}
+use Rattle.tg_syntax_laws.specs.mirror.Steps.{Got, Bad, Out, Whole_program}
+use Rattle.tg_syntax_laws.specs.mirror.Reading.{whole_program, Does}
+use Rattle.tg_syntax_laws.specs.laws.Laws.{IsUnexpected}
 use Rattle.tg_syntax_laws.proofs.Runs.{does_one, got_bad}
 use Rattle.tg_syntax_laws.proofs.Complete.{complete_program}
 use Rattle.tg_syntax_laws.proofs.Sound.{Fine, fine_got, fine_bad, fine_out, fine}

@@ -20,8 +20,8 @@ use Rattle.tg_syntax.specs.Grammar.{place_simple, place_field, place_index, AreM
 use Rattle.tg_syntax.specs.Grammar.{one_init, more_inits, AreAnyInits, any_no_inits, any_inits, IsDec, dec_type, dec_variable, dec_function, AreDecs}
 use Rattle.tg_syntax.specs.Grammar.{decs_none, decs_more, IsProgram, program}
 use Rattle.tg_syntax.specs.SyntaxFaults.{HasNoEnd, EndsOnce}
-use Rattle.tg_syntax_laws.specs.Steps.{Out, Whole_program}
-use Rattle.tg_syntax_laws.specs.Reading.{whole_program, Does}
+use Rattle.tg_syntax_laws.specs.mirror.Steps.{Out, Whole_program}
+use Rattle.tg_syntax_laws.specs.mirror.Reading.{whole_program, Does}
 use Rattle.tg_syntax_laws.proofs.Runs.{does_one, got_out}
 use Rattle.tg_syntax_laws.proofs.Complete.{complete_program}
 use Rattle.tg_syntax_laws.proofs.Exact.{end_alone, out_is}

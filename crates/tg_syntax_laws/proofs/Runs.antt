@@ -9,10 +9,11 @@ use Rattle.tg_syntax.specs.declared.tokens.Ident.{Ident}
 use Rattle.tg_syntax.specs.declared.trees.Op.{Op}
 use Rattle.tg_syntax.specs.Grammar.{Level, IsIdent}
 use Rattle.tg_syntax_laws.specs.declared.marks.Mark.{Mark}
-use Rattle.tg_syntax_laws.specs.Steps.{token_of, op_of, Answer, Got, Bad, Out, Job, Of, Steps, give, refuse, want, name, split, oper, leaf, look, test, call}
-use Rattle.tg_syntax_laws.specs.Reading.{job, Does, give_got, refuse_bad, refuse_out, want_got, want_bad, want_out, name_got, name_bad, name_out}
-use Rattle.tg_syntax_laws.specs.Reading.{split_yes, split_no, split_out, oper_yes, oper_no, oper_out, leaf_yes, leaf_no, leaf_out, look_at, look_out}
-use Rattle.tg_syntax_laws.specs.Reading.{test_yes, test_no, call_got, call_bad, call_out}
+use Rattle.tg_syntax_laws.specs.mirror.Steps.{token_of, op_of, Answer, Got, Bad, Out, Job, Of, Steps, give, refuse, want, name, split, oper, leaf, look, test}
+use Rattle.tg_syntax_laws.specs.mirror.Steps.{call}
+use Rattle.tg_syntax_laws.specs.mirror.Reading.{job, Does, give_got, refuse_bad, refuse_out, want_got, want_bad, want_out, name_got, name_bad, name_out}
+use Rattle.tg_syntax_laws.specs.mirror.Reading.{split_yes, split_no, split_out, oper_yes, oper_no, oper_out, leaf_yes, leaf_no, leaf_out, look_at, look_out}
+use Rattle.tg_syntax_laws.specs.mirror.Reading.{test_yes, test_no, call_got, call_bad, call_out}
 
 by_fields : (x y : Ident) → x.name ≡ y.name → x.span ≡ y.span → x ≡ y
 by_fields x y e s =

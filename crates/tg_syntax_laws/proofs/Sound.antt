@@ -15,12 +15,12 @@ use Rattle.tg_syntax.specs.Tree.{Exp, Exps, Inits}
 use Rattle.tg_syntax.specs.Grammar.{Whole, IsIdent, IsSign, IsWord, AreFields, AreAnyFields, IsForm, IsAnnotation, Reads, IsPlace, AreMany, AreAny}
 use Rattle.tg_syntax.specs.Grammar.{AreInits, AreAnyInits, IsDec, AreDecs, IsProgram}
 use Rattle.tg_syntax_laws.specs.declared.marks.Mark.{Mark}
-use Rattle.tg_syntax_laws.specs.Steps.{token_of, op_of, Answer, Got, Bad, Out, Job, OneSpan, OneName, At, After, Suffix, Listed, Items, OneInit}
-use Rattle.tg_syntax_laws.specs.Steps.{ListedInits, MoreInits, OneParam, ListedParams, MoreParams, OneForm, Annotation, TypeDec, VarDec, FunDec, MoreDecs}
-use Rattle.tg_syntax_laws.specs.Steps.{Whole_program, Of, Steps, give, refuse, want, name, split, oper, leaf, look, test, call}
-use Rattle.tg_syntax_laws.specs.Reading.{job, Does, give_got, refuse_bad, refuse_out, want_got, want_bad, want_out, name_got, name_bad, name_out}
-use Rattle.tg_syntax_laws.specs.Reading.{split_yes, split_no, split_out, oper_yes, oper_no, oper_out, leaf_yes, leaf_no, leaf_out, look_at, look_out}
-use Rattle.tg_syntax_laws.specs.Reading.{test_yes, test_no, call_got, call_bad, call_out}
+use Rattle.tg_syntax_laws.specs.mirror.Steps.{token_of, op_of, Answer, Got, Bad, Out, Job, OneSpan, OneName, At, After, Suffix, Listed, Items, OneInit}
+use Rattle.tg_syntax_laws.specs.mirror.Steps.{ListedInits, MoreInits, OneParam, ListedParams, MoreParams, OneForm, Annotation, TypeDec, VarDec, FunDec}
+use Rattle.tg_syntax_laws.specs.mirror.Steps.{MoreDecs, Whole_program, Of, Steps, give, refuse, want, name, split, oper, leaf, look, test, call}
+use Rattle.tg_syntax_laws.specs.mirror.Reading.{job, Does, give_got, refuse_bad, refuse_out, want_got, want_bad, want_out, name_got, name_bad, name_out}
+use Rattle.tg_syntax_laws.specs.mirror.Reading.{split_yes, split_no, split_out, oper_yes, oper_no, oper_out, leaf_yes, leaf_no, leaf_out, look_at, look_out}
+use Rattle.tg_syntax_laws.specs.mirror.Reading.{test_yes, test_no, call_got, call_bad, call_out}
 use Rattle.tg_syntax_laws.proofs.Complete.{read_at, IsChain}
 
 abbrev pub Lang : Type 0 → Type 1

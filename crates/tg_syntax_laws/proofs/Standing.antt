@@ -14,7 +14,7 @@ use Rattle.std.specs.Str.Parse.{IsNumeral}
 use Rattle.tg_syntax.proofs.Numerals.{none_is_numeral}
 use Rattle.tg_syntax.specs.Spellings.{word_text, sign_text, IsName, Spells}
 use Rattle.tg_syntax.specs.Lexing.{Lexes, ends, blank, comment, token as one_token}
-use Rattle.tg_syntax_laws.specs.Places.{StandFrom}
+use Rattle.tg_syntax_laws.specs.laws.Places.{StandFrom}
 
 abbrev Full : List ℕ → Type 0
 Full [] = ⊥

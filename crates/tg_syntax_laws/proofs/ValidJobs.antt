@@ -24,9 +24,9 @@ use Rattle.tg_syntax.specs.Grammar.{tail_else, tail_while, tail_for, tail_fill, 
 use Rattle.tg_syntax.specs.Grammar.{many_more, any_none, any_many, AreInits, one_init, more_inits, any_no_inits, any_inits, IsDec, dec_type}
 use Rattle.tg_syntax.specs.Grammar.{dec_variable, dec_function, AreDecs, decs_none, decs_more, program}
 use Rattle.tg_syntax_laws.specs.declared.marks.Mark.TheVariants.{OfSign, OfWord}
-use Rattle.tg_syntax_laws.specs.Steps.{token_of, op_of, Job, OneSpan, OneName, At, After, Suffix, Listed, Items, OneInit, ListedInits, MoreInits}
-use Rattle.tg_syntax_laws.specs.Steps.{OneParam, ListedParams, MoreParams, OneForm, Annotation, TypeDec, VarDec, FunDec, MoreDecs, Whole_program}
-use Rattle.tg_syntax_laws.specs.Reading.{below, binary, atom_of, unary, level, operators, comparing, assigning, reading, naming, elsing, job}
+use Rattle.tg_syntax_laws.specs.mirror.Steps.{token_of, op_of, Job, OneSpan, OneName, At, After, Suffix, Listed, Items, OneInit, ListedInits, MoreInits}
+use Rattle.tg_syntax_laws.specs.mirror.Steps.{OneParam, ListedParams, MoreParams, OneForm, Annotation, TypeDec, VarDec, FunDec, MoreDecs, Whole_program}
+use Rattle.tg_syntax_laws.specs.mirror.Reading.{below, binary, atom_of, unary, level, operators, comparing, assigning, reading, naming, elsing, job}
 use Rattle.tg_syntax_laws.proofs.Complete.{read_at, IsChain}
 use Rattle.tg_syntax_laws.proofs.Sound.{Lang, Viable, Lang_of, Valid, IsListed, listed_is, IsInit, init_is, AreListedInits, inits_are, IsParam, param_is}
 use Rattle.tg_syntax_laws.proofs.Sound.{AreListedParams, params_are, sample, some_ident, nowhere, AllValid}

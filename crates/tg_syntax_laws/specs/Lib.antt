@@ -1,4 +1,2 @@
-pub mod Steps
-pub mod Reading
-pub mod Laws
-pub mod Places
+pub mod laws
+pub mod mirror

@@ -1,4 +1,4 @@
-ghost use Rattle.tg_syntax_laws.specs.Places.{
+ghost use Rattle.tg_syntax_laws.specs.laws.Places.{
   SpansExpressions,
   SpansPlaces,
   TokensStand,
@@ -6,7 +6,7 @@ ghost use Rattle.tg_syntax_laws.specs.Places.{
   ProgramsApart,
   ProgramsNamed,
 };
-ghost use Rattle.tg_syntax_laws.specs.Laws.{
+ghost use Rattle.tg_syntax_laws.specs.laws.Laws.{
   HasOneTree,
   GroupsLongest,
   ReadsEach,

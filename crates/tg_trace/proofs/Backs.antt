@@ -6,10 +6,10 @@ use Rattle.std.proofs.lemmas.List.{take-append-le}
 use Rattle.tg_trace.proofs.Rests.{take_all, none_there}
 use Rattle.std.proofs.Math.Seq.{drop-length}
 use Rattle.tg_tree.specs.declared.trees.Ts.{Ts as CodeTs}
-use Rattle.tg_tree.specs.Plain.{plain_ts}
-use Rattle.tg_tree.specs.Lists.{stms_of}
-use Rattle.tg_trace.specs.Cutting.{CutBlocks, cut, cut_all, leaves}
-use Rattle.tg_trace.specs.Plains.{come_to}
+use Rattle.tg_tree.specs.glue.Plain.{plain_ts}
+use Rattle.tg_tree.specs.glue.Lists.{stms_of}
+use Rattle.tg_trace.specs.glue.Plains.{come_to}
+use Rattle.tg_trace.specs.mirror.Cutting.{CutBlocks, cut, cut_all, leaves}
 
 abbrev pub back : (exits : List ℕ) → List CodeTs → CutBlocks → CutBlocks
 back exits [] c = c

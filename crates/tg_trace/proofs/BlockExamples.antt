@@ -13,8 +13,8 @@ use Rattle.tg_tree.specs.Tree as tree
 use Rattle.tg_tree.specs.Tree.{Tx, Const, Temp, Binary, Call, Service, Cond, Compare, Ts, Move, Do, If, Loop, Break, Function, Code}
 use Rattle.tg_tree.specs.Running.{canonical_run}
 use Rattle.tg_trace.specs.Block.{BlockEnd, Jump, Return, Block}
-use Rattle.tg_trace.specs.Cutting.{blocks_of}
 use Rattle.tg_trace.specs.Meaning.{block_run}
+use Rattle.tg_trace.specs.mirror.Cutting.{blocks_of}
 
 abbrev fun : {Body : Type 0} → ℕ → List Access → Body → Function Body
 fun label params body = record { label = label; params = params; slots = 0; temps = 0; out = 0; body = body }

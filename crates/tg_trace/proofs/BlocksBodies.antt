@@ -7,7 +7,7 @@ use Rattle.tg_state.specs.declared.ends.RunEnd.TheVariants.{Exit}
 use Rattle.tg_state.specs.State.{stack_top}
 use Rattle.tg_simulation.specs.Ran.{Ended}
 use Rattle.tg_simulation.specs.Preserving.{Preserves}
-use Rattle.tg_simulation.specs.Simulating.{Simulates}
+use Rattle.tg_simulation.specs.laws.Simulating.{Simulates}
 use Rattle.tg_simulation.proofs.Simulations.{simulates_wrong, simulates_stopping, simulates_along, simulates_with_credit, simulation_preserves}
 use Rattle.tg_tree.specs.Tree as tree
 use Rattle.tg_tree.specs.Tree.{Cond, Compare, Not, Both, Either, Ts, Move, Store, StoreByte, Do, If, Loop, Break, Seq, Stms, no_stms, stm, Function}
@@ -22,9 +22,9 @@ use Rattle.tg_tree.specs.Carrying.{BacksSimulate, CallsSimulate, AllCarried, non
 use Rattle.tg_tree.proofs.TreeRuns.{trees_step}
 use Rattle.tg_tree.proofs.Linking.{programs_carried}
 use Rattle.tg_trace.specs.Block.{Block}
-use Rattle.tg_trace.specs.Cutting.{CutBlocks, draw, leads, next_mark, seal, branch, leaves, cut, cut_all, start, entered_by, placed_all, blocks_of}
+use Rattle.tg_trace.specs.mirror.Cutting.{CutBlocks, draw, leads, next_mark, seal, branch, leaves, cut, cut_all, start, entered_by, placed_all, blocks_of}
 use Rattle.tg_trace.specs.Meaning.{run_block_body, block_going, block_run}
-use Rattle.tg_trace.specs.Carried.{added_work, in_blocks, code_in_blocks, IsCanonicalFunction, BlocksCarryBodies, BlocksAreCorrect}
+use Rattle.tg_trace.specs.laws.Carried.{added_work, in_blocks, code_in_blocks, IsCanonicalFunction, BlocksCarryBodies, BlocksAreCorrect}
 use Rattle.tg_trace.proofs.Rests.{take_all}
 use Rattle.tg_trace.proofs.BlocksPlaces.{opens, first, first_is, ahead, leads_to, from_place}
 use Rattle.tg_trace.proofs.BlocksKept.{Keeps, turn, turn_keeps, cut_keeps, get_front, get_seam, set_own, Fits}

@@ -8,7 +8,7 @@ use Rattle.std.proofs.lemmas.Option.{slice_get_within}
 use Rattle.tg_state.specs.declared.ends.RunEnd.TheVariants.{Break as Broken}
 use Rattle.tg_simulation.specs.Runs.{Run}
 use Rattle.tg_simulation.specs.Ran.{Ran, Ended}
-use Rattle.tg_simulation.specs.Simulating.{Simulates}
+use Rattle.tg_simulation.specs.laws.Simulating.{Simulates}
 use Rattle.tg_simulation.proofs.Simulations.{simulates_stopping, simulates_paying, simulates_working, simulates_with_credit, simulates_turn, simulates_less}
 use Rattle.tg_tree.specs.Tree as tree
 use Rattle.tg_tree.specs.Tree.{Tx, Cond, Compare, Not, Both, Either, Ts, Move, Store, StoreByte, Do, If, Loop, Break, Seq, Stms, no_stms, stm}
@@ -23,9 +23,9 @@ use Rattle.tg_tree.specs.Flat.{Last}
 use Rattle.tg_tree.specs.Carrying.{BacksSimulate, EntersSimulate}
 use Rattle.tg_tree.proofs.TreeRuns.{trees_step}
 use Rattle.tg_trace.specs.Block.{BlockEnd, Jump, Branch, Fault, Return, Block}
-use Rattle.tg_trace.specs.Cutting.{CutBlocks, open_at, in_front, draw, leads, mark_by, seal_by, next_mark, seal, branch, head, exit_of, leaves, cut}
-use Rattle.tg_trace.specs.Cutting.{cut_all, place_of}
 use Rattle.tg_trace.specs.Meaning.{enter_blocks, block_going}
+use Rattle.tg_trace.specs.mirror.Cutting.{CutBlocks, open_at, in_front, draw, leads, mark_by, seal_by, next_mark, seal, branch, head, exit_of, leaves, cut}
+use Rattle.tg_trace.specs.mirror.Cutting.{cut_all, place_of}
 use Rattle.tg_trace.proofs.BlocksFlat.{pays_less, no_later, word_simulates, statement_simulates}
 use Rattle.tg_trace.proofs.BlocksPlaces.{at, leads_to, opens, first, first_is, ahead, back as back_at}
 use Rattle.tg_trace.proofs.BlocksKept.{Keeps, keeps_itself, keeps_on, opened_keeps, draw_keeps, seal_keeps, branch_keeps, head_keeps, side, turn}

@@ -11,9 +11,9 @@ use Rattle.tg_tree.specs.Actions.{World, Temps, Around, Acts, Next, ◌>>◌, ch
 use Rattle.tg_tree.specs.Running.{with_fuel}
 use Rattle.tg_tree.specs.Flat.{Last}
 use Rattle.tg_trace.specs.Block.{BlockEnd, Block}
-use Rattle.tg_trace.specs.Cutting.{place_of, placed_end, placed, placed_all}
-use Rattle.tg_trace.specs.Laying.{no_block}
 use Rattle.tg_trace.specs.Meaning.{BlockPoint, run_within, finish, return_to, run_from, block_going}
+use Rattle.tg_trace.specs.mirror.Cutting.{place_of, placed_end, placed, placed_all}
+use Rattle.tg_trace.specs.mirror.Laying.{no_block}
 use Rattle.tg_trace.proofs.Rests.{reverse_last, take_all}
 use Rattle.tg_trace.proofs.BlocksRuns.{blocks_step}
 

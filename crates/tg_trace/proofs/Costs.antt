@@ -8,9 +8,9 @@ use Rattle.tg_tree.specs.Tree as tree
 use Rattle.tg_tree.specs.Tree.{Tx, Cond, Compare, Not, Both, Either, Ts, Move, Store, StoreByte, Do, If, Loop, Break, Seq, Stms, no_stms, stm, Linear}
 use Rattle.tg_tree.specs.Tree.{Mark, Do'}
 use Rattle.tg_trace.specs.Block.{BlockEnd, Jump, Branch, Fault, Return, Block}
-use Rattle.tg_trace.specs.Cutting.{CutBlocks, open_at, draw, stand, lay, leads, seal_by, next_mark, seal, branch, head, leaves, cut, cut_all, start}
-use Rattle.tg_trace.specs.Cutting.{entered_by, entered, placed_end, placed, blocks_of}
-use Rattle.tg_trace.specs.Laying.{no_block, block_at, is_next, jump_unless, branch_by, end_code, body_code, block_code, code_in, traces, traced}
+use Rattle.tg_trace.specs.mirror.Cutting.{CutBlocks, open_at, draw, stand, lay, leads, seal_by, next_mark, seal, branch, head, leaves, cut, cut_all, start}
+use Rattle.tg_trace.specs.mirror.Cutting.{entered_by, entered, placed_end, placed, blocks_of}
+use Rattle.tg_trace.specs.mirror.Laying.{no_block, block_at, is_next, jump_unless, branch_by, end_code, body_code, block_code, code_in, traces, traced}
 use Rattle.tg_trace.proofs.Places.{traces_keep}
 use Rattle.tg_trace.proofs.TracesCode.{other_block, in_rest, first_apart, rest_apart}
 

@@ -5,8 +5,8 @@ use Rattle.tg_tree.specs.Forms.{stms, sequence, nothing, when}
 use Rattle.tg_tree.specs.Tree as tree
 use Rattle.tg_tree.specs.Tree.{Const, Temp, Cond, Compare, Not, Both, Either, Ts, Move, If, Loop, Break, Linear, Mark, Do'}
 use Rattle.tg_trace.specs.Block.{BlockEnd, Jump, Branch, Fault, Return, Block}
-use Rattle.tg_trace.specs.Cutting.{blocks_of}
-use Rattle.tg_trace.specs.Laying.{traced}
+use Rattle.tg_trace.specs.mirror.Cutting.{blocks_of}
+use Rattle.tg_trace.specs.mirror.Laying.{traced}
 
 abbrev set : Ts
 set = Move 0 (Const 7)

@@ -7,9 +7,9 @@ use Rattle.tg_tree.specs.Tree as tree
 use Rattle.tg_tree.specs.Tree.{Cond, Compare, Not, Both, Either, Ts, Move, Store, StoreByte, Do, If, Loop, Break, Seq, Stms, no_stms, stm}
 use Rattle.tg_tree.specs.Shapes.{IsFlatStatement, IsFlatCond, IsCanonical, AreCanonical}
 use Rattle.tg_trace.specs.Block.{BlockEnd, Jump, Branch, Fault, Return, Block}
-use Rattle.tg_trace.specs.Cutting.{CutBlocks, open_at, in_front, draw, stand, lay, leads, seal_by, next_mark, seal, branch, head, exit_of, leaves, cut}
-use Rattle.tg_trace.specs.Cutting.{cut_all, start, entered_by, entered, placed_end, placed, blocks_of}
 use Rattle.tg_trace.specs.Shapes.{AreFlatStatements, IsFlatEnd, IsFlatBlock, AreFlatBlocks}
+use Rattle.tg_trace.specs.mirror.Cutting.{CutBlocks, open_at, in_front, draw, stand, lay, leads, seal_by, next_mark, seal, branch, head, exit_of, leaves, cut}
+use Rattle.tg_trace.specs.mirror.Cutting.{cut_all, start, entered_by, entered, placed_end, placed, blocks_of}
 
 -- Facts of each element.
 module _ {A : Type 0} (P : A → Type 0) where

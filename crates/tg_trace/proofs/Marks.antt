@@ -7,8 +7,8 @@ use Rattle.tg_tree.specs.Tree as tree
 use Rattle.tg_tree.specs.Tree.{Stms, no_stms, stm, Linear, Mark, Do'}
 use Rattle.tg_tree.specs.Shapes.{IsFlatCode, IsWellMarked, EndsCode, marks, targets}
 use Rattle.tg_trace.specs.Block.{BlockEnd, Jump, Branch, Fault, Return, Block}
-use Rattle.tg_trace.specs.Laying.{no_block, block_at, traces, is_next, jump_unless, branch_by, end_code, body_code, block_code, code_in, traced}
 use Rattle.tg_trace.specs.Shapes.{AreFlatStatements, IsFlatEnd, IsFlatBlock, AreFlatBlocks, EndsBelow, LeadsBelow, AreWhole}
+use Rattle.tg_trace.specs.mirror.Laying.{no_block, block_at, traces, is_next, jump_unless, branch_by, end_code, body_code, block_code, code_in, traced}
 use Rattle.tg_trace.proofs.Places.{traces_keep, all_there}
 
 -- What holds of each block, and of what stands where there is none, holds once one is taken out.

@@ -6,8 +6,8 @@ use Rattle.tg_tree.specs.Tree.{Mark, Do'}
 use Rattle.tg_tree.specs.Units.{Canonical}
 use Rattle.tg_tree.specs.Sizes.{in_canonical, expression_length, condition_length, statement_length, statements_length, code_length, expression_needs}
 use Rattle.tg_tree.specs.Sizes.{condition_needs, statement_needs, statements_needs, code_needs}
-use Rattle.tg_trace.specs.Cutting.{blocks_of}
-use Rattle.tg_trace.specs.Laying.{traced}
+use Rattle.tg_trace.specs.mirror.Cutting.{blocks_of}
+use Rattle.tg_trace.specs.mirror.Laying.{traced}
 use Rattle.tg_trace.proofs.Costs.{condition_cost, statement_cost, statements_cost, code_cost, traced_cost_no_more}
 
 -- Lengths.
@@ -125,7 +125,7 @@ code_takes_is (tree.Return' x ∷ rest) = let h = code_takes_is rest in omega (a
 pub needs_stay : (ss : Stms) → code_needs in_canonical (traced (blocks_of ss)) ≤ statements_needs in_canonical ss
 needs_stay ss =
     let h : code_takes (traced (blocks_of ss)) ≤ statements_take ss + (0 + 0) =
-        traced_cost_no_more 0 0 (statement_needs in_canonical) branch_needs room (λ n. 0) ss in
+    traced_cost_no_more 0 0 (statement_needs in_canonical) branch_needs room (λ n. 0) ss in
     let k = statements_have_needs ss in
     let e = code_takes_is (traced (blocks_of ss)) in
     omega (arith, h, k, e)

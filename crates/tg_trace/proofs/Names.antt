@@ -6,8 +6,8 @@ use Rattle.tg_tree.specs.Tree as tree
 use Rattle.tg_tree.specs.Tree.{Tx, Const, Address, Temp, FrameAddress, Binary, Load, LoadByte, Call, Service, After, Txs, no_txs, tx, Cond, Compare}
 use Rattle.tg_tree.specs.Tree.{Not, Both, Either, Ts, Move, Store, StoreByte, Do, If, Loop, Break, Seq, Stms, no_stms, stm, Linear, Mark, Do'}
 use Rattle.tg_tree.specs.Named.{NamesAreAllowed, Named, fault, named_tx, named_txs, named_cond, named_ts, named_stms, named_flat}
-use Rattle.tg_trace.specs.Cutting.{blocks_of}
-use Rattle.tg_trace.specs.Laying.{traced}
+use Rattle.tg_trace.specs.mirror.Cutting.{blocks_of}
+use Rattle.tg_trace.specs.mirror.Laying.{traced}
 use Rattle.tg_trace.proofs.Costs.{condition_cost, statement_cost, statements_cost, code_cost, traced_cost_no_more}
 
 module _ (allowed : Named → Bool) where

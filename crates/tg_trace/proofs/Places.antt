@@ -8,7 +8,7 @@ use Rattle.std.proofs.lemmas.Option.{slice_get_within}
 use Rattle.std.proofs.lemmas.List.Elements.{Contains-get_or, Contains-append_left, Contains-append_right, Contains-append_cases}
 use Rattle.std.proofs.lemmas.List.Quantifiers.{all_pairs_push}
 use Rattle.tg_trace.specs.Block.{BlockEnd, Jump, Branch, Fault, Return, Block}
-use Rattle.tg_trace.specs.Laying.{Order, put, unless, unless_laid, onward, block_at, follow, traces}
+use Rattle.tg_trace.specs.mirror.Laying.{Order, put, unless, unless_laid, onward, block_at, follow, traces}
 
 pub same_or_not : (a b : ℕ) → (a ≡ b) ⊎ (a ≢ b)
 same_or_not zero zero = inl refl

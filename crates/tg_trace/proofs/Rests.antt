@@ -6,13 +6,13 @@ use Rattle.std.proofs.lemmas.List.{reverse-append, length-reverse, map-append, t
 use Rattle.tg_tree.specs.declared.trees.Ts.{Ts as CodeTs}
 use Rattle.tg_tree.specs.declared.linear.Linear.{Linear as CodeLinear}
 use Rattle.tg_tree.specs.Tree.{no_stms, Linear, Do'}
-use Rattle.tg_tree.specs.Plain.{plain_ts, plain_linear}
-use Rattle.tg_tree.specs.Lists.{stms_of, code_of}
+use Rattle.tg_tree.specs.glue.Plain.{plain_ts, plain_linear}
+use Rattle.tg_tree.specs.glue.Lists.{stms_of, code_of}
 use Rattle.tg_trace.specs.declared.flows.Block.{Block as CodeBlock}
 use Rattle.tg_trace.specs.Block.{BlockEnd, Block}
-use Rattle.tg_trace.specs.Cutting.{CutBlocks, leads, entered_by, placed}
-use Rattle.tg_trace.specs.Laying.{Order, no_block, block_at, follow, put, onward, block_code, code_in, body_code}
-use Rattle.tg_trace.specs.Plains.{plain_block, plain_blocks}
+use Rattle.tg_trace.specs.glue.Plains.{plain_block, plain_blocks}
+use Rattle.tg_trace.specs.mirror.Cutting.{CutBlocks, leads, entered_by, placed}
+use Rattle.tg_trace.specs.mirror.Laying.{Order, no_block, block_at, follow, put, onward, block_code, code_in, body_code}
 
 pub reverse_last : {A : Type 0} (xs : List A) (x : A) → reverse (xs ++ x ∷ []) ≡ x ∷ reverse xs
 reverse_last xs x = reverse-append xs (x ∷ [])

@@ -6,7 +6,7 @@ use Rattle.tg_state.specs.declared.ends.RunEnd.TheVariants.{Exit}
 use Rattle.tg_state.specs.State.{stack_top}
 use Rattle.tg_simulation.specs.Ran.{Ended}
 use Rattle.tg_simulation.specs.Preserving.{Preserves}
-use Rattle.tg_simulation.specs.Simulating.{Simulates}
+use Rattle.tg_simulation.specs.laws.Simulating.{Simulates}
 use Rattle.tg_simulation.proofs.Simulations.{simulation_preserves, simulates_stopping, simulates_with_credit, simulates_along}
 use Rattle.tg_tree.specs.Tree.{Linear, Mark, Function, Literal, Code}
 use Rattle.tg_tree.specs.Memory.{begin}
@@ -20,10 +20,10 @@ use Rattle.tg_tree.proofs.Relating.{AlikeAround, around, around_down}
 use Rattle.tg_tree.proofs.Going.{one as one_of, OneWorld, OneTemps}
 use Rattle.tg_tree.proofs.FlatRuns.{flat_code_steps}
 use Rattle.tg_trace.specs.Block.{Block}
-use Rattle.tg_trace.specs.Laying.{Order, put, block_at, onward, follow, traces, traced}
+use Rattle.tg_trace.specs.mirror.Laying.{Order, put, block_at, onward, follow, traces, traced}
 use Rattle.tg_trace.specs.Shapes.{LeadsBelow}
 use Rattle.tg_trace.specs.Meaning.{block_run}
-use Rattle.tg_trace.specs.Traced.{MayBeLaid, laid, laid_all, block_runner, flat_runner}
+use Rattle.tg_trace.specs.laws.Traced.{MayBeLaid, laid, laid_all, block_runner, flat_runner}
 use Rattle.tg_trace.proofs.Marks.{each}
 use Rattle.tg_trace.proofs.BlocksRuns.{blocks_step}
 use Rattle.tg_trace.proofs.BlocksFlat.{keeps_simulating}

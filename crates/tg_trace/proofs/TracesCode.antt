@@ -4,7 +4,7 @@ use Rattle.std.specs.Prelude.{slice_get, slice_set}
 use Rattle.std.specs.List.{Contains, AllPairs}
 use Rattle.tg_tree.specs.Tree.{Linear}
 use Rattle.tg_trace.specs.Block.{Block}
-use Rattle.tg_trace.specs.Laying.{no_block, block_at, block_code, code_in, traces, traced}
+use Rattle.tg_trace.specs.mirror.Laying.{no_block, block_at, block_code, code_in, traces, traced}
 use Rattle.tg_trace.proofs.Places.{traces_keep}
 
 pub other_block : (bs : List Block) (p q : ℕ) → p ≢ q → block_at (slice_set bs p no_block) q ≡ block_at bs q

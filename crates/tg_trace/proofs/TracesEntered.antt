@@ -8,8 +8,8 @@ use Rattle.tg_tree.specs.Tree as tree
 use Rattle.tg_tree.specs.Tree.{Cond, Compare, Not, Both, Either, Ts, Move, Store, StoreByte, Do, If, Loop, Break, Seq, Stms, no_stms, stm}
 use Rattle.tg_tree.specs.Shapes.{BreaksWithin, BreaksWithinStms}
 use Rattle.tg_trace.specs.Block.{Jump, Branch, Fault, Return}
-use Rattle.tg_trace.specs.Heads.{LeadsTo}
-use Rattle.tg_trace.specs.Cutting.{CutBlocks, open_at, leads, next_mark, seal, branch, exit_of, leaves, cut, cut_all}
+use Rattle.tg_trace.specs.laws.Heads.{LeadsTo}
+use Rattle.tg_trace.specs.mirror.Cutting.{CutBlocks, open_at, leads, next_mark, seal, branch, exit_of, leaves, cut, cut_all}
 use Rattle.tg_trace.proofs.BlocksKept.{get_front, get_seam, side, turn}
 use Rattle.tg_trace.proofs.TracesLoops.{same_index, UsableIn, CutState, Step, step_usable, step_on, stays, opens, fronts, Sealed, seals, begun}
 use Rattle.tg_trace.proofs.TracesLoops.{begun_starts, FromOutside, begun_state, from_outside, turns}

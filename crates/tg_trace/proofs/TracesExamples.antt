@@ -11,7 +11,7 @@ use Rattle.tg_tree.specs.Tree.{Tx, Const, Temp, Binary, Service, Ts, Move, Do, C
 use Rattle.tg_tree.specs.Flat.{flat_run}
 use Rattle.tg_trace.specs.Block.{BlockEnd, Jump, Branch, Return, Block}
 use Rattle.tg_trace.specs.Meaning.{block_run}
-use Rattle.tg_trace.specs.Traced.{laid_all}
+use Rattle.tg_trace.specs.laws.Traced.{laid_all}
 
 abbrev block : BlockEnd → List Ts → Block
 block e ss = record { body = stms ss; end = e }

@@ -7,10 +7,10 @@ use Rattle.std.proofs.lemmas.List.{length-map, length-reverse, length-take, get_
 use Rattle.tg_tree.specs.Tree.{Stms}
 use Rattle.tg_tree.specs.Shapes.{AreClosed}
 use Rattle.tg_trace.specs.Block.{BlockEnd, Jump, Branch, Fault, Return, Block}
-use Rattle.tg_trace.specs.Laying.{no_block, block_at}
-use Rattle.tg_trace.specs.Heads.{LeadsTo, PassesBy, begins, goes_on, AreEnteredAtHeads}
-use Rattle.tg_trace.specs.Traced.{MayBeLaid}
-use Rattle.tg_trace.specs.Cutting.{CutBlocks, leads, cut_all, start, entered_by, place_of, placed_end, placed, placed_all, blocks_of}
+use Rattle.tg_trace.specs.mirror.Laying.{no_block, block_at}
+use Rattle.tg_trace.specs.laws.Heads.{LeadsTo, PassesBy, begins, goes_on, AreEnteredAtHeads}
+use Rattle.tg_trace.specs.laws.Traced.{MayBeLaid}
+use Rattle.tg_trace.specs.mirror.Cutting.{CutBlocks, leads, cut_all, start, entered_by, place_of, placed_end, placed, placed_all, blocks_of}
 use Rattle.tg_trace.proofs.Wholes.{blocks_are_whole}
 use Rattle.tg_trace.proofs.TracesNested.{outer, free, Known}
 use Rattle.tg_trace.proofs.TracesLoops.{UsableIn, CutState, LeadsOf, laid_leads, one_laid, leads_there}

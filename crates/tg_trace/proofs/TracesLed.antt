@@ -7,10 +7,10 @@ use Rattle.tg_tree.specs.Tree as tree
 use Rattle.tg_tree.specs.Tree.{Stms, no_stms, stm, Linear, Mark}
 use Rattle.tg_tree.specs.declared.operators.Rel.{Rel}
 use Rattle.tg_trace.specs.Block.{BlockEnd, Jump, Branch, Fault, Return, Block}
-use Rattle.tg_trace.specs.Laying.{Order, put, unless, unless_laid, onward, block_at, follow, traces, is_next, jump_unless, branch_by, end_code}
-use Rattle.tg_trace.specs.Laying.{body_code, traced}
+use Rattle.tg_trace.specs.mirror.Laying.{Order, put, unless, unless_laid, onward, block_at, follow, traces, is_next, jump_unless, branch_by, end_code}
+use Rattle.tg_trace.specs.mirror.Laying.{body_code, traced}
 use Rattle.tg_trace.specs.Shapes.{EndsBelow, LeadsBelow, AreWhole}
-use Rattle.tg_trace.specs.Heads.{JumpsGoBack}
+use Rattle.tg_trace.specs.laws.Heads.{JumpsGoBack}
 use Rattle.tg_trace.proofs.Places.{IsOrder, IsFree, put_keeps, onward_free, free_or, traces_keep, None_past}
 use Rattle.tg_trace.proofs.Marks.{each}
 use Rattle.tg_trace.proofs.TracesCode.{laid_code, traced_is}

@@ -6,9 +6,9 @@ use Rattle.std.proofs.lemmas.Bool.{cases_lt}
 use Rattle.std.proofs.lemmas.Option.{get_or_from_slice_get}
 use Rattle.tg_tree.specs.Tree.{Ts, Stms, no_stms, stm}
 use Rattle.tg_trace.specs.Block.{BlockEnd, Jump, Branch, Fault, Return, Block}
-use Rattle.tg_trace.specs.Laying.{no_block, block_at}
-use Rattle.tg_trace.specs.Heads.{LeadsTo}
-use Rattle.tg_trace.specs.Cutting.{CutBlocks, open_at, in_front, draw, lay, leads, mark_by, seal_by, head}
+use Rattle.tg_trace.specs.mirror.Laying.{no_block, block_at}
+use Rattle.tg_trace.specs.laws.Heads.{LeadsTo}
+use Rattle.tg_trace.specs.mirror.Cutting.{CutBlocks, open_at, in_front, draw, lay, leads, mark_by, seal_by, head}
 use Rattle.tg_trace.proofs.BlocksKept.{get_front, get_seam, set_own, set_other, Keeps, keeps_itself, keeps_on, opened_keeps, front_keeps, draw_keeps}
 use Rattle.tg_trace.proofs.BlocksKept.{seal_by_keeps, head_keeps}
 use Rattle.tg_trace.proofs.TracesNested.{Usable, outer, free, Nested, usable_on, one_more, lay_nested, lay_usable, loop_nested, head_usable, starts_since}

@@ -6,8 +6,8 @@ use Rattle.std.specs.List.{Contains}
 use Rattle.std.proofs.lemmas.List.Elements.{Contains-append_left, Contains-append_right, Contains-push}
 use Rattle.std.proofs.lemmas.Bool.{cases_lt}
 use Rattle.tg_trace.specs.Block.{BlockEnd, Jump, Branch, Fault, Return, Block}
-use Rattle.tg_trace.specs.Laying.{Order, put, unless, unless_laid, onward, block_at, follow, traces}
-use Rattle.tg_trace.specs.Heads.{LeadsTo, PassesBy, begins, goes_on, AreEnteredAtHeads}
+use Rattle.tg_trace.specs.mirror.Laying.{Order, put, unless, unless_laid, onward, block_at, follow, traces}
+use Rattle.tg_trace.specs.laws.Heads.{LeadsTo, PassesBy, begins, goes_on, AreEnteredAtHeads}
 use Rattle.tg_trace.proofs.Places.{same_or_not, traces_keep, all_laid}
 
 -- a place is in a list or not

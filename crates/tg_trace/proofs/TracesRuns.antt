@@ -6,7 +6,7 @@ use Rattle.std.proofs.lemmas.Bool.{cases_lt, lt-ltb, le-ltb, eqb-true}
 use Rattle.tg_state.specs.declared.ends.RunEnd.TheVariants.{Break}
 use Rattle.tg_simulation.specs.Runs.{Run}
 use Rattle.tg_simulation.specs.Ran.{Ran, Ended, WantsFuel, Wrong, stops}
-use Rattle.tg_simulation.specs.Simulating.{Simulates}
+use Rattle.tg_simulation.specs.laws.Simulating.{Simulates}
 use Rattle.tg_simulation.proofs.Simulations.{simulates_turn, simulates_turn_behind, simulates_paying, simulates_working, simulates_with_credit, simulates_along}
 use Rattle.tg_simulation.proofs.Simulations.{simulates_trading, simulates_unpaid, simulates_working_less}
 use Rattle.tg_tree.specs.declared.operators.Rel.{Rel}
@@ -22,11 +22,11 @@ use Rattle.tg_tree.proofs.Going.{one, OneWorld, OneTemps}
 use Rattle.tg_tree.proofs.Opposites.{opposite_holds}
 use Rattle.tg_tree.proofs.FlatRuns.{flat_code_steps}
 use Rattle.tg_trace.specs.Block.{BlockEnd, Jump, Branch, Fault, Return, Block}
-use Rattle.tg_trace.specs.Laying.{no_block, block_at, is_next, jump_unless, branch_by, end_code, body_code}
+use Rattle.tg_trace.specs.mirror.Laying.{no_block, block_at, is_next, jump_unless, branch_by, end_code, body_code}
 use Rattle.tg_trace.specs.Shapes.{EndsBelow, LeadsBelow}
-use Rattle.tg_trace.specs.Heads.{LeadsTo}
+use Rattle.tg_trace.specs.laws.Heads.{LeadsTo}
 use Rattle.tg_trace.specs.Meaning.{end_units, BlockPoint, enter_blocks, word_of, run_within, finish, return_to, run_from, block_going}
-use Rattle.tg_trace.specs.Traced.{block_runner, flat_runner}
+use Rattle.tg_trace.specs.laws.Traced.{block_runner, flat_runner}
 use Rattle.tg_trace.proofs.BlocksRuns.{blocks_step}
 use Rattle.tg_trace.proofs.BlocksFlat.{pays_less, keeps_simulating}
 use Rattle.tg_trace.proofs.TracesStands.{Falls, Stands}

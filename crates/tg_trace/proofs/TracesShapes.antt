@@ -5,8 +5,8 @@ use Rattle.tg_tree.specs.Tree as tree
 use Rattle.tg_tree.specs.Tree.{Stms, no_stms, stm, Linear, Mark}
 use Rattle.tg_tree.specs.declared.operators.Rel.{Rel}
 use Rattle.tg_trace.specs.Block.{BlockEnd, Jump, Branch, Fault, Return, Block}
-use Rattle.tg_trace.specs.Laying.{block_at, traces, is_next, jump_unless, branch_by, end_code, body_code, traced}
-use Rattle.tg_trace.specs.Heads.{LeadOn, BranchesLeadOn}
+use Rattle.tg_trace.specs.mirror.Laying.{block_at, traces, is_next, jump_unless, branch_by, end_code, body_code, traced}
+use Rattle.tg_trace.specs.laws.Heads.{LeadOn, BranchesLeadOn}
 use Rattle.tg_trace.proofs.TracesCode.{laid_code, traced_is}
 
 leads_on : (b : Bool) (q m : ℕ) (rest : List Linear) → LeadOn (jump_unless b q ++ Mark m ∷ rest)

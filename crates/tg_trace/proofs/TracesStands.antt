@@ -12,8 +12,8 @@ use Rattle.tg_tree.specs.Tree.{Linear, Mark, Do'}
 use Rattle.tg_tree.specs.Shapes.{marks}
 use Rattle.tg_tree.specs.Flat.{behind}
 use Rattle.tg_trace.specs.Block.{Block}
-use Rattle.tg_trace.specs.Laying.{block_at, end_code, body_code, block_code, traces, traced}
-use Rattle.tg_trace.specs.Heads.{LeadsTo, AreEnteredAtHeads}
+use Rattle.tg_trace.specs.mirror.Laying.{block_at, end_code, body_code, block_code, traces, traced}
+use Rattle.tg_trace.specs.laws.Heads.{LeadsTo, AreEnteredAtHeads}
 use Rattle.tg_trace.proofs.Places.{traces_keep, all_there}
 use Rattle.tg_trace.proofs.Marks.{marks_behind_body, marks_behind_end}
 use Rattle.tg_trace.proofs.TracesCode.{laid_code, traced_is}

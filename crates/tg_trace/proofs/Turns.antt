@@ -3,7 +3,7 @@ use Rattle.std.proofs.Common.{◌≡◌, ℕ, ◌-◌, List, [], ◌∷◌, ◌+
 use Rattle.std.proofs.lemmas.List.{take-append-le}
 use Rattle.tg_tree.specs.Tree.{Ts, Loop}
 use Rattle.tg_trace.specs.Block.{Jump}
-use Rattle.tg_trace.specs.Cutting.{CutBlocks, open_at, draw, next_mark, seal, head, cut}
+use Rattle.tg_trace.specs.mirror.Cutting.{CutBlocks, open_at, draw, next_mark, seal, head, cut}
 use Rattle.tg_trace.proofs.Rests.{take_all}
 
 pub turned_is :

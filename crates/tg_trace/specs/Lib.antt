@@ -1,10 +1,6 @@
 pub mod Block
-pub mod Cutting
-pub mod Laying
-pub mod Plains
 pub mod Shapes
 pub mod Meaning
-pub mod Carried
-pub mod Laws
-pub mod Heads
-pub mod Traced
+pub mod glue
+pub mod laws
+pub mod mirror

@@ -1,7 +1,7 @@
 ghost use Rattle.std.specs.Prelude.{OnOk};
-ghost use Rattle.tg_tree.specs.Plain.{plain_cond};
-ghost use Rattle.tg_trace.specs.Cutting as cutting;
-ghost use Rattle.tg_trace.specs.Plains.{Cuts};
+ghost use Rattle.tg_tree.specs.glue.Plain.{plain_cond};
+ghost use Rattle.tg_trace.specs.glue.Plains.{Cuts};
+ghost use Rattle.tg_trace.specs.mirror.Cutting as cutting;
 
 use crate::cuts::{Cut, open_at, seal};
 use crate::flows::End;

@@ -1,9 +1,9 @@
 ghost use Rattle.std.specs.Prelude.{◌≡◌, [], reverse, length, slice_set, IfOk, OnOk};
-ghost use Rattle.tg_tree.specs.Plain.{plain_ts};
-ghost use Rattle.tg_tree.specs.Lists.{stms_of};
+ghost use Rattle.tg_tree.specs.glue.Plain.{plain_ts};
+ghost use Rattle.tg_tree.specs.glue.Lists.{stms_of};
 ghost use Rattle.tg_tree.specs.Tree.{no_stms};
-ghost use Rattle.tg_trace.specs.Cutting as cutting;
-ghost use Rattle.tg_trace.specs.Plains.{plain_end, plain_cut, Cuts};
+ghost use Rattle.tg_trace.specs.glue.Plains.{plain_end, plain_cut, Cuts};
+ghost use Rattle.tg_trace.specs.mirror.Cutting as cutting;
 
 use crate::flows::{Block, End};
 use std::alloc::Global;

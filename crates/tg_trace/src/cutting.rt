@@ -1,9 +1,9 @@
 ghost use Rattle.std.specs.Prelude.{◌≡◌, IfOk, OnOk};
-ghost use Rattle.tg_tree.specs.Plain.{plain_ts};
-ghost use Rattle.tg_tree.specs.Lists.{stms_of};
+ghost use Rattle.tg_tree.specs.glue.Plain.{plain_ts};
+ghost use Rattle.tg_tree.specs.glue.Lists.{stms_of};
 ghost use Rattle.tg_tree.specs.Tree as tree;
-ghost use Rattle.tg_trace.specs.Cutting as cutting;
-ghost use Rattle.tg_trace.specs.Plains.{plain_blocks, plain_cut, Cuts, come_to as come_to_in};
+ghost use Rattle.tg_trace.specs.glue.Plains.{plain_blocks, plain_cut, Cuts, come_to as come_to_in};
+ghost use Rattle.tg_trace.specs.mirror.Cutting as cutting;
 
 use crate::conditions::branch;
 use crate::cuts::{Cut, draw, open_at, put_head, put_in_front, seal, start};

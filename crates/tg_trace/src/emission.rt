@@ -1,8 +1,8 @@
 ghost use Rattle.std.specs.Prelude.{◌≡◌, ◌∷◌, [], ◌++◌, OnOk};
-ghost use Rattle.tg_tree.specs.Plain.{plain_tx, plain_linear};
-ghost use Rattle.tg_tree.specs.Lists.{stms_of, code_of};
-ghost use Rattle.tg_trace.specs.Laying as laying;
-ghost use Rattle.tg_trace.specs.Plains.{plain_end, plain_block};
+ghost use Rattle.tg_tree.specs.glue.Plain.{plain_tx, plain_linear};
+ghost use Rattle.tg_tree.specs.glue.Lists.{stms_of, code_of};
+ghost use Rattle.tg_trace.specs.glue.Plains.{plain_end, plain_block};
+ghost use Rattle.tg_trace.specs.mirror.Laying as laying;
 
 use crate::flows::{Block, End};
 use tg_base::Memory;

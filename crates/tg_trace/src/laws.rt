@@ -1,12 +1,12 @@
-ghost use Rattle.tg_trace.specs.Carried.{
+ghost use Rattle.tg_trace.specs.laws.Carried.{
   BlocksStep,
   BlocksStayOver,
   BlocksOnlyGoOn,
   BlocksCarryBodies,
   BlocksAreCorrect,
 };
-ghost use Rattle.tg_trace.specs.Heads.{BlocksAreEntered, FalseSideFollows, JumpsAreBack};
-ghost use Rattle.tg_trace.specs.Laws.{
+ghost use Rattle.tg_trace.specs.laws.Heads.{BlocksAreEntered, FalseSideFollows, JumpsAreBack};
+ghost use Rattle.tg_trace.specs.laws.Laws.{
   BlocksAreFlat,
   BlocksAreWhole,
   CodeIsFlat,
@@ -15,7 +15,7 @@ ghost use Rattle.tg_trace.specs.Laws.{
   NamesStay,
   NeedsStay,
 };
-ghost use Rattle.tg_trace.specs.Traced.{TracesCarryBodies, TracesAreCorrect};
+ghost use Rattle.tg_trace.specs.laws.Traced.{TracesCarryBodies, TracesAreCorrect};
 
 /// Laws of the blocks into which statements are cut: those of canonical statements are flat, and
 /// those of a closed body lead to one another alone, with loops that are entered at their heads.

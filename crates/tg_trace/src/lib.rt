@@ -1,7 +1,8 @@
 //! Basic blocks and traces (Appel, chapter 8): canonical statements become flat code.
 //!
 //! They are cut into blocks, whose order then lets most jumps fall away. Promises the choice of
-//! instructions exactly the flat code of `specs/Cutting.antt` and `specs/Laying.antt`.
+//! instructions exactly the flat code of `specs/mirror/Cutting.antt` and
+//! `specs/mirror/Laying.antt`.
 #![tactic(auto)]
 
 mod conditions;

@@ -1,6 +1,6 @@
 ghost use Rattle.std.specs.Prelude.{◌≡◌, true, length, slice_set, IfOk, OnOk};
-ghost use Rattle.tg_trace.specs.Laying as laying;
-ghost use Rattle.tg_trace.specs.Plains.{plain_end, plain_blocks, plain_order};
+ghost use Rattle.tg_trace.specs.glue.Plains.{plain_end, plain_blocks, plain_order};
+ghost use Rattle.tg_trace.specs.mirror.Laying as laying;
 
 use crate::flows::{Block, End};
 use std::alloc::Global;

@@ -1,6 +1,6 @@
 ghost use Rattle.std.specs.Prelude.{◌≡◌, slice_index, IfOk, OnOk};
-ghost use Rattle.tg_trace.specs.Cutting as cutting;
-ghost use Rattle.tg_trace.specs.Plains.{plain_end, plain_block, plain_blocks, plain_cut};
+ghost use Rattle.tg_trace.specs.glue.Plains.{plain_end, plain_block, plain_blocks, plain_cut};
+ghost use Rattle.tg_trace.specs.mirror.Cutting as cutting;
 
 use crate::cuts::{Cut, lay, leads, number};
 use crate::flows::{Block, End};

@@ -1,8 +1,8 @@
 ghost use Rattle.std.specs.Prelude.{◌≡◌, ◌<◌, ◌+◌, IfOk, OnOk};
 ghost use Rattle.std.specs.Prelude.{◌++◌, length, slice_set, slice_get, slice_index};
-ghost use Rattle.tg_tree.specs.Lists.{code_of};
-ghost use Rattle.tg_trace.specs.Laying as laying;
-ghost use Rattle.tg_trace.specs.Plains.{plain_block, plain_blocks};
+ghost use Rattle.tg_tree.specs.glue.Lists.{code_of};
+ghost use Rattle.tg_trace.specs.glue.Plains.{plain_block, plain_blocks};
+ghost use Rattle.tg_trace.specs.mirror.Laying as laying;
 
 use crate::emission::put_block;
 use crate::flows::{Block, Blocks, End};

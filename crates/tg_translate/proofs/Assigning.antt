@@ -3,13 +3,13 @@ use Rattle.std.proofs.Common.{◌≡◌, ap, ◌∙◌, Bool, true, false}
 use Rattle.tg_syntax.specs.Tree.{Exp, LValue}
 use Rattle.tg_tree.specs.Tree.{Ts}
 use Rattle.tg_translate.specs.declared.homes.Within.{Within}
-use Rattle.tg_translate.specs.States.{TranslationState, Translates, drawn, after, give}
-use Rattle.tg_translate.specs.Wants.{Made, done}
-use Rattle.tg_translate.specs.Constructs.{Storage}
-use Rattle.tg_translate.specs.Scopes.{Findings}
-use Rattle.tg_translate.specs.Translate.{assignment, expression, behind_read}
-use Rattle.tg_translate.specs.Updates.{begins_with}
-use Rattle.tg_translate.specs.Parts.{assigned_in, updated_in}
+use Rattle.tg_translate.specs.mirror.States.{TranslationState, Translates, drawn, after, give}
+use Rattle.tg_translate.specs.mirror.Wants.{Made, done}
+use Rattle.tg_translate.specs.mirror.Constructs.{Storage}
+use Rattle.tg_translate.specs.mirror.Scopes.{Findings}
+use Rattle.tg_translate.specs.mirror.Translate.{assignment, expression, behind_read}
+use Rattle.tg_translate.specs.mirror.Updates.{begins_with}
+use Rattle.tg_translate.specs.glue.Parts.{assigned_in, updated_in}
 
 module _ (findings : Findings) (v : LValue) (e : Exp) (within : Within) where
   abbrev assigned_if : Bool → Storage → Translates Made

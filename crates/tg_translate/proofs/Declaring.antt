@@ -30,15 +30,15 @@ use Rattle.tg_frame.specs.declared.accesses.Access.{Access}
 use Rattle.tg_frame.specs.Homes.{homes_from, homes_of}
 use Rattle.tg_syntax.specs.declared.trees.Param.{Param}
 use Rattle.tg_syntax.specs.declared.trees.FunDec.{FunDec as CodeFunDec}
-use Rattle.tg_syntax.specs.Lists.{functions_of}
+use Rattle.tg_syntax.specs.glue.Lists.{functions_of}
 use Rattle.tg_tree.specs.Tree.{Stms}
 use Rattle.tg_translate.specs.declared.homes.Home.{Home}
 use Rattle.tg_translate.specs.declared.homes.Callee.{Callee}
 use Rattle.tg_translate.specs.declared.operands.Operand.{Operand}
-use Rattle.tg_translate.specs.States.{TranslationState, Translated, drawn}
-use Rattle.tg_translate.specs.Wants.{followed}
-use Rattle.tg_translate.specs.Constructs.{store_field, store_fields}
-use Rattle.tg_translate.specs.Functions.{at_of, asked, parameters, own_homes, declare_functions}
+use Rattle.tg_translate.specs.mirror.States.{TranslationState, Translated, drawn}
+use Rattle.tg_translate.specs.mirror.Wants.{followed}
+use Rattle.tg_translate.specs.mirror.Constructs.{store_field, store_fields}
+use Rattle.tg_translate.specs.mirror.Functions.{at_of, asked, parameters, own_homes, declare_functions}
 
 from_here : {A : Type 0} (xs : List A) (k : ℕ) (x : A) → k < length xs → x ≡ get_or xs k x → drop k xs ≡ x ∷ drop (k + 1) xs
 from_here xs k x l i = drop_more xs k x l ∙ ap (λ y. y ∷ drop (k + 1) xs) (sym i)

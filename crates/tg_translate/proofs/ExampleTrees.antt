@@ -15,7 +15,7 @@ use Rattle.tg_syntax.specs.Tree.{no_functions, function}
 use Rattle.tg_semantics.specs.declared.standards.Standard.TheVariants as standard
 use Rattle.tg_types.specs.declared.notes.Means.{Means}
 use Rattle.tg_types.specs.declared.notes.Means.TheVariants as means
-use Rattle.tg_translate.specs.Scopes.{Findings}
+use Rattle.tg_translate.specs.mirror.Scopes.{Findings}
 
 abbrev pub sp : Span
 sp = record { from = 0; to = 0 }

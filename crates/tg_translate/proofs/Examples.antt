@@ -16,11 +16,11 @@ use Rattle.tg_tree.specs.Tree.{Const, Temp, Service, After, Compare, Ts, Move, D
 use Rattle.tg_tree.specs.Forms.{sequence}
 use Rattle.tg_tree.specs.Units.{Trees}
 use Rattle.tg_tree.specs.Running.{tree_run}
-use Rattle.tg_runtime.specs.Routines.{runtime}
-use Rattle.tg_translate.specs.Returning.{returning}
-use Rattle.tg_translate.specs.Constructs.{space_for_record}
-use Rattle.tg_translate.specs.Translate.{translated}
-use Rattle.tg_translate.specs.Updates.{begins_with}
+use Rattle.tg_runtime.specs.mirror.Routines.{runtime}
+use Rattle.tg_translate.specs.mirror.Returning.{returning}
+use Rattle.tg_translate.specs.mirror.Constructs.{space_for_record}
+use Rattle.tg_translate.specs.mirror.Translate.{translated}
+use Rattle.tg_translate.specs.mirror.Updates.{begins_with}
 use Rattle.tg_translate.proofs.ExampleTrees.{sp, id, x, i, k, f, g, findings, num, get, set, call, seq, text, exit, binary, plus, let_var, block}
 use Rattle.tg_translate.proofs.ExampleTrees.{params, counts_to_three, fields_added, elements_added, element_after_the_last, factorial_of_four}
 use Rattle.tg_translate.proofs.ExampleTrees.{sum_by_links}

@@ -2,9 +2,9 @@
 use Rattle.std.proofs.Common.{◌≡◌, ℕ, ◌<◌, List, [], ◌∷◌, ◌++◌, length, refl, sym, ap, ◌∙◌, subst, arith, true, false}
 use Rattle.tg_tree.specs.declared.trees.Ts.{Ts as CodeTs}
 use Rattle.tg_tree.specs.Tree.{Return, Temp, stm}
-use Rattle.tg_tree.specs.Plain.{plain_ts}
-use Rattle.tg_tree.specs.Lists.{stms_of}
-use Rattle.tg_translate.specs.Returning.{returned_from, all_returned_from}
+use Rattle.tg_tree.specs.glue.Plain.{plain_ts}
+use Rattle.tg_tree.specs.glue.Lists.{stms_of}
+use Rattle.tg_translate.specs.mirror.Returning.{returned_from, all_returned_from}
 
 last_returns : (i : ℕ) (before : List CodeTs) (s u : CodeTs) → plain_ts u ≡ returned_from i (plain_ts s) →
     stms_of (before ++ u ∷ []) ≡ all_returned_from i (stms_of (before ++ s ∷ []))

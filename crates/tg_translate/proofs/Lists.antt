@@ -2,10 +2,10 @@
 use Rattle.std.proofs.Common.{◌≡◌, ◌==◌, List, [], ◌∷◌, ◌++◌, length, refl, ap, ◌∙◌}
 use Rattle.std.proofs.Math.Dec.{eqb-suc-zero}
 use Rattle.tg_tree.specs.declared.trees.Ts.{Ts as CodeTs}
-use Rattle.tg_tree.specs.Plain.{plain_ts}
-use Rattle.tg_tree.specs.Lists.{stms_of}
+use Rattle.tg_tree.specs.glue.Plain.{plain_ts}
+use Rattle.tg_tree.specs.glue.Lists.{stms_of}
 use Rattle.tg_tree.proofs.ListLaws.{stms_of-push}
-use Rattle.tg_translate.specs.Wants.{is_none, followed}
+use Rattle.tg_translate.specs.mirror.Wants.{is_none, followed}
 
 pub length_is_none : (ss : List CodeTs) → (length ss == 0) ≡ is_none (stms_of ss)
 length_is_none [] = refl

@@ -4,9 +4,9 @@ use Rattle.std.proofs.Math.Seq.{drop-length}
 use Rattle.std.proofs.lemmas.List.{drop_more}
 use Rattle.tg_syntax.specs.declared.trees.Exp.{Exp as CodeExp}
 use Rattle.tg_syntax.specs.declared.trees.Init.{Init as CodeInit}
-use Rattle.tg_syntax.specs.Plain.{plain}
-use Rattle.tg_syntax.specs.Lists.{exps_of, inits_of}
-use Rattle.tg_translate.specs.Purity.{assigns_nothing, all_assign_nothing, inits_assign_nothing}
+use Rattle.tg_syntax.specs.glue.Plain.{plain}
+use Rattle.tg_syntax.specs.glue.Lists.{exps_of, inits_of}
+use Rattle.tg_translate.specs.mirror.Purity.{assigns_nothing, all_assign_nothing, inits_assign_nothing}
 
 and_assoc : (a b c : Bool) → ((a && b) && c) ≡ (a && (b && c))
 and_assoc true b c = refl

@@ -1,6 +1,6 @@
 -- Actions, one after another: what is drawn by the first is handed to the next.
 use Rattle.std.proofs.Common.{◌≡◌, ap, ◌∙◌}
-use Rattle.tg_translate.specs.States.{TranslationState, Translates, Translated, drawn, after}
+use Rattle.tg_translate.specs.mirror.States.{TranslationState, Translates, Translated, drawn, after}
 
 pub step :
     {A B : Type 0} {x : Translated A} {a : A} {s : TranslationState} {d : Translated B} (next : A → Translates B) →

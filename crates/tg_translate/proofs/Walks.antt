@@ -10,20 +10,20 @@ use Rattle.tg_syntax.specs.declared.trees.Exps.{Exps as CodeExps, out-Exps}
 use Rattle.tg_syntax.specs.declared.trees.Inits.{Inits as CodeInits, out-Inits}
 use Rattle.tg_syntax.specs.declared.trees.FunDecs.{FunDecs as CodeFunDecs, out-FunDecs}
 use Rattle.tg_syntax.specs.Tree.{Exps, no_exps, exp, Decs, no_decs}
-use Rattle.tg_syntax.specs.Plain.{plain, plain_kind, plain_exps, plain_inits, plain_functions, plain_dec}
-use Rattle.tg_syntax.specs.Lists.{exps_of, inits_of, decs_of, functions_of}
+use Rattle.tg_syntax.specs.glue.Plain.{plain, plain_kind, plain_exps, plain_inits, plain_functions, plain_dec}
+use Rattle.tg_syntax.specs.glue.Lists.{exps_of, inits_of, decs_of, functions_of}
 use Rattle.tg_syntax.proofs.ListLaws.{plain_exps-items, plain_inits-items, plain_functions-items}
 use Rattle.tg_tree.specs.Tree.{Tx, Const, Txs, no_txs, tx, Ts, Stms, no_stms}
-use Rattle.tg_tree.specs.Lists.{join_txs}
+use Rattle.tg_tree.specs.glue.Lists.{join_txs}
 use Rattle.tg_translate.specs.declared.homes.Within.{Within}
 use Rattle.tg_translate.specs.declared.wants.Want.{Want}
-use Rattle.tg_translate.specs.States.{TranslationState, Translates, Translated, drawn, after, ◌>>=◌, ◌>>◌, give}
-use Rattle.tg_translate.specs.Wants.{Made, value, followed}
-use Rattle.tg_translate.specs.Constructs.{HeldAll, hold_next}
-use Rattle.tg_translate.specs.Functions.{at_of, declare_functions}
-use Rattle.tg_translate.specs.Scopes.{Findings}
-use Rattle.tg_translate.specs.Translate.{expression, values, fields, sequence, declarations, declaration_of, bodies, Begun}
-use Rattle.tg_translate.specs.Parts.{value_in, statement_in, body_in}
+use Rattle.tg_translate.specs.mirror.States.{TranslationState, Translates, Translated, drawn, after, ◌>>=◌, ◌>>◌, give}
+use Rattle.tg_translate.specs.mirror.Wants.{Made, value, followed}
+use Rattle.tg_translate.specs.mirror.Constructs.{HeldAll, hold_next}
+use Rattle.tg_translate.specs.mirror.Functions.{at_of, declare_functions}
+use Rattle.tg_translate.specs.mirror.Scopes.{Findings}
+use Rattle.tg_translate.specs.mirror.Translate.{expression, values, fields, sequence, declarations, declaration_of, bodies, Begun}
+use Rattle.tg_translate.specs.glue.Parts.{value_in, statement_in, body_in}
 use Rattle.tg_translate.proofs.Steps.{step}
 
 -- one action and then another is the two together

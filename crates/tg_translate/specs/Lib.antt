@@ -1,11 +1,2 @@
-pub mod States
-pub mod Wants
-pub mod Returning
-pub mod Constructs
-pub mod Scopes
-pub mod Functions
-pub mod Choices
-pub mod Purity
-pub mod Updates
-pub mod Translate
-pub mod Parts
+pub mod glue
+pub mod mirror

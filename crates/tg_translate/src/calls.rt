@@ -1,10 +1,10 @@
 ghost use Rattle.std.specs.Prelude.{◌≡◌, IfOk};
-ghost use Rattle.tg_tree.specs.Plain.{plain_tx};
-ghost use Rattle.tg_tree.specs.Lists.{txs_of};
+ghost use Rattle.tg_tree.specs.glue.Plain.{plain_tx};
+ghost use Rattle.tg_tree.specs.glue.Lists.{txs_of};
 ghost use Rattle.tg_tree.specs.Memory as memory;
-ghost use Rattle.tg_translate.specs.States.{drawn, state_of};
-ghost use Rattle.tg_translate.specs.Wants.{plain_made};
-ghost use Rattle.tg_translate.specs.Scopes as scopes;
+ghost use Rattle.tg_translate.specs.mirror.States.{drawn, state_of};
+ghost use Rattle.tg_translate.specs.mirror.Wants.{plain_made};
+ghost use Rattle.tg_translate.specs.mirror.Scopes as scopes;
 
 use crate::homes::{Callee, Within};
 use crate::places::frame_at;

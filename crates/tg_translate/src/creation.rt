@@ -1,9 +1,9 @@
 ghost use Rattle.std.specs.Prelude.{◌≡◌, IfOk, OnOk, length};
-ghost use Rattle.tg_tree.specs.Plain.{plain_tx, plain_ts};
-ghost use Rattle.tg_tree.specs.Lists.{stms_of};
-ghost use Rattle.tg_translate.specs.States.{drawn, state_of};
-ghost use Rattle.tg_translate.specs.Wants.{plain_made};
-ghost use Rattle.tg_translate.specs.Constructs as constructs;
+ghost use Rattle.tg_tree.specs.glue.Plain.{plain_tx, plain_ts};
+ghost use Rattle.tg_tree.specs.glue.Lists.{stms_of};
+ghost use Rattle.tg_translate.specs.mirror.States.{drawn, state_of};
+ghost use Rattle.tg_translate.specs.mirror.Wants.{plain_made};
+ghost use Rattle.tg_translate.specs.mirror.Constructs as constructs;
 
 use crate::constructs::{bytes_of, plus};
 use crate::operands::Operand;

@@ -1,5 +1,5 @@
 ghost use Rattle.std.specs.Prelude.{◌≡◌, [], IfOk, OnOk, is_some};
-ghost use Rattle.tg_syntax.specs.Plain.{
+ghost use Rattle.tg_syntax.specs.glue.Plain.{
   plain,
   plain_lvalue as plain_var,
   plain_exps,
@@ -7,17 +7,17 @@ ghost use Rattle.tg_syntax.specs.Plain.{
   plain_dec,
   plain_functions,
 };
-ghost use Rattle.tg_syntax.specs.Lists.{decs_of};
+ghost use Rattle.tg_syntax.specs.glue.Lists.{decs_of};
 ghost use Rattle.tg_syntax.specs.Tree.{no_decs};
-ghost use Rattle.tg_tree.specs.Plain.{plain_tx, plain_cond, plain_ts};
+ghost use Rattle.tg_tree.specs.glue.Plain.{plain_tx, plain_cond, plain_ts};
 ghost use Rattle.tg_tree.specs.Tree.{no_txs, no_stms};
-ghost use Rattle.tg_tree.specs.Lists.{txs_of, stms_of};
-ghost use Rattle.tg_translate.specs.States.{drawn, state_of};
-ghost use Rattle.tg_translate.specs.Wants.{plain_made};
-ghost use Rattle.tg_translate.specs.Constructs.{plain_storage};
-ghost use Rattle.tg_translate.specs.Scopes.{findings_of};
-ghost use Rattle.tg_translate.specs.Translate as translation;
-ghost use Rattle.tg_translate.specs.Parts as parts;
+ghost use Rattle.tg_tree.specs.glue.Lists.{txs_of, stms_of};
+ghost use Rattle.tg_translate.specs.mirror.States.{drawn, state_of};
+ghost use Rattle.tg_translate.specs.mirror.Wants.{plain_made};
+ghost use Rattle.tg_translate.specs.mirror.Constructs.{plain_storage};
+ghost use Rattle.tg_translate.specs.mirror.Scopes.{findings_of};
+ghost use Rattle.tg_translate.specs.mirror.Translate as translation;
+ghost use Rattle.tg_translate.specs.glue.Parts as parts;
 
 use crate::calls::{call_by, literal};
 use crate::constructs::call_with_two;

@@ -13,7 +13,7 @@ pub(crate) struct Findings<'a> {
 }
 
 impl Findings<'_> {
-    ghost use Rattle.tg_translate.specs.Scopes.{findings_of};
+    ghost use Rattle.tg_translate.specs.mirror.Scopes.{findings_of};
 
     /// What is noted at a byte.
     pub(crate) fn meaning(&self, at: u32) -> Option<Means>

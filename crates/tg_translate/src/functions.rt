@@ -1,10 +1,10 @@
 ghost use Rattle.std.specs.Prelude.{◌≡◌, ◌+◌, length, IfOk, OnOk};
-ghost use Rattle.tg_syntax.specs.Plain.{plain_functions};
-ghost use Rattle.tg_tree.specs.Plain.{plain_ts};
-ghost use Rattle.tg_translate.specs.States.{drawn, state_of};
-ghost use Rattle.tg_translate.specs.Wants.{plain_made};
-ghost use Rattle.tg_translate.specs.Scopes.{findings_of};
-ghost use Rattle.tg_translate.specs.Functions as functions;
+ghost use Rattle.tg_syntax.specs.glue.Plain.{plain_functions};
+ghost use Rattle.tg_tree.specs.glue.Plain.{plain_ts};
+ghost use Rattle.tg_translate.specs.mirror.States.{drawn, state_of};
+ghost use Rattle.tg_translate.specs.mirror.Wants.{plain_made};
+ghost use Rattle.tg_translate.specs.mirror.Scopes.{findings_of};
+ghost use Rattle.tg_translate.specs.mirror.Functions as functions;
 
 use crate::findings::Findings;
 use crate::homes::{Callee, Home, Within};

@@ -2,7 +2,7 @@
 //!
 //! It makes static links, homes of variables, checks of nil, of indices and of divisors, and
 //! arithmetic that ends the program by overflow. Promises the passes after it exactly the trees of
-//! `specs/Translate.antt`.
+//! `specs/mirror/Translate.antt`.
 #![tactic(auto)]
 
 mod calls;

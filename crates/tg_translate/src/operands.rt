@@ -1,8 +1,8 @@
 ghost use Rattle.std.specs.Prelude.{◌≡◌, IfOk};
-ghost use Rattle.tg_tree.specs.Plain.{plain_tx};
-ghost use Rattle.tg_tree.specs.Lists.{stms_of};
-ghost use Rattle.tg_translate.specs.States.{drawn, state_of};
-ghost use Rattle.tg_translate.specs.Constructs as constructs;
+ghost use Rattle.tg_tree.specs.glue.Plain.{plain_tx};
+ghost use Rattle.tg_tree.specs.glue.Lists.{stms_of};
+ghost use Rattle.tg_translate.specs.mirror.States.{drawn, state_of};
+ghost use Rattle.tg_translate.specs.mirror.Constructs as constructs;
 
 use crate::states::TranslationState;
 use crate::wants::push;

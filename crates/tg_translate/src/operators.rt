@@ -1,15 +1,15 @@
 ghost use Rattle.std.specs.Prelude.{◌≡◌, IfOk};
-ghost use Rattle.tg_syntax.specs.Plain.{plain};
-ghost use Rattle.tg_tree.specs.Plain.{plain_tx, plain_cond, plain_ts};
-ghost use Rattle.tg_tree.specs.Lists.{stms_of};
+ghost use Rattle.tg_syntax.specs.glue.Plain.{plain};
+ghost use Rattle.tg_tree.specs.glue.Plain.{plain_tx, plain_cond, plain_ts};
+ghost use Rattle.tg_tree.specs.glue.Lists.{stms_of};
 ghost use Rattle.tg_tree.specs.Tree as tree;
-ghost use Rattle.tg_translate.specs.States.{drawn, state_of};
-ghost use Rattle.tg_translate.specs.Wants as wants;
-ghost use Rattle.tg_translate.specs.Wants.{plain_made};
-ghost use Rattle.tg_translate.specs.Constructs as constructs;
-ghost use Rattle.tg_translate.specs.Scopes as scopes;
-ghost use Rattle.tg_translate.specs.Choices as choices;
-ghost use Rattle.tg_translate.specs.Translate as translation;
+ghost use Rattle.tg_translate.specs.mirror.States.{drawn, state_of};
+ghost use Rattle.tg_translate.specs.mirror.Wants as wants;
+ghost use Rattle.tg_translate.specs.mirror.Wants.{plain_made};
+ghost use Rattle.tg_translate.specs.mirror.Constructs as constructs;
+ghost use Rattle.tg_translate.specs.mirror.Scopes as scopes;
+ghost use Rattle.tg_translate.specs.mirror.Choices as choices;
+ghost use Rattle.tg_translate.specs.mirror.Translate as translation;
 
 use crate::constructs::{
     LEAST_INT, MINUS_ONE, call_with_two, product_check, quotient_check, zero_check,

@@ -1,13 +1,13 @@
 ghost use Rattle.std.specs.Prelude.{◌≡◌, IfOk};
 ghost use Rattle.std.specs.FinSet as set;
-ghost use Rattle.tg_tree.specs.Plain.{plain_tx, plain_ts};
-ghost use Rattle.tg_tree.specs.Lists.{stms_of};
-ghost use Rattle.tg_translate.specs.States.{drawn, state_of};
-ghost use Rattle.tg_translate.specs.Wants.{plain_made};
-ghost use Rattle.tg_translate.specs.Constructs as constructs;
-ghost use Rattle.tg_translate.specs.Constructs.{plain_storage};
-ghost use Rattle.tg_translate.specs.Scopes as scopes;
-ghost use Rattle.tg_translate.specs.Scopes.{findings_of};
+ghost use Rattle.tg_tree.specs.glue.Plain.{plain_tx, plain_ts};
+ghost use Rattle.tg_tree.specs.glue.Lists.{stms_of};
+ghost use Rattle.tg_translate.specs.mirror.States.{drawn, state_of};
+ghost use Rattle.tg_translate.specs.mirror.Wants.{plain_made};
+ghost use Rattle.tg_translate.specs.mirror.Constructs as constructs;
+ghost use Rattle.tg_translate.specs.mirror.Constructs.{plain_storage};
+ghost use Rattle.tg_translate.specs.mirror.Scopes as scopes;
+ghost use Rattle.tg_translate.specs.mirror.Scopes.{findings_of};
 
 use crate::constructs::{bytes_of, element, frame_out, index_check, nil_check, plus, slot_address};
 use crate::findings::Findings;

@@ -1,11 +1,11 @@
 ghost use Rattle.std.specs.Prelude.{◌≡◌, IfOk};
 ghost use Rattle.std.specs.FinSet.{from_list};
-ghost use Rattle.tg_syntax.specs.Plain.{plain};
+ghost use Rattle.tg_syntax.specs.glue.Plain.{plain};
 ghost use Rattle.tg_escape.specs.Links.{links_of};
-ghost use Rattle.tg_tree.specs.Plain.{plain_ts, plain_fragments};
-ghost use Rattle.tg_translate.specs.States.{drawn, state_of};
-ghost use Rattle.tg_translate.specs.Scopes.{found, findings_of};
-ghost use Rattle.tg_translate.specs.Translate as translation;
+ghost use Rattle.tg_tree.specs.glue.Plain.{plain_ts, plain_fragments};
+ghost use Rattle.tg_translate.specs.mirror.States.{drawn, state_of};
+ghost use Rattle.tg_translate.specs.mirror.Scopes.{found, findings_of};
+ghost use Rattle.tg_translate.specs.mirror.Translate as translation;
 
 use crate::expressions::expression;
 use crate::findings::Findings;

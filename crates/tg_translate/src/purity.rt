@@ -1,6 +1,6 @@
 ghost use Rattle.std.specs.Prelude.{◌≡◌, ◌&&◌};
-ghost use Rattle.tg_syntax.specs.Plain.{plain, plain_lvalue, plain_exps, plain_inits};
-ghost use Rattle.tg_translate.specs.Purity as purity;
+ghost use Rattle.tg_syntax.specs.glue.Plain.{plain, plain_lvalue, plain_exps, plain_inits};
+ghost use Rattle.tg_translate.specs.mirror.Purity as purity;
 
 use tg_syntax::{Exp, Exps, Inits, Kind, Var};
 

@@ -1,7 +1,7 @@
 ghost use Rattle.std.specs.Prelude.{◌≡◌, ◌||◌, IfOk};
-ghost use Rattle.tg_tree.specs.Plain.{plain_tx, plain_cond, plain_ts};
-ghost use Rattle.tg_tree.specs.Lists.{txs_of, stms_of};
-ghost use Rattle.tg_translate.specs.Returning as returning;
+ghost use Rattle.tg_tree.specs.glue.Plain.{plain_tx, plain_cond, plain_ts};
+ghost use Rattle.tg_tree.specs.glue.Lists.{txs_of, stms_of};
+ghost use Rattle.tg_translate.specs.mirror.Returning as returning;
 
 use std::alloc::Global;
 use tg_base::{Memory, Temp};

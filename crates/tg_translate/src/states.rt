@@ -1,8 +1,13 @@
 ghost use Rattle.std.specs.Prelude.{◌≡◌, ◌<◌, ◌+◌, map, IfOk, OnOk};
-ghost use Rattle.tg_tree.specs.Plain.{plain_ts, plain_function, plain_fragment, plain_fragments};
-ghost use Rattle.tg_translate.specs.States as states;
-ghost use Rattle.tg_translate.specs.States.{drawn, state_of};
-ghost use Rattle.tg_translate.specs.Functions as functions;
+ghost use Rattle.tg_tree.specs.glue.Plain.{
+  plain_ts,
+  plain_function,
+  plain_fragment,
+  plain_fragments,
+};
+ghost use Rattle.tg_translate.specs.mirror.States as states;
+ghost use Rattle.tg_translate.specs.mirror.States.{drawn, state_of};
+ghost use Rattle.tg_translate.specs.mirror.Functions as functions;
 
 use crate::homes::{Callee, Home};
 use std::alloc::Global;

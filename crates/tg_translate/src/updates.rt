@@ -1,7 +1,7 @@
 ghost use Rattle.std.specs.Prelude.{◌≡◌};
-ghost use Rattle.tg_syntax.specs.Plain.{plain, plain_lvalue as plain_var};
-ghost use Rattle.tg_translate.specs.Scopes.{findings_of};
-ghost use Rattle.tg_translate.specs.Updates as updates;
+ghost use Rattle.tg_syntax.specs.glue.Plain.{plain, plain_lvalue as plain_var};
+ghost use Rattle.tg_translate.specs.mirror.Scopes.{findings_of};
+ghost use Rattle.tg_translate.specs.mirror.Updates as updates;
 
 use crate::findings::Findings;
 use crate::places::field_number;

@@ -1,5 +1,5 @@
 -- What an action of the translation leaves: an answer and a state.
-use Rattle.tg_translate.specs.States.{TranslationState, Translated, drawn}
+use Rattle.tg_translate.specs.mirror.States.{TranslationState, Translated, drawn}
 
 abbrev pub answer : {A : Type 0} → Translated A → A
 answer (drawn a s) = a

@@ -16,11 +16,11 @@ use Rattle.tg_syntax.proofs.FunctionLaws.{program_size_is}
 use Rattle.tg_tree.specs.Tree.{Ts, Function}
 use Rattle.tg_types.specs.declared.faults.TypeRule.{TypeRule}
 use Rattle.tg_types.specs.declared.faults.TypeRule.TheVariants.{T20, T21, T22}
-use Rattle.tg_types.specs.Laws.{CheckedHasType}
+use Rattle.tg_types.specs.laws.Laws.{CheckedHasType}
 use Rattle.tg_types.specs.Limits.{above, first_above}
-use Rattle.tg_translate.specs.Scopes.{found}
-use Rattle.tg_translate.specs.Translate.{translated}
-use Rattle.tg_translate_laws.specs.Laws.{FunctionIsWithin, FunctionIsSmall, CheckedFramesAreSmall, CheckedConstantsAreWords}
+use Rattle.tg_translate.specs.mirror.Scopes.{found}
+use Rattle.tg_translate.specs.mirror.Translate.{translated}
+use Rattle.tg_translate_laws.specs.laws.Laws.{FunctionIsWithin, FunctionIsSmall, CheckedFramesAreSmall, CheckedConstantsAreWords}
 use Rattle.tg_translate_laws.proofs.Fine.{Each, each_append, each_contained}
 use Rattle.tg_translate_laws.proofs.Near.{wider}
 use Rattle.tg_translate_laws.proofs.Measured.{functions_are_within}

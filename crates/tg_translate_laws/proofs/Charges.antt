@@ -20,19 +20,19 @@ use Rattle.tg_translate.specs.declared.held.HeldAddress.{HeldAddress}
 use Rattle.tg_translate.specs.declared.held.HeldAddress.TheVariants.{InOwnFrame, Beside, At}
 use Rattle.tg_translate.specs.declared.wants.Want.{Want}
 use Rattle.tg_translate.specs.declared.wants.Want.TheVariants as want
-use Rattle.tg_translate.specs.States.{TranslationState, Translated, Translates, after, give}
-use Rattle.tg_translate.specs.Wants.{Made, value, done, test, truth_into, value_of, put_in, dropped, test_of, arms, as_statement, deliver, followed}
-use Rattle.tg_translate.specs.Wants.{value_behind, done_behind, behind_some, behind}
-use Rattle.tg_translate.specs.Constructs.{Storage, in_temp, at_address, operand, keep, hold, HeldAll, hold_next, own_place, store_at, want_for}
-use Rattle.tg_translate.specs.Constructs.{assign, hold_base, hold_address, held_in_temp, held_at, hold_place, read_held, place_held, field_of}
-use Rattle.tg_translate.specs.Constructs.{field_place, element_of, element_place, call_routine, record_of, make_record, product_of, quotient_of}
-use Rattle.tg_translate.specs.Constructs.{checked_quotient, minus_one, quotient, comparison, operation, count_of, count}
-use Rattle.tg_translate.specs.Choices.{tested, chosen}
-use Rattle.tg_translate.specs.Scopes.{no_value, nowhere, home_place, variable_place, compares_strings, routine_of, call_declared, call, literal}
-use Rattle.tg_translate.specs.Scopes.{declare_variable}
-use Rattle.tg_translate.specs.Returning.{given_back}
-use Rattle.tg_translate.specs.Functions.{at_of, declare_functions, gives_nothing, closing}
-use Rattle.tg_translate.specs.Translate.{connective, with_left, chosen_arm, choice, assignment, declaration_of}
+use Rattle.tg_translate.specs.mirror.States.{TranslationState, Translated, Translates, after, give}
+use Rattle.tg_translate.specs.mirror.Wants.{Made, value, done, test, truth_into, value_of, put_in, dropped, test_of, arms, as_statement, deliver, followed}
+use Rattle.tg_translate.specs.mirror.Wants.{value_behind, done_behind, behind_some, behind}
+use Rattle.tg_translate.specs.mirror.Constructs.{Storage, in_temp, at_address, operand, keep, hold, HeldAll, hold_next, own_place, store_at, want_for}
+use Rattle.tg_translate.specs.mirror.Constructs.{assign, hold_base, hold_address, held_in_temp, held_at, hold_place, read_held, place_held, field_of}
+use Rattle.tg_translate.specs.mirror.Constructs.{field_place, element_of, element_place, call_routine, record_of, make_record, product_of, quotient_of}
+use Rattle.tg_translate.specs.mirror.Constructs.{checked_quotient, minus_one, quotient, comparison, operation, count_of, count}
+use Rattle.tg_translate.specs.mirror.Choices.{tested, chosen}
+use Rattle.tg_translate.specs.mirror.Scopes.{no_value, nowhere, home_place, variable_place, compares_strings, routine_of, call_declared, call, literal}
+use Rattle.tg_translate.specs.mirror.Scopes.{declare_variable}
+use Rattle.tg_translate.specs.mirror.Returning.{given_back}
+use Rattle.tg_translate.specs.mirror.Functions.{at_of, declare_functions, gives_nothing, closing}
+use Rattle.tg_translate.specs.mirror.Translate.{connective, with_left, chosen_arm, choice, assignment, declaration_of}
 use Rattle.tg_translate_laws.specs.Escaped.{one_of}
 use Rattle.tg_translate_laws.proofs.Returning.{given_back_near}
 use Rattle.tg_translate_laws.proofs.Near.{IsTx, AreTxs, IsCond, IsTs, AreStms, IsMade, IsPlace, followed_near, truth_near, put_near, dropped_near, test_near}

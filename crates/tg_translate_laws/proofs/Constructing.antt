@@ -11,22 +11,22 @@ use Rattle.tg_tree.specs.Named as name
 use Rattle.tg_tree.specs.Forms.{when}
 use Rattle.tg_tree.specs.declared.operators.Bin.TheVariants as bin
 use Rattle.tg_tree.specs.declared.operators.Rel.TheVariants as rel
-use Rattle.tg_runtime.specs.Labels.{label_of}
 use Rattle.tg_runtime.specs.declared.routines.Routine.{Routine}
 use Rattle.tg_runtime.specs.declared.routines.Routine.TheVariants as routine
+use Rattle.tg_runtime.specs.mirror.Labels.{label_of}
 use Rattle.tg_translate.specs.declared.operands.Operand.{Operand}
 use Rattle.tg_translate.specs.declared.operands.Operand.TheVariants.{Number, Kept}
 use Rattle.tg_translate.specs.declared.held.HeldAddress.{HeldAddress}
 use Rattle.tg_translate.specs.declared.held.HeldAddress.TheVariants.{InOwnFrame, Beside, At}
-use Rattle.tg_translate.specs.States.{TranslationState, Translates, after, give, fresh}
-use Rattle.tg_translate.specs.Wants.{Made, value, test, put_in, followed}
-use Rattle.tg_translate.specs.Constructs.{minus_one, least_int, plus, operand, Held, keep, hold, HeldAll, hold_next, own_link, frame_out, Storage}
-use Rattle.tg_translate.specs.Constructs.{in_temp, at_address, place_in, own_place, after_all, read, store_at, want_for, assign, held_address}
-use Rattle.tg_translate.specs.Constructs.{hold_base, hold_address, HeldPlace, held_in_temp, held_at, hold_place, read_held, place_held, nil_check}
-use Rattle.tg_translate.specs.Constructs.{index_check, zero_check, product_check, quotient_check, field_of, field_place, element_of, element_place}
-use Rattle.tg_translate.specs.Constructs.{call_routine, store_field, store_fields, space_for_record, record_of, make_record, make_array, comparison}
-use Rattle.tg_translate.specs.Constructs.{product_of, product, quotient_of, checked_quotient, quotient, operation, negation, repeat_while}
-use Rattle.tg_translate.specs.Constructs.{first_minus_one, assign_value, turn_of, turns, count_of, count}
+use Rattle.tg_translate.specs.mirror.States.{TranslationState, Translates, after, give, fresh}
+use Rattle.tg_translate.specs.mirror.Wants.{Made, value, test, put_in, followed}
+use Rattle.tg_translate.specs.mirror.Constructs.{minus_one, least_int, plus, operand, Held, keep, hold, HeldAll, hold_next, own_link, frame_out, Storage}
+use Rattle.tg_translate.specs.mirror.Constructs.{in_temp, at_address, place_in, own_place, after_all, read, store_at, want_for, assign, held_address}
+use Rattle.tg_translate.specs.mirror.Constructs.{hold_base, hold_address, HeldPlace, held_in_temp, held_at, hold_place, read_held, place_held, nil_check}
+use Rattle.tg_translate.specs.mirror.Constructs.{index_check, zero_check, product_check, quotient_check, field_of, field_place, element_of, element_place}
+use Rattle.tg_translate.specs.mirror.Constructs.{call_routine, store_field, store_fields, space_for_record, record_of, make_record, make_array, comparison}
+use Rattle.tg_translate.specs.mirror.Constructs.{product_of, product, quotient_of, checked_quotient, quotient, operation, negation, repeat_while}
+use Rattle.tg_translate.specs.mirror.Constructs.{first_minus_one, assign_value, turn_of, turns, count_of, count}
 use Rattle.tg_translate_laws.proofs.Keeping.{Asks, Where, access_on, bind, draws_temp, given, held_on, onward, operand_on, operands_on, stms_on, ts_on, tx_on}
 use Rattle.tg_translate_laws.proofs.Keeping.{Ready, Yields, GoodTx, GoodTxs, GoodTs, GoodStms, GoodCond, GoodMade, GoodPlace, GoodOperand, GoodOperands}
 use Rattle.tg_translate_laws.proofs.Keeping.{GoodHeld, GoodWant, GoodAccess, KnowsAt}

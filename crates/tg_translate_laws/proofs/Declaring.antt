@@ -9,10 +9,10 @@ use Rattle.tg_frame.specs.declared.accesses.Access.{Access}
 use Rattle.tg_frame.specs.declared.accesses.Access.TheVariants.{InTemp, InFrame}
 use Rattle.tg_frame.specs.Homes.{is_slot, homes_from, homes_of, temps_of}
 use Rattle.tg_translate.specs.declared.homes.Home.{Home}
-use Rattle.tg_translate.specs.States.{TranslationState, Frame, Translated, drawn, one_temp, one_slot}
-use Rattle.tg_translate.specs.Constructs.{in_body, in_test}
-use Rattle.tg_translate.specs.Scopes.{declare_variable}
-use Rattle.tg_translate.specs.Functions.{at_of, asked, parameters, own_homes}
+use Rattle.tg_translate.specs.mirror.States.{TranslationState, Frame, Translated, drawn, one_temp, one_slot}
+use Rattle.tg_translate.specs.mirror.Constructs.{in_body, in_test}
+use Rattle.tg_translate.specs.mirror.Scopes.{declare_variable}
+use Rattle.tg_translate.specs.mirror.Functions.{at_of, asked, parameters, own_homes}
 use Rattle.tg_translate_laws.specs.Standing.{AreApart, params_of, owned_by}
 use Rattle.tg_translate_laws.proofs.Actions.{left}
 use Rattle.tg_translate_laws.proofs.Keeping.{Asks, Where, Ready, Step, Yields, GoodAccess, IsDrawn, drawn_on, rehomed}

@@ -15,15 +15,15 @@ use Rattle.tg_types.specs.declared.notes.Means.TheVariants as means
 use Rattle.tg_tree.specs.Tree.{Tx, Load}
 use Rattle.tg_tree.specs.Sizes.{tree_length}
 use Rattle.tg_tree.specs.Named.{function_labels, literal_labels}
-use Rattle.tg_translate.specs.Constructs.{slot_address, frame_out}
-use Rattle.tg_translate.specs.Scopes.{Findings}
-use Rattle.tg_translate.specs.Translate.{translated}
+use Rattle.tg_translate.specs.mirror.Constructs.{slot_address, frame_out}
+use Rattle.tg_translate.specs.mirror.Scopes.{Findings}
+use Rattle.tg_translate.specs.mirror.Translate.{translated}
 use Rattle.tg_translate_laws.specs.Accesses.{AccessesWithinTx}
 use Rattle.tg_translate_laws.specs.Depths.{ts_depth}
 use Rattle.tg_translate_laws.specs.Escaped.{program_escaping}
 use Rattle.tg_translate_laws.specs.Standing.{BreaksStand, Reaches}
 use Rattle.tg_translate_laws.specs.Strings.{strings}
-use Rattle.tg_translate_laws.specs.Laws.{names, paid, node_length, parameter_length, function_length}
+use Rattle.tg_translate_laws.specs.laws.Laws.{names, paid, node_length, parameter_length, function_length}
 
 abbrev sp : Span
 sp = record { from = 0; to = 0 }

@@ -4,7 +4,7 @@ use Rattle.std.specs.Prelude.{suc, zero}
 use Rattle.std.specs.List.{Contains}
 use Rattle.tg_tree.specs.Tree.{Tx, Const, Address, Temp, FrameAddress, Binary, Load, LoadByte, Call, Service, After, Txs, no_txs, tx, Cond, Compare}
 use Rattle.tg_tree.specs.Tree.{Not, Both, Either, Ts, Move, Store, StoreByte, Do, If, Loop, Break, Fault, Seq, Return, Stms, no_stms, stm}
-use Rattle.tg_tree.specs.Lists.{join_txs, join_stms}
+use Rattle.tg_tree.specs.glue.Lists.{join_txs, join_stms}
 use Rattle.tg_tree.specs.Named.{Named, function, literal, fault, temporary, constant, named_tx, named_txs, named_cond, named_ts, named_stms}
 use Rattle.tg_tree.specs.Shapes.{BreaksWithin, BreaksWithinStms, BreaksWithinTx, BreaksWithinTxs, BreaksWithinCond}
 

@@ -19,7 +19,7 @@ use Rattle.tg_simulation.proofs.Fixpoint.{runs_relate}
 use Rattle.tg_tree.proofs.TreeRuns.{trees_relate, keep_enter, keep_head}
 use Rattle.tg_tree.proofs.Relating.{Related, Keeps, AlikeBack, AlikeAround, around, Alike, alike, alike_down, AlikeGo, AlikeNext, keep_test, keep_run}
 use Rattle.tg_tree.proofs.Going.{one, OneWorld, OneTemps, KeepsRuns, keeps_one}
-use Rattle.tg_translate.specs.Returning.{in_turn, returned, returned_behind, returned_from, all_returned_from, value_has_loop, given_back}
+use Rattle.tg_translate.specs.mirror.Returning.{in_turn, returned, returned_behind, returned_from, all_returned_from, value_has_loop, given_back}
 
 -- the second does what the first does, with at most so many units more
 abbrev pub DoesSoMuchMore : ℕ → Related

@@ -15,13 +15,13 @@ use Rattle.tg_translate.specs.declared.wants.Want.{Want}
 use Rattle.tg_translate.specs.declared.wants.Want.TheVariants as want
 use Rattle.tg_translate.specs.declared.operands.Operand.{Operand}
 use Rattle.tg_translate.specs.declared.operands.Operand.TheVariants.{Number, Kept}
-use Rattle.tg_translate.specs.States.{TranslationState, Frame, Translates, Translated, drawn, after, give, with_frame, fresh, one_temp}
-use Rattle.tg_translate.specs.Wants.{Made, value, done, test}
-use Rattle.tg_translate.specs.Constructs.{Storage, in_temp, at_address, HeldAll}
+use Rattle.tg_translate.specs.mirror.States.{TranslationState, Frame, Translates, Translated, drawn, after, give, with_frame, fresh, one_temp}
+use Rattle.tg_translate.specs.mirror.Wants.{Made, value, done, test}
+use Rattle.tg_translate.specs.mirror.Constructs.{Storage, in_temp, at_address, HeldAll}
 use Rattle.tg_translate_laws.proofs.Fine.{Each, FineTs, FineStms, FineTx, FineTxs, FineCond, widen_ts, widen_stms, widen_tx, widen_txs, widen_cond}
 use Rattle.tg_translate_laws.proofs.Actions.{answer, left}
 use Rattle.tg_translate_laws.proofs.Counts.{times, below}
-use Rattle.tg_translate.specs.Scopes.{Findings}
+use Rattle.tg_translate.specs.mirror.Scopes.{Findings}
 
 -- what is asked about of a program: whether its breaks are looked at, and its temporaries; and what was found of it
 pub record Asks : Type 1 where

@@ -16,27 +16,27 @@ use Rattle.tg_syntax.specs.Tree.{no_functions, function}
 use Rattle.tg_tree.specs.Tree as tree
 use Rattle.tg_tree.specs.Tree.{Tx, Const, Txs, no_txs, tx, Ts, Stms, no_stms}
 use Rattle.tg_tree.specs.Forms.{nothing}
-use Rattle.tg_tree.specs.Lists.{join_txs}
+use Rattle.tg_tree.specs.glue.Lists.{join_txs}
 use Rattle.tg_tree.specs.Memory.{string_text}
 use Rattle.tg_translate.specs.declared.wants.Want.{Want}
 use Rattle.tg_translate.specs.declared.wants.Want.TheVariants as want
 use Rattle.tg_translate.specs.declared.homes.Within.{Within}
-use Rattle.tg_translate.specs.States.{TranslationState, Translated, drawn, after, give}
-use Rattle.tg_translate.specs.Wants.{Made, value, done, value_of, test_of, dropped, followed}
-use Rattle.tg_translate.specs.Constructs.{HeldAll, none_held, read, make_array, negation, repeat_while, in_body, in_test}
-use Rattle.tg_translate.specs.Choices.{left_want}
-use Rattle.tg_translate.specs.Scopes.{Findings, field_number}
-use Rattle.tg_translate.specs.Purity.{assigns_nothing, inits_assign_nothing}
-use Rattle.tg_translate.specs.Updates.{begins_with}
-use Rattle.tg_translate.specs.Functions.{at_of, asked, begun, inside, result_want, outermost, beginning, frame_for, program}
-use Rattle.tg_translate.specs.Translate.{Begun, is_zero, is_conjunction, expression, behind_read, locate, values, fields, sequence, declarations}
-use Rattle.tg_translate.specs.Translate.{bodies, program_body, translated}
+use Rattle.tg_translate.specs.mirror.States.{TranslationState, Translated, drawn, after, give}
+use Rattle.tg_translate.specs.mirror.Wants.{Made, value, done, value_of, test_of, dropped, followed}
+use Rattle.tg_translate.specs.mirror.Constructs.{HeldAll, none_held, read, make_array, negation, repeat_while, in_body, in_test}
+use Rattle.tg_translate.specs.mirror.Choices.{left_want}
+use Rattle.tg_translate.specs.mirror.Scopes.{Findings, field_number}
+use Rattle.tg_translate.specs.mirror.Purity.{assigns_nothing, inits_assign_nothing}
+use Rattle.tg_translate.specs.mirror.Updates.{begins_with}
+use Rattle.tg_translate.specs.mirror.Functions.{at_of, asked, begun, inside, result_want, outermost, beginning, frame_for, program}
+use Rattle.tg_translate.specs.mirror.Translate.{Begun, is_zero, is_conjunction, expression, behind_read, locate, values, fields, sequence, declarations}
+use Rattle.tg_translate.specs.mirror.Translate.{bodies, program_body, translated}
 use Rattle.tg_translate_laws.specs.Accesses.{AccessesWithin}
 use Rattle.tg_translate_laws.specs.Escaped.{one_of, params_escaping, escaping, place_escaping, exps_escaping, inits_escaping, decs_escaping, escaping_inside}
 use Rattle.tg_translate_laws.specs.Escaped.{place_escaping_inside, exps_escaping_inside, inits_escaping_inside, decs_escaping_inside, functions_escaping}
 use Rattle.tg_translate_laws.specs.Escaped.{program_escaping}
 use Rattle.tg_translate_laws.specs.Strings.{strings, place_strings, exps_strings, inits_strings, decs_strings, bodies_strings}
-use Rattle.tg_translate_laws.specs.Laws.{FunctionIsWithin}
+use Rattle.tg_translate_laws.specs.laws.Laws.{FunctionIsWithin}
 use Rattle.tg_translate_laws.proofs.Fine.{Each}
 use Rattle.tg_translate_laws.proofs.Near.{IsTx, AreTxs, IsCond, IsTs, AreStms, IsMade, IsPlace, join_txs_near, followed_near, dropped_near, test_near}
 use Rattle.tg_translate_laws.proofs.Near.{read_near, negation_near}

@@ -9,11 +9,11 @@ use Rattle.tg_tree.specs.Tree.{Ts}
 use Rattle.tg_tree.specs.Shapes.{EndsFunction}
 use Rattle.tg_translate.specs.declared.homes.Within.{Within}
 use Rattle.tg_translate.specs.declared.wants.Want.{Want}
-use Rattle.tg_translate.specs.States.{TranslationState, Translates, Translated, drawn, after}
-use Rattle.tg_translate.specs.Wants.{Made}
-use Rattle.tg_translate.specs.Returning.{given_back}
-use Rattle.tg_translate.specs.Functions.{at_of, asked, parameters, own_homes, frame_for, declare_functions, with_body, finished, finish, opened}
-use Rattle.tg_translate.specs.Functions.{result_want, inside, gives_nothing, closing, body}
+use Rattle.tg_translate.specs.mirror.States.{TranslationState, Translates, Translated, drawn, after}
+use Rattle.tg_translate.specs.mirror.Wants.{Made}
+use Rattle.tg_translate.specs.mirror.Returning.{given_back}
+use Rattle.tg_translate.specs.mirror.Functions.{at_of, asked, parameters, own_homes, frame_for, declare_functions, with_body, finished, finish, opened}
+use Rattle.tg_translate.specs.mirror.Functions.{result_want, inside, gives_nothing, closing, body}
 use Rattle.tg_translate_laws.specs.Standing.{AreApart, params_of}
 use Rattle.tg_translate_laws.proofs.Fine.{each_append}
 use Rattle.tg_translate_laws.proofs.Returning.{fine_parts, given_back_holds, given_back_ends}

@@ -26,7 +26,7 @@ use Rattle.tg_semantics.specs.Environments.{name_of}
 use Rattle.tg_types.specs.Scopes.{Signature, Binding, variable_at, function_at, Scope, in_a_loop, in_no_loop, binding, at_of}
 use Rattle.tg_types.specs.Groups.{with_functions, with_params}
 use Rattle.tg_types.specs.Has as Has
-use Rattle.tg_translate.specs.Scopes.{Findings}
+use Rattle.tg_translate.specs.mirror.Scopes.{Findings}
 use Rattle.tg_translate_laws.specs.Standing.{params_of, owned_by, AreApart, IsInReach, Reaches, ReachesPlace, ReachesExps, ReachesInits, ReachesDecs}
 use Rattle.tg_translate_laws.specs.Standing.{ReachesBodies}
 use Rattle.tg_translate_laws.proofs.Fine.{Each}

@@ -3,8 +3,8 @@ use Rattle.std.proofs.Common.{◌==◌, ℕ, Bool, true, false}
 use Rattle.std.specs.Prelude.{suc, if◌then◌else◌}
 use Rattle.tg_tree.specs.Tree.{Tx, Temp, After, Cond, Ts, Move, If, Seq, Return, Stms, no_stms, stm}
 use Rattle.tg_tree.specs.Shapes.{EndsFunction, LastEndsFunction}
-use Rattle.tg_translate.specs.Returning.{in_turn, returned, returned_behind, returned_from, returned_last, all_returned_from, value_has_loop}
-use Rattle.tg_translate.specs.Returning.{given_back}
+use Rattle.tg_translate.specs.mirror.Returning.{in_turn, returned, returned_behind, returned_from, returned_last, all_returned_from, value_has_loop}
+use Rattle.tg_translate.specs.mirror.Returning.{given_back}
 use Rattle.tg_tree.specs.Named.{Named}
 use Rattle.tg_translate_laws.specs.Accesses.{AccessesWithin, AccessesWithinStms, AccessesWithinTx, AccessesWithinCond}
 use Rattle.tg_translate_laws.proofs.Fine.{FineTs, FineStms, FineTx, FineCond}

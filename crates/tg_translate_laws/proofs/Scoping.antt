@@ -14,12 +14,12 @@ use Rattle.tg_types.specs.declared.notes.Means.TheVariants as means
 use Rattle.tg_tree.specs.Memory.{string_text}
 use Rattle.tg_translate.specs.declared.homes.Home.{Home}
 use Rattle.tg_translate.specs.declared.homes.Callee.{Callee}
-use Rattle.tg_translate.specs.States.{TranslationState}
-use Rattle.tg_translate.specs.Constructs.{Storage}
-use Rattle.tg_translate.specs.Scopes.{frame_at, nowhere, no_value, home_place, variable_place, routine_of, call_declared, call, literal}
+use Rattle.tg_translate.specs.mirror.States.{TranslationState}
+use Rattle.tg_translate.specs.mirror.Constructs.{Storage}
+use Rattle.tg_translate.specs.mirror.Scopes.{frame_at, nowhere, no_value, home_place, variable_place, routine_of, call_declared, call, literal}
 use Rattle.tg_translate_laws.specs.Standing.{IsInReach}
 use Rattle.tg_translate_laws.proofs.Counts.{times-append, same, same_not, below-next, contained_counts, counted_contains}
-use Rattle.tg_translate.specs.Constructs as constructs
+use Rattle.tg_translate.specs.mirror.Constructs as constructs
 use Rattle.tg_translate_laws.proofs.Counts as counts
 use Rattle.tg_translate_laws.proofs.Keeping.{Asks, Where, callee_labels, literal_labels, given, Ready, Step, Yields, GoodTx, GoodTxs, GoodMade, GoodPlace}
 use Rattle.tg_translate_laws.proofs.Keeping.{GoodAccess, IsDrawn, functions_on}

@@ -10,11 +10,11 @@ use Rattle.tg_tree.specs.Tree.{Ts, Function, Code}
 use Rattle.tg_tree.specs.Named.{Named, function, literal, fault, temporary, function_labels, literal_labels, HasItsTemps, IsLinked}
 use Rattle.tg_tree.specs.Shapes.{IsClosed}
 use Rattle.tg_translate.specs.declared.wants.Want.TheVariants as want
-use Rattle.tg_translate.specs.States.{TranslationState, Translated, drawn}
-use Rattle.tg_translate.specs.Functions.{with_body, beginning, frame_for, outermost, program}
-use Rattle.tg_translate.specs.Translate.{program_body, translated}
-use Rattle.tg_translate_laws.specs.Laws.{names}
+use Rattle.tg_translate.specs.mirror.States.{TranslationState, Translated, drawn}
+use Rattle.tg_translate.specs.mirror.Functions.{with_body, beginning, frame_for, outermost, program}
+use Rattle.tg_translate.specs.mirror.Translate.{program_body, translated}
 use Rattle.tg_translate_laws.specs.Standing.{BreaksStand, Reaches}
+use Rattle.tg_translate_laws.specs.laws.Laws.{names}
 use Rattle.tg_translate_laws.proofs.Fine.{Each, breaks_ts, names_ts, each_contained}
 use Rattle.tg_translate_laws.proofs.Counts.{times, times-append, times-map, times-first, same, same_self, below, below-next, below_yes, below_no, below_one}
 use Rattle.tg_translate_laws.proofs.Counts.{once_apart, contained_counts, counted_contains}

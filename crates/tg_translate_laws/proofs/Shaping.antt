@@ -19,15 +19,15 @@ use Rattle.tg_semantics.specs.declared.standards.Standard.{Standard}
 use Rattle.tg_semantics.specs.Environments.{standards}
 use Rattle.tg_symbols.specs.Tables.{looked_up}
 use Rattle.tg_types.specs.Types.{Ty}
-use Rattle.tg_types.specs.Laws.{CheckedHasType, NotesAreFound}
+use Rattle.tg_types.specs.laws.Laws.{CheckedHasType, NotesAreFound}
 use Rattle.tg_types.specs.Scopes.{Binding, variable_at, standard_one, standard_of, standard_bindings, entry, outermost_scope}
-use Rattle.tg_runtime.specs.Laws.{AreRoutines, is_own, LabelsInOrder, AllAreRoutines}
-use Rattle.tg_runtime.specs.Routines.{runtime}
+use Rattle.tg_runtime.specs.laws.Laws.{AreRoutines, is_own, LabelsInOrder, AllAreRoutines}
+use Rattle.tg_runtime.specs.mirror.Routines.{runtime}
 use Rattle.tg_tree.specs.Memory.{string_text}
-use Rattle.tg_translate.specs.Scopes.{found}
-use Rattle.tg_translate.specs.Translate.{translated}
-use Rattle.tg_translate_laws.specs.Laws.{names, ProgramsAreLinked, LabelsAreAbove, BodiesAreClosed, CheckedBodiesAreClosed, TemporariesAreDrawn}
-use Rattle.tg_translate_laws.specs.Laws.{CheckedReaches, CheckedTemporariesAreDrawn, LiteralsAreStrings, LiteralsAreShort, findings_in}
+use Rattle.tg_translate.specs.mirror.Scopes.{found}
+use Rattle.tg_translate.specs.mirror.Translate.{translated}
+use Rattle.tg_translate_laws.specs.laws.Laws.{names, ProgramsAreLinked, LabelsAreAbove, BodiesAreClosed, CheckedBodiesAreClosed, TemporariesAreDrawn}
+use Rattle.tg_translate_laws.specs.laws.Laws.{CheckedReaches, CheckedTemporariesAreDrawn, LiteralsAreStrings, LiteralsAreShort, findings_in}
 use Rattle.tg_translate_laws.proofs.Shaped.{has_shape, linked, above, closed_one, temps_one}
 use Rattle.tg_translate_laws.specs.Strings.{strings}
 use Rattle.tg_translate_laws.proofs.Measured.{literals_are}

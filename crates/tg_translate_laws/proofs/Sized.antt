@@ -19,30 +19,30 @@ use Rattle.tg_tree.specs.Tree.{Tx, Const, Temp, FrameAddress, After, Txs, no_txs
 use Rattle.tg_tree.specs.Forms.{nothing}
 use Rattle.tg_tree.specs.Units.{Trees}
 use Rattle.tg_tree.specs.Sizes.{statement_length, in_trees, statement_needs}
-use Rattle.tg_tree.specs.Lists.{join_txs}
+use Rattle.tg_tree.specs.glue.Lists.{join_txs}
 use Rattle.tg_translate.specs.declared.homes.Within.{Within}
 use Rattle.tg_translate.specs.declared.operands.Operand.TheVariants.{Number, Kept}
 use Rattle.tg_translate.specs.declared.held.HeldAddress.TheVariants.{InOwnFrame, Beside, At}
 use Rattle.tg_translate.specs.declared.wants.Want.{Want}
 use Rattle.tg_translate.specs.declared.wants.Want.TheVariants as want
-use Rattle.tg_translate.specs.States.{TranslationState, Translated, drawn, Translates, after, give, fresh}
-use Rattle.tg_translate.specs.Wants.{Made, value, done, test, truth_into, value_of, put_in, dropped, test_of, as_statement, arms, deliver, followed}
-use Rattle.tg_translate.specs.Wants.{behind, behind_some, value_behind, done_behind}
-use Rattle.tg_translate.specs.Constructs.{Storage, in_temp, at_address, operand, Held, keep, hold, HeldAll, none_held, hold_next, own_place, read}
-use Rattle.tg_translate.specs.Constructs.{store_at, want_for, assign, held_address, HeldAt, hold_base, hold_address, HeldPlace, held_in_temp, held_at}
-use Rattle.tg_translate.specs.Constructs.{hold_place, read_held, place_held, field_of, field_place, element_of, element_place, record_of, make_record}
-use Rattle.tg_translate.specs.Constructs.{product_of, product, quotient_of, checked_quotient, minus_one, quotient, comparison, operation, count_of}
-use Rattle.tg_translate.specs.Constructs.{count, make_array, negation, repeat_while, in_body, in_test}
-use Rattle.tg_translate.specs.Choices.{left_want, tested, chosen}
-use Rattle.tg_translate.specs.Scopes.{Findings, no_value, nowhere, home_place, variable_place, field_number, compares_strings, routine_of}
-use Rattle.tg_translate.specs.Scopes.{call_declared, call, declare_variable}
-use Rattle.tg_translate.specs.Purity.{assigns_nothing, inits_assign_nothing}
-use Rattle.tg_translate.specs.Updates.{begins_with}
-use Rattle.tg_translate.specs.Returning.{given_back}
-use Rattle.tg_translate.specs.Functions.{at_of, gives_nothing, closing, declare_functions}
-use Rattle.tg_translate.specs.Translate.{connective, with_left, chosen_arm, choice, is_conjunction, assignment, declaration_of, Begun, expression}
-use Rattle.tg_translate.specs.Translate.{behind_read, locate, values, fields, sequence, declarations, bodies}
-use Rattle.tg_translate.specs.Constructs as constructs
+use Rattle.tg_translate.specs.mirror.States.{TranslationState, Translated, drawn, Translates, after, give, fresh}
+use Rattle.tg_translate.specs.mirror.Wants.{Made, value, done, test, truth_into, value_of, put_in, dropped, test_of, as_statement, arms, deliver, followed}
+use Rattle.tg_translate.specs.mirror.Wants.{behind, behind_some, value_behind, done_behind}
+use Rattle.tg_translate.specs.mirror.Constructs.{Storage, in_temp, at_address, operand, Held, keep, hold, HeldAll, none_held, hold_next, own_place, read}
+use Rattle.tg_translate.specs.mirror.Constructs.{store_at, want_for, assign, held_address, HeldAt, hold_base, hold_address, HeldPlace, held_in_temp, held_at}
+use Rattle.tg_translate.specs.mirror.Constructs.{hold_place, read_held, place_held, field_of, field_place, element_of, element_place, record_of, make_record}
+use Rattle.tg_translate.specs.mirror.Constructs.{product_of, product, quotient_of, checked_quotient, minus_one, quotient, comparison, operation, count_of}
+use Rattle.tg_translate.specs.mirror.Constructs.{count, make_array, negation, repeat_while, in_body, in_test}
+use Rattle.tg_translate.specs.mirror.Choices.{left_want, tested, chosen}
+use Rattle.tg_translate.specs.mirror.Scopes.{Findings, no_value, nowhere, home_place, variable_place, field_number, compares_strings, routine_of}
+use Rattle.tg_translate.specs.mirror.Scopes.{call_declared, call, declare_variable}
+use Rattle.tg_translate.specs.mirror.Purity.{assigns_nothing, inits_assign_nothing}
+use Rattle.tg_translate.specs.mirror.Updates.{begins_with}
+use Rattle.tg_translate.specs.mirror.Returning.{given_back}
+use Rattle.tg_translate.specs.mirror.Functions.{at_of, gives_nothing, closing, declare_functions}
+use Rattle.tg_translate.specs.mirror.Translate.{connective, with_left, chosen_arm, choice, is_conjunction, assignment, declaration_of, Begun, expression}
+use Rattle.tg_translate.specs.mirror.Translate.{behind_read, locate, values, fields, sequence, declarations, bodies}
+use Rattle.tg_translate.specs.mirror.Constructs as constructs
 use Rattle.tg_translate_laws.specs.Depths as depths
 use Rattle.tg_translate_laws.proofs.Actions.{answer}
 use Rattle.tg_translate_laws.proofs.Spreading.{tx_length, tx_needs, cond_length, cond_needs, ts_length, ts_needs, stms_length, stms_needs, txs_needs}

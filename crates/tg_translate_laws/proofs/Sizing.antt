@@ -12,7 +12,7 @@ use Rattle.tg_tree.specs.declared.operators.Bin.TheVariants as bin
 use Rattle.tg_tree.specs.declared.operators.Rel.TheVariants as rel
 use Rattle.tg_tree.specs.Tree.{Tx, Const, Temp, FrameAddress, Binary, Txs, no_txs, tx, Cond, Compare, Ts, Move, Store, Stms, no_stms, stm}
 use Rattle.tg_tree.specs.Forms.{when}
-use Rattle.tg_tree.specs.Lists.{join_txs}
+use Rattle.tg_tree.specs.glue.Lists.{join_txs}
 use Rattle.tg_tree.specs.Units.{Trees, hoisted_units, joined_units, operator_units}
 use Rattle.tg_tree.specs.Shapes.{is_flat, are_flat, is_flat_condition}
 use Rattle.tg_tree.specs.Sizes.{in_trees, shift_needs}
@@ -25,14 +25,14 @@ use Rattle.tg_translate.specs.declared.held.HeldAddress.{HeldAddress}
 use Rattle.tg_translate.specs.declared.held.HeldAddress.TheVariants.{InOwnFrame, Beside, At}
 use Rattle.tg_translate.specs.declared.wants.Want.{Want}
 use Rattle.tg_translate.specs.declared.wants.Want.TheVariants as want
-use Rattle.tg_translate.specs.Wants.{Made, value, done, test, put_in, dropped, test_of, as_statement, taken_from, deliver, followed, done_behind}
-use Rattle.tg_translate.specs.Constructs.{Storage, in_temp, at_address, operand, frame_out, place_in, own_place, read, store_at, held_address}
-use Rattle.tg_translate.specs.Constructs.{HeldPlace, held_in_temp, held_at, read_held, plus, nil_check, field_of, index_check, element, element_of}
-use Rattle.tg_translate.specs.Constructs.{call_routine, store_field, store_fields, space_for_record, record_of, HeldAll, product_check, product_of}
-use Rattle.tg_translate.specs.Constructs.{zero_check, quotient_check, quotient_of, least_int, negation, make_array, turn_of, turns, count_of}
-use Rattle.tg_translate.specs.Constructs.{comparison, repeat_while}
-use Rattle.tg_translate.specs.Choices.{connected, tested, chosen}
-use Rattle.tg_translate.specs.Scopes.{frame_at, home_place, call_declared}
+use Rattle.tg_translate.specs.mirror.Wants.{Made, value, done, test, put_in, dropped, test_of, as_statement, taken_from, deliver, followed, done_behind}
+use Rattle.tg_translate.specs.mirror.Constructs.{Storage, in_temp, at_address, operand, frame_out, place_in, own_place, read, store_at, held_address}
+use Rattle.tg_translate.specs.mirror.Constructs.{HeldPlace, held_in_temp, held_at, read_held, plus, nil_check, field_of, index_check, element, element_of}
+use Rattle.tg_translate.specs.mirror.Constructs.{call_routine, store_field, store_fields, space_for_record, record_of, HeldAll, product_check, product_of}
+use Rattle.tg_translate.specs.mirror.Constructs.{zero_check, quotient_check, quotient_of, least_int, negation, make_array, turn_of, turns, count_of}
+use Rattle.tg_translate.specs.mirror.Constructs.{comparison, repeat_while}
+use Rattle.tg_translate.specs.mirror.Choices.{connected, tested, chosen}
+use Rattle.tg_translate.specs.mirror.Scopes.{frame_at, home_place, call_declared}
 use Rattle.tg_translate_laws.proofs.Spreading.{tx_length, txs_length, cond_length, ts_length, stms_length, tx_needs, txs_needs, cond_needs, ts_needs}
 use Rattle.tg_translate_laws.proofs.Spreading.{stms_needs, tx_depth, txs_depth, cond_depth, ts_depth, stms_depth}
 

@@ -7,7 +7,7 @@ use Rattle.tg_tree.specs.Tree.{Not, Both, Either, Ts, Move, Store, StoreByte, Do
 use Rattle.tg_tree.specs.Units.{Trees, expression_units, argument_units, condition_units, statement_units}
 use Rattle.tg_tree.specs.Sizes.{expression_length, arguments_length, condition_length, statement_length, statements_length, in_trees, shift_needs}
 use Rattle.tg_tree.specs.Sizes.{expression_needs, arguments_needs, condition_needs, statement_needs, statements_needs}
-use Rattle.tg_translate.specs.Returning.{in_turn, returned, returned_behind, returned_from, returned_last, all_returned_from, value_has_loop, given_back}
+use Rattle.tg_translate.specs.mirror.Returning.{in_turn, returned, returned_behind, returned_from, returned_last, all_returned_from, value_has_loop, given_back}
 use Rattle.tg_translate_laws.specs.Depths.{statement_depth, statements_depth, expression_depth, arguments_depth, condition_depth}
 
 -- what a choice counts more

@@ -6,10 +6,10 @@ use Rattle.std.proofs.lemmas.List.{map-append}
 use Rattle.tg_syntax.specs.Functions.{Measures}
 use Rattle.tg_tree.specs.Tree.{Ts, Function}
 use Rattle.tg_tree.specs.Memory.{string_text}
-use Rattle.tg_translate.specs.States.{TranslationState, Translated, drawn, Translates, after, give, fresh}
-use Rattle.tg_translate.specs.Functions.{with_body, finish}
+use Rattle.tg_translate.specs.mirror.States.{TranslationState, Translated, drawn, Translates, after, give, fresh}
+use Rattle.tg_translate.specs.mirror.Functions.{with_body, finish}
 use Rattle.tg_translate_laws.specs.Accesses.{AccessesWithin}
-use Rattle.tg_translate_laws.specs.Laws.{FunctionIsWithin}
+use Rattle.tg_translate_laws.specs.laws.Laws.{FunctionIsWithin}
 use Rattle.tg_translate_laws.proofs.Actions.{answer, left}
 use Rattle.tg_translate_laws.proofs.Fine.{Each, each_append}
 use Rattle.tg_translate_laws.proofs.Sized.{Gives, SmallBody}

@@ -3,8 +3,8 @@ use Rattle.std.proofs.Common.{◌≡◌, ℕ, true, List, [], ◌++◌, refl, ap
 use Rattle.std.proofs.lemmas.Bool.{and_parts}
 use Rattle.tg_syntax.specs.Functions.{Measures, Levels, declared, declared_place}
 use Rattle.tg_syntax.specs.Tree.{Exp, Int, Read, Binary, LValue, Simple, Field, Index}
-use Rattle.tg_translate.specs.Scopes.{Findings}
-use Rattle.tg_translate.specs.Updates.{is_same_place, is_same_index}
+use Rattle.tg_translate.specs.mirror.Scopes.{Findings}
+use Rattle.tg_translate.specs.mirror.Updates.{is_same_place, is_same_index}
 use Rattle.tg_translate_laws.specs.Escaped.{escaping_inside, place_escaping_inside}
 use Rattle.tg_translate_laws.specs.Strings.{strings, place_strings}
 

@@ -10,21 +10,21 @@ use Rattle.tg_syntax.specs.Tree.{no_functions, function}
 use Rattle.tg_tree.specs.Tree as tree
 use Rattle.tg_tree.specs.Tree.{Tx, Const, Txs, no_txs, tx, Cond, Stms, no_stms}
 use Rattle.tg_tree.specs.Forms.{nothing}
-use Rattle.tg_tree.specs.Lists.{join_txs}
+use Rattle.tg_tree.specs.glue.Lists.{join_txs}
 use Rattle.tg_types.specs.declared.notes.Means.{Means}
 use Rattle.tg_translate.specs.declared.wants.Want.{Want}
 use Rattle.tg_translate.specs.declared.wants.Want.TheVariants as want
-use Rattle.tg_translate.specs.States.{TranslationState, Translates, after, give}
-use Rattle.tg_translate.specs.Wants.{Made, value, done, test_of, value_of, dropped, arms, deliver, followed}
-use Rattle.tg_translate.specs.Constructs.{Storage, HeldAll, none_held, own_place, read, want_for, read_held, place_held, make_array, operation}
-use Rattle.tg_translate.specs.Constructs.{negation, repeat_while}
-use Rattle.tg_translate.specs.Choices.{left_want, connected, tested, chosen}
-use Rattle.tg_translate.specs.Scopes.{field_number, compares_strings}
-use Rattle.tg_translate.specs.Purity.{assigns_nothing, inits_assign_nothing}
-use Rattle.tg_translate.specs.Updates.{begins_with}
-use Rattle.tg_translate.specs.Functions.{at_of, declare_functions, body}
-use Rattle.tg_translate.specs.Translate.{connective, with_left, chosen_arm, choice, is_conjunction, assignment, Begun, declaration_of, expression}
-use Rattle.tg_translate.specs.Translate.{behind_read, locate, values, fields, sequence, declarations, bodies}
+use Rattle.tg_translate.specs.mirror.States.{TranslationState, Translates, after, give}
+use Rattle.tg_translate.specs.mirror.Wants.{Made, value, done, test_of, value_of, dropped, arms, deliver, followed}
+use Rattle.tg_translate.specs.mirror.Constructs.{Storage, HeldAll, none_held, own_place, read, want_for, read_held, place_held, make_array, operation}
+use Rattle.tg_translate.specs.mirror.Constructs.{negation, repeat_while}
+use Rattle.tg_translate.specs.mirror.Choices.{left_want, connected, tested, chosen}
+use Rattle.tg_translate.specs.mirror.Scopes.{field_number, compares_strings}
+use Rattle.tg_translate.specs.mirror.Purity.{assigns_nothing, inits_assign_nothing}
+use Rattle.tg_translate.specs.mirror.Updates.{begins_with}
+use Rattle.tg_translate.specs.mirror.Functions.{at_of, declare_functions, body}
+use Rattle.tg_translate.specs.mirror.Translate.{connective, with_left, chosen_arm, choice, is_conjunction, assignment, Begun, declaration_of, expression}
+use Rattle.tg_translate.specs.mirror.Translate.{behind_read, locate, values, fields, sequence, declarations, bodies}
 use Rattle.tg_translate_laws.specs.Standing.{BreaksStand, BreaksStandPlace, BreaksStandExps, BreaksStandInits, BreaksStandDecs, BreaksStandBodies, owned_by}
 use Rattle.tg_translate_laws.specs.Standing.{AreApart, Reaches, ReachesPlace, ReachesExps, ReachesInits, ReachesDecs, ReachesBodies}
 use Rattle.tg_translate_laws.proofs.Fine.{join_fine_txs}

@@ -3,9 +3,9 @@ use Rattle.std.proofs.Common.{◌<◌, ℕ}
 use Rattle.tg_tree.specs.Tree.{Const, Temp, After, Cond, Ts, Stms, no_stms, stm}
 use Rattle.tg_translate.specs.declared.wants.Want.{Want}
 use Rattle.tg_translate.specs.declared.wants.Want.TheVariants as want
-use Rattle.tg_translate.specs.States.{TranslationState, Translated, after, give, fresh}
-use Rattle.tg_translate.specs.Wants.{Made, value, done, test, truth_into, value_of, put_in, dropped, test_of, arms, as_statement, taken_from, deliver}
-use Rattle.tg_translate.specs.Wants.{followed, value_behind, done_behind, behind_some, behind}
+use Rattle.tg_translate.specs.mirror.States.{TranslationState, Translated, after, give, fresh}
+use Rattle.tg_translate.specs.mirror.Wants.{Made, value, done, test, truth_into, value_of, put_in, dropped, test_of, arms, as_statement, taken_from, deliver}
+use Rattle.tg_translate.specs.mirror.Wants.{followed, value_behind, done_behind, behind_some, behind}
 use Rattle.tg_translate_laws.proofs.Fine.{join_fine_stms}
 use Rattle.tg_translate_laws.proofs.Keeping.{Asks, Where, bind, cond_on, draws_temp, given, stms_on, want_on, Ready, Yields, GoodTx, GoodTs, GoodStms}
 use Rattle.tg_translate_laws.proofs.Keeping.{GoodCond, GoodMade, GoodWant, KnowsAt}

@@ -21,18 +21,18 @@ use Rattle.tg_translate.specs.declared.held.HeldAddress.{HeldAddress}
 use Rattle.tg_translate.specs.declared.held.HeldAddress.TheVariants.{InOwnFrame, Beside, At}
 use Rattle.tg_translate.specs.declared.wants.Want.{Want}
 use Rattle.tg_translate.specs.declared.wants.Want.TheVariants as want
-use Rattle.tg_translate.specs.States.{TranslationState, Translated, drawn, Translates, after, give, fresh}
-use Rattle.tg_translate.specs.Wants.{Made, value, done, test, truth_into, value_of, put_in, dropped, followed}
-use Rattle.tg_translate.specs.Wants.{behind, behind_some, value_behind, done_behind}
-use Rattle.tg_translate.specs.Constructs.{Storage, in_temp, at_address, operand, Held, keep, hold, HeldAll, hold_next}
-use Rattle.tg_translate.specs.Constructs.{store_at, assign, HeldAt, hold_base, hold_address, held_in_temp, held_at}
-use Rattle.tg_translate.specs.Constructs.{hold_place, place_held, field_of, field_place, element_of, element_place, record_of, make_record}
-use Rattle.tg_translate.specs.Constructs.{product_of, quotient_of, checked_quotient, minus_one, quotient, comparison, operation, count_of}
-use Rattle.tg_translate.specs.Constructs.{count, call_routine}
-use Rattle.tg_translate.specs.Scopes.{no_value, nowhere, home_place, variable_place, routine_of}
-use Rattle.tg_translate.specs.Scopes.{call_declared, call, declare_variable, literal}
-use Rattle.tg_translate.specs.Returning.{given_back}
-use Rattle.tg_translate.specs.Functions.{at_of, gives_nothing, closing, declare_functions}
+use Rattle.tg_translate.specs.mirror.States.{TranslationState, Translated, drawn, Translates, after, give, fresh}
+use Rattle.tg_translate.specs.mirror.Wants.{Made, value, done, test, truth_into, value_of, put_in, dropped, followed}
+use Rattle.tg_translate.specs.mirror.Wants.{behind, behind_some, value_behind, done_behind}
+use Rattle.tg_translate.specs.mirror.Constructs.{Storage, in_temp, at_address, operand, Held, keep, hold, HeldAll, hold_next}
+use Rattle.tg_translate.specs.mirror.Constructs.{store_at, assign, HeldAt, hold_base, hold_address, held_in_temp, held_at}
+use Rattle.tg_translate.specs.mirror.Constructs.{hold_place, place_held, field_of, field_place, element_of, element_place, record_of, make_record}
+use Rattle.tg_translate.specs.mirror.Constructs.{product_of, quotient_of, checked_quotient, minus_one, quotient, comparison, operation, count_of}
+use Rattle.tg_translate.specs.mirror.Constructs.{count, call_routine}
+use Rattle.tg_translate.specs.mirror.Scopes.{no_value, nowhere, home_place, variable_place, routine_of}
+use Rattle.tg_translate.specs.mirror.Scopes.{call_declared, call, declare_variable, literal}
+use Rattle.tg_translate.specs.mirror.Returning.{given_back}
+use Rattle.tg_translate.specs.mirror.Functions.{at_of, gives_nothing, closing, declare_functions}
 use Rattle.tg_translate_laws.proofs.Actions.{answer, left}
 use Rattle.tg_translate_laws.proofs.Fine.{Each}
 use Rattle.tg_translate_laws.proofs.Returning.{fine_parts, given_back_holds}

@@ -19,29 +19,29 @@ use Rattle.tg_types.specs.declared.notes.Means.{Means}
 use Rattle.tg_tree.specs.Tree as tree
 use Rattle.tg_tree.specs.Tree.{Tx, Const, Temp, FrameAddress, After, Txs, no_txs, tx, Cond, Ts, Move, Stms, no_stms, stm, Function, Code}
 use Rattle.tg_tree.specs.Forms.{nothing}
-use Rattle.tg_tree.specs.Lists.{join_txs}
+use Rattle.tg_tree.specs.glue.Lists.{join_txs}
 use Rattle.tg_translate.specs.declared.homes.Home.{Home}
 use Rattle.tg_translate.specs.declared.homes.Within.{Within}
 use Rattle.tg_translate.specs.declared.wants.Want.{Want}
 use Rattle.tg_translate.specs.declared.wants.Want.TheVariants as want
-use Rattle.tg_translate.specs.States.{TranslationState, Translated, drawn, Translates, after, give}
-use Rattle.tg_translate.specs.Wants.{Made, value, done, value_of, dropped, test_of, as_statement, arms, deliver, followed}
-use Rattle.tg_translate.specs.Wants.{behind}
-use Rattle.tg_translate.specs.Constructs.{Storage, HeldAll, none_held, own_place, read}
-use Rattle.tg_translate.specs.Constructs.{want_for, assign}
-use Rattle.tg_translate.specs.Constructs.{read_held, place_held}
-use Rattle.tg_translate.specs.Constructs.{operation}
-use Rattle.tg_translate.specs.Constructs.{make_array, negation, repeat_while, in_body, in_test}
-use Rattle.tg_translate.specs.Choices.{left_want, tested, chosen}
-use Rattle.tg_translate.specs.Scopes.{Findings, field_number, compares_strings}
-use Rattle.tg_translate.specs.Purity.{assigns_nothing, inits_assign_nothing}
-use Rattle.tg_translate.specs.Updates.{begins_with}
-use Rattle.tg_translate.specs.Functions.{at_of, asked, parameters, own_homes, result_want, inside, begun, outermost}
-use Rattle.tg_translate.specs.Functions.{beginning, frame_for, program, finish, with_body}
-use Rattle.tg_translate.specs.Translate.{connective, with_left, chosen_arm, choice, is_conjunction, assignment, declaration_of, Begun, expression}
-use Rattle.tg_translate.specs.Translate.{behind_read, locate, values, fields, sequence, declarations, bodies, program_body, translated}
+use Rattle.tg_translate.specs.mirror.States.{TranslationState, Translated, drawn, Translates, after, give}
+use Rattle.tg_translate.specs.mirror.Wants.{Made, value, done, value_of, dropped, test_of, as_statement, arms, deliver, followed}
+use Rattle.tg_translate.specs.mirror.Wants.{behind}
+use Rattle.tg_translate.specs.mirror.Constructs.{Storage, HeldAll, none_held, own_place, read}
+use Rattle.tg_translate.specs.mirror.Constructs.{want_for, assign}
+use Rattle.tg_translate.specs.mirror.Constructs.{read_held, place_held}
+use Rattle.tg_translate.specs.mirror.Constructs.{operation}
+use Rattle.tg_translate.specs.mirror.Constructs.{make_array, negation, repeat_while, in_body, in_test}
+use Rattle.tg_translate.specs.mirror.Choices.{left_want, tested, chosen}
+use Rattle.tg_translate.specs.mirror.Scopes.{Findings, field_number, compares_strings}
+use Rattle.tg_translate.specs.mirror.Purity.{assigns_nothing, inits_assign_nothing}
+use Rattle.tg_translate.specs.mirror.Updates.{begins_with}
+use Rattle.tg_translate.specs.mirror.Functions.{at_of, asked, parameters, own_homes, result_want, inside, begun, outermost}
+use Rattle.tg_translate.specs.mirror.Functions.{beginning, frame_for, program, finish, with_body}
+use Rattle.tg_translate.specs.mirror.Translate.{connective, with_left, chosen_arm, choice, is_conjunction, assignment, declaration_of, Begun, expression}
+use Rattle.tg_translate.specs.mirror.Translate.{behind_read, locate, values, fields, sequence, declarations, bodies, program_body, translated}
 use Rattle.tg_tree.specs.Named.{constant, HasWords}
-use Rattle.tg_translate_laws.specs.Laws.{names}
+use Rattle.tg_translate_laws.specs.laws.Laws.{names}
 use Rattle.tg_translate_laws.proofs.Fine.{Each, each_append, each_contained, names_ts}
 use Rattle.tg_translate_laws.proofs.Words.{IsWord, WordTx, WordTxs, WordCond, WordTs, WordStms, WordMade, WordPlace, WordAccess}
 use Rattle.tg_translate_laws.proofs.Words.{joined_words, followed_words, dropped_words, test_words, statement_words, deliver_words}

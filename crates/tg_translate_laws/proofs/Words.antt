@@ -11,7 +11,7 @@ use Rattle.tg_tree.specs.declared.operators.Rel.TheVariants as rel
 use Rattle.tg_tree.specs.Tree.{Tx, Const, Temp, FrameAddress, Binary, Txs, no_txs, tx, Cond, Compare}
 use Rattle.tg_tree.specs.Tree.{Ts, Move, Store, Stms, no_stms, stm}
 use Rattle.tg_tree.specs.Forms.{when}
-use Rattle.tg_tree.specs.Lists.{join_txs}
+use Rattle.tg_tree.specs.glue.Lists.{join_txs}
 use Rattle.tg_tree.specs.Named.{Named, constant}
 use Rattle.tg_translate.specs.declared.homes.Home.{Home}
 use Rattle.tg_translate.specs.declared.homes.Callee.{Callee}
@@ -22,14 +22,14 @@ use Rattle.tg_translate.specs.declared.held.HeldAddress.{HeldAddress}
 use Rattle.tg_translate.specs.declared.held.HeldAddress.TheVariants.{InOwnFrame, Beside, At}
 use Rattle.tg_translate.specs.declared.wants.Want.{Want}
 use Rattle.tg_translate.specs.declared.wants.Want.TheVariants as want
-use Rattle.tg_translate.specs.Wants.{Made, value, done, test, truth_into, put_in, dropped, test_of, as_statement, taken_from, deliver, followed}
-use Rattle.tg_translate.specs.Constructs.{Storage, in_temp, at_address, operand, frame_out, place_in, own_place, read, store_at}
-use Rattle.tg_translate.specs.Constructs.{held_address, HeldPlace, held_in_temp, held_at, read_held, place_held, plus, nil_check, field_of}
-use Rattle.tg_translate.specs.Constructs.{index_check, element_of, store_field, store_fields, space_for_record, record_of, HeldAll, product_check, product_of}
-use Rattle.tg_translate.specs.Constructs.{zero_check, quotient_check, quotient_of, least_int, negation, assign_value, first_minus_one, turn_of, turns}
-use Rattle.tg_translate.specs.Constructs.{count_of, comparison, repeat_while}
-use Rattle.tg_translate.specs.Choices.{connected, tested, chosen}
-use Rattle.tg_translate.specs.Scopes.{frame_at, home_place, call_declared}
+use Rattle.tg_translate.specs.mirror.Wants.{Made, value, done, test, truth_into, put_in, dropped, test_of, as_statement, taken_from, deliver, followed}
+use Rattle.tg_translate.specs.mirror.Constructs.{Storage, in_temp, at_address, operand, frame_out, place_in, own_place, read, store_at, held_address, HeldPlace}
+use Rattle.tg_translate.specs.mirror.Constructs.{held_in_temp, held_at, read_held, place_held, plus, nil_check, field_of, index_check, element_of, store_field}
+use Rattle.tg_translate.specs.mirror.Constructs.{store_fields, space_for_record, record_of, HeldAll, product_check, product_of, zero_check, quotient_check}
+use Rattle.tg_translate.specs.mirror.Constructs.{quotient_of, least_int, negation, assign_value, first_minus_one, turn_of, turns, count_of, comparison}
+use Rattle.tg_translate.specs.mirror.Constructs.{repeat_while}
+use Rattle.tg_translate.specs.mirror.Choices.{connected, tested, chosen}
+use Rattle.tg_translate.specs.mirror.Scopes.{frame_at, home_place, call_declared}
 use Rattle.tg_translate_laws.proofs.Fine.{FineTs, FineStms, FineTx, FineTxs, FineCond, join_fine_txs, join_fine_stms}
 
 -- constants are words; nothing is said of other names, nor of breaks

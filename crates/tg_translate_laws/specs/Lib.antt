@@ -4,5 +4,4 @@ pub mod Escaped
 pub mod Accesses
 pub mod Depths
 pub mod Programs
-pub mod Laws
-pub mod GivingBack
+pub mod laws

@@ -1,5 +1,5 @@
-ghost use Rattle.tg_translate_laws.specs.GivingBack.{LinkedTreesGiveBack, TreesGiveBack};
-ghost use Rattle.tg_translate_laws.specs.Laws.{
+ghost use Rattle.tg_translate_laws.specs.laws.GivingBack.{LinkedTreesGiveBack, TreesGiveBack};
+ghost use Rattle.tg_translate_laws.specs.laws.Laws.{
   BodiesAreClosed,
   CheckedBodiesAreClosed,
   CheckedConstantsAreWords,

@@ -1,8 +1,3 @@
-pub mod Tables
-pub mod Covered
-pub mod Worlds
-pub mod Situations
-pub mod Shown
 pub mod Bounds
-pub mod Activations
-pub mod Laws
+pub mod glue
+pub mod laws

@@ -1,8 +1,8 @@
-ghost use Rattle.tg_translate_proof.specs.Activations.{
+ghost use Rattle.tg_translate_proof.specs.laws.Activations.{
   AssignmentsFindTheirActivation,
   TemporariesAreOwn,
 };
-ghost use Rattle.tg_translate_proof.specs.Laws.{
+ghost use Rattle.tg_translate_proof.specs.laws.Laws.{
   LinksOfCallsAreRight,
   TranslateIsCorrect,
   SizesTellNothing,

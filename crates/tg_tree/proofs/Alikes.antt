@@ -6,7 +6,7 @@ use Rattle.tg_tree.specs.Tree.{Stms, no_stms, stm, Literal}
 use Rattle.tg_tree.specs.Units.{Stage}
 use Rattle.tg_tree.specs.Actions.{World, Temps, Around, Go, Next, Out, Back, ◌>>◌}
 use Rattle.tg_tree.specs.Meaning.{Enter, Point, run, run_all}
-use Rattle.tg_tree.specs.Lists.{join_stms}
+use Rattle.tg_tree.specs.glue.Lists.{join_stms}
 use Rattle.std.specs.Prelude.{List}
 
 pub next_is : (c d : Next) → ((w : World) (t : Temps) (n : ℕ) → c w t n ≡ d w t n) → c ≡ d

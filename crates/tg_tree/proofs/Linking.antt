@@ -6,7 +6,7 @@ use Rattle.tg_frame.specs.declared.accesses.Access.{Access}
 use Rattle.tg_frame.specs.declared.accesses.Access.TheVariants.{InTemp, InFrame}
 use Rattle.tg_simulation.specs.Runs.{Run}
 use Rattle.tg_simulation.specs.Ran.{Ran, Ended, Wrong, works}
-use Rattle.tg_simulation.specs.Simulating.{Simulates}
+use Rattle.tg_simulation.specs.laws.Simulating.{Simulates}
 use Rattle.tg_simulation.proofs.Simulations.{simulates_stopping, simulates_turn, simulates_less, simulates_paying, simulates_working, simulates_with_credit}
 use Rattle.tg_tree.specs.Tree.{Function}
 use Rattle.tg_tree.specs.Memory.{Has, put, slot}

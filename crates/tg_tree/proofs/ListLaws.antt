@@ -8,9 +8,9 @@ use Rattle.tg_tree.specs.declared.trees.Stms.{Stms}
 use Rattle.tg_base.specs.declared.ids.Label.{Label}
 use Rattle.tg_tree.specs.Tree as tree
 use Rattle.tg_tree.specs.Tree.{no_txs, tx, no_stms, stm}
-use Rattle.tg_tree.specs.Plain.{plain_tx, plain_txs, plain_ts, plain_stms}
+use Rattle.tg_tree.specs.glue.Plain.{plain_tx, plain_txs, plain_ts, plain_stms}
 use Rattle.tg_tree.specs.Forms.{stms, when, repeat_until}
-use Rattle.tg_tree.specs.Lists.{txs_of, stms_of, join_txs, join_stms}
+use Rattle.tg_tree.specs.glue.Lists.{txs_of, stms_of, join_txs, join_stms}
 
 pub plain_txs-items : (n : Count) (row : Row_of-Tx n) → plain_txs row ≡ txs_of (items-the_row-Tx n row)
 plain_txs-items n end_of-Tx = refl

@@ -1,7 +1,7 @@
 -- What a pass promises of one function, from which it follows for a whole code.
 use Rattle.std.specs.Prelude.{ℕ, ◌+◌, ◌*◌, ◌≤◌, List, [], ◌∷◌}
 use Rattle.tg_frame.specs.declared.accesses.Access.{Access}
-use Rattle.tg_simulation.specs.Simulating.{Simulates}
+use Rattle.tg_simulation.specs.laws.Simulating.{Simulates}
 use Rattle.tg_tree.specs.Tree.{Function}
 use Rattle.tg_tree.specs.Actions.{World, Temps, Activation, Back}
 use Rattle.tg_tree.specs.Meaning.{Enter}

@@ -1,6 +1,4 @@
 pub mod Tree
-pub mod Plain
-pub mod Lists
 pub mod Operators
 pub mod Memory
 pub mod Units
@@ -11,10 +9,11 @@ pub mod Links
 pub mod Flat
 pub mod Shapes
 pub mod Carrying
-pub mod Laws
 pub mod FlatValue
 pub mod Named
 pub mod FrameSizes
 pub mod Sizes
 pub mod Holding
 pub mod Forms
+pub mod glue
+pub mod laws

@@ -1,7 +1,7 @@
 ghost use Rattle.tg_tree.specs.Carrying.{FunctionsCarryCalls, FunctionsCarryPrograms};
 ghost use Rattle.tg_tree.specs.FlatValue.{FlatRunsAsValue, FlatSpendsLength, FlatWordSpendsAll};
 ghost use Rattle.tg_tree.specs.Links.{LinkedRunsStep, LinkedRunsStayOver, LinkedRunsAreRuns};
-ghost use Rattle.tg_tree.specs.Laws.{
+ghost use Rattle.tg_tree.specs.laws.Laws.{
   TreesStep,
   TreesStayOver,
   TreesOnlyGoOn,

@@ -13,14 +13,14 @@ use Rattle.tg_syntax.specs.declared.trees.TypeDec.{TypeDec as CodeTypeDec}
 use Rattle.tg_syntax.specs.declared.trees.Form.{Form as CodeForm}
 use Rattle.tg_syntax.specs.declared.trees.Form.TheVariants.{Alias as AliasOf, Fields as FieldsOf, Array as ArrayOf}
 use Rattle.tg_syntax.specs.Tree.{Form, TypeDec, Alias, Fields, Array}
-use Rattle.tg_syntax.specs.Plain.{plain_type, plain_form}
+use Rattle.tg_syntax.specs.glue.Plain.{plain_type, plain_form}
 use Rattle.tg_syntax.specs.NamesWithin.{TypesWithin, FormWithin, NameIsWithin}
 use Rattle.tg_types.specs.declared.chains.Chain.{Chain as CodeChain}
 use Rattle.tg_types.specs.declared.chains.Chain.TheVariants.{Outside, EndsAt, Onward}
 use Rattle.tg_semantics.specs.Environments.{name_of}
 use Rattle.tg_types.specs.Groups.{Chain, ends_at, endless, declared_as, link, chain, chain_of}
 use Rattle.tg_types.proofs.TreeSteps.{from_here, none_left}
-use Rattle.tg_types.specs.Declaring.{place_in, chain_from, ChainWithin, AreDifferent, start_at, start_in, link_at, links_in, LeadsWithin, followed}
+use Rattle.tg_types.specs.glue.Declaring.{place_in, chain_from, ChainWithin, AreDifferent, start_at, start_in, link_at, links_in, LeadsWithin, followed}
 
 -- ---- the place of a name, and what is declared there
 

@@ -13,10 +13,10 @@ use Rattle.tg_types.specs.declared.states.CheckingState.{CheckingState}
 use Rattle.tg_types.specs.Types.{Ty}
 use Rattle.tg_types.specs.Checks.{Noted, CheckResult, fine}
 use Rattle.tg_types.specs.Scopes.{Scope, Binding, standard_bindings, standard_types, outermost_scope}
-use Rattle.tg_types.specs.States.{Fails, bad, no_memory, scope_of, noted_of}
+use Rattle.tg_types.specs.glue.States.{Fails, bad, no_memory, scope_of, noted_of}
 use Rattle.tg_types.specs.Typing.{typed}
 use Rattle.tg_types.specs.Limits.{limit_fault}
-use Rattle.tg_types.specs.Faults.{rule_and_byte}
+use Rattle.tg_types.specs.glue.Faults.{rule_and_byte}
 use Rattle.tg_types.specs.Accepted.{finding, finding_of, within_limits}
 use Rattle.tg_types.specs.Answered.{Accepts, IsAt}
 use Rattle.tg_types.proofs.Rising.{rises}

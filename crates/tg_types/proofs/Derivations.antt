@@ -13,7 +13,7 @@ use Rattle.tg_types.specs.Limits.{limit_fault}
 use Rattle.tg_types.specs.Accepted.{Finding, accepted, at_fault, finding, finding_of, within_limits}
 use Rattle.tg_types.specs.Answered.{Accepts}
 use Rattle.tg_types.specs.Derivations.{Derivation}
-use Rattle.tg_types.specs.Laws.{CheckedHasType}
+use Rattle.tg_types.specs.laws.Laws.{CheckedHasType}
 use Rattle.tg_types.proofs.NamedValues.{standard_values}
 use Rattle.tg_types.proofs.TreeInversion.{checked}
 use Rattle.tg_types.proofs.AmongBeginnings.{nothing, among, pairs}

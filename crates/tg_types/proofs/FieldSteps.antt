@@ -3,7 +3,7 @@ use Rattle.std.specs.Prelude.{Option, Some, None, ◌==◌, ◌&&◌, if◌then�
 use Rattle.std.proofs.Common.{◌≡◌, ℕ, suc, ◌+◌, ◌<◌, drop, get_or, List, [], ◌∷◌, length, Bool, true, false, refl, sym, ap, ◌∙◌, arith}
 use Rattle.tg_syntax.specs.Tree.{Inits, no_inits, init}
 use Rattle.tg_syntax.specs.declared.trees.Init.{Init as CodeInit}
-use Rattle.tg_syntax.specs.Lists.{inits_of}
+use Rattle.tg_syntax.specs.glue.Lists.{inits_of}
 use Rattle.tg_types.proofs.TreeSteps.{from_here, none_left}
 use Rattle.tg_types.specs.declared.faults.TypeRule.{TypeRule}
 use Rattle.tg_types.specs.declared.faults.TypeRule.TheVariants.{T7, T9}
@@ -12,9 +12,9 @@ use Rattle.tg_symbols.specs.Tables.{looked_up}
 use Rattle.tg_types.specs.Checks.{Noted, fine, fault, present, give, refuse, shape_at, ◌>>=◌}
 use Rattle.tg_semantics.specs.Environments.{name_of}
 use Rattle.tg_types.specs.Typing.{fields_in, fields_of, element_type_in, element_of, placed, are_fields}
-use Rattle.tg_types.specs.Kinds.{record_byte, array_byte}
-use Rattle.tg_types.specs.Shapes.{fields_in_shape, element_in_shape}
-use Rattle.tg_types.specs.Selections.{init_count}
+use Rattle.tg_types.specs.glue.Kinds.{record_byte, array_byte}
+use Rattle.tg_types.specs.glue.Shapes.{fields_in_shape, element_in_shape}
+use Rattle.tg_types.specs.glue.Selections.{init_count}
 use Rattle.tg_symbols.specs.Tables.{placed_at}
 
 -- what isn't a record

@@ -18,7 +18,7 @@ use Rattle.tg_syntax.specs.declared.tokens.Ident.{Ident}
 use Rattle.tg_syntax.specs.declared.trees.Param.{Param}
 use Rattle.tg_syntax.specs.declared.trees.TypeDec.{TypeDec as CodeTypeDec}
 use Rattle.tg_syntax.specs.Tree.{TypeDec}
-use Rattle.tg_syntax.specs.Plain.{plain_type, plain_form}
+use Rattle.tg_syntax.specs.glue.Plain.{plain_type, plain_form}
 use Rattle.tg_syntax.specs.NamesWithin.{TypesWithin, FormWithin, ParamsWithin, NameIsWithin}
 use Rattle.tg_types.specs.declared.faults.TypeRule.{TypeRule}
 use Rattle.tg_types.specs.declared.faults.TypeRule.TheVariants.{T16, T18, T19}
@@ -29,12 +29,12 @@ use Rattle.tg_types.specs.Types.{Ty, Shape}
 use Rattle.tg_types.specs.Groups as groups
 use Rattle.tg_types.specs.Groups.{stands_in, no_repeats, names_of, known_name, known_form, known_forms, known_fields, endless, ends_at, chain_of, has_end}
 use Rattle.tg_types.specs.Groups.{chains_end, type_at_end, with_group, add_form, add_forms}
-use Rattle.tg_types.specs.Declaring.{HasPlaces, HasNames, place_in, AreDifferent, chain_from, ChainWithin, named_types}
+use Rattle.tg_types.specs.glue.Declaring.{HasPlaces, HasNames, place_in, AreDifferent, chain_from, ChainWithin, named_types}
 use Rattle.tg_types.specs.declared.states.CheckingState.{CheckingState}
 use Rattle.tg_types.specs.declared.chains.Chain.{Chain as CodeChain}
 use Rattle.tg_types.specs.declared.chains.Chain.TheVariants.{Outside, EndsAt, Onward}
 use Rattle.tg_types.proofs.ChainSteps.{there}
-use Rattle.tg_types.specs.States.{Fails, bad, AnswersCheck, Keeps, Opens, scope_of, noted_of}
+use Rattle.tg_types.specs.glue.States.{Fails, bad, AnswersCheck, Keeps, Opens, scope_of, noted_of}
 use Rattle.tg_types.proofs.Steps.{step, fails_first, fails_then, last_fails, kept_true, kept_false, keeps_both, same_scope, given_is, opens_keep, opens_both}
 use Rattle.tg_types.proofs.TreeSteps.{from_here, none_left}
 

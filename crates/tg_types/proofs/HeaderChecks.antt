@@ -12,8 +12,8 @@ use Rattle.tg_syntax.specs.declared.trees.Param.{Param}
 use Rattle.tg_syntax.specs.declared.trees.FunDec.{FunDec as CodeFunDec}
 use Rattle.tg_syntax.specs.declared.trees.FunDecs.{FunDecs as CodeFunDecs, out-FunDecs}
 use Rattle.tg_syntax.specs.Tree.{FunDecs, function, Exp}
-use Rattle.tg_syntax.specs.Plain.{plain, plain_functions}
-use Rattle.tg_syntax.specs.Lists.{functions_of}
+use Rattle.tg_syntax.specs.glue.Plain.{plain, plain_functions}
+use Rattle.tg_syntax.specs.glue.Lists.{functions_of}
 use Rattle.tg_syntax.specs.NamesWithin.{NameIsWithin, ParamsWithin, KindWithin, FunctionsWithin}
 use Rattle.tg_syntax.proofs.ListLaws.{plain_functions-items}
 use Rattle.tg_types.specs.declared.faults.TypeRule.{TypeRule}
@@ -23,9 +23,9 @@ use Rattle.tg_types.specs.Types.{Ty}
 use Rattle.tg_types.specs.Checks.{Check, CheckResult, Noted, fine, fault, on_fine, keep, give, ◌>>=◌}
 use Rattle.tg_types.specs.Scopes.{Scope, Signature}
 use Rattle.tg_types.specs.Groups.{stands_in, no_repeats, function_names, type_named, param_types, result_type, headers}
-use Rattle.tg_types.specs.Selections.{header_of}
-use Rattle.tg_types.specs.Declaring.{HasNames}
-use Rattle.tg_types.specs.States.{Fails, scope_of}
+use Rattle.tg_types.specs.glue.Selections.{header_of}
+use Rattle.tg_types.specs.glue.Declaring.{HasNames}
+use Rattle.tg_types.specs.glue.States.{Fails, scope_of}
 use Rattle.tg_types.proofs.Steps.{step, given, fails_first, fails_then, last_fails}
 use Rattle.tg_types.proofs.TreeSteps.{from_here, none_left}
 

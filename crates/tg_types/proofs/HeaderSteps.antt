@@ -3,12 +3,12 @@ use Rattle.std.proofs.Common.{◌≡◌, ℕ, zero, suc, ◌+◌, ◌<◌, ◌�
 use Rattle.tg_syntax.specs.declared.tokens.Ident.{Ident}
 use Rattle.tg_syntax.specs.declared.trees.Param.{Param}
 use Rattle.tg_syntax.specs.declared.trees.FunDec.{FunDec as CodeFunDec}
-use Rattle.tg_syntax.specs.Lists.{functions_of}
+use Rattle.tg_syntax.specs.glue.Lists.{functions_of}
 use Rattle.tg_types.specs.declared.states.CheckingState.{CheckingState}
 use Rattle.tg_types.specs.Types.{Ty}
 use Rattle.tg_types.specs.Scopes.{Scope, Signature, Binding, variable_at, function_at}
 use Rattle.tg_types.specs.Groups.{with_functions, with_params}
-use Rattle.tg_types.specs.States.{Opens, scope_of, noted_of}
+use Rattle.tg_types.specs.glue.States.{Opens, scope_of, noted_of}
 use Rattle.tg_types.proofs.Steps.{opened_state, opens_both, opens_keep, keeps_same}
 use Rattle.tg_types.proofs.TreeSteps.{from_here, none_left}
 

@@ -4,7 +4,7 @@ use Rattle.std.proofs.Common.{◌≡◌, ℕ, ◌<◌, ◌≤◌, [], refl, sym,
 use Rattle.tg_base.specs.declared.ids.Span.{Span}
 use Rattle.tg_syntax.specs.declared.trees.Exp.{Exp as CodeExp}
 use Rattle.tg_syntax.specs.declared.trees.Kind.{Kind, Nil, If', None'}
-use Rattle.tg_syntax.specs.Plain.{plain, plain_kind}
+use Rattle.tg_syntax.specs.glue.Plain.{plain, plain_kind}
 use Rattle.tg_syntax.specs.Spans.{span_of}
 use Rattle.tg_syntax.specs.Measures.{size, saturated}
 use Rattle.tg_types.specs.declared.faults.TypeRule.{TypeRule}

@@ -12,13 +12,13 @@ use Rattle.tg_syntax.specs.declared.trees.FunDecs.{FunDecs as CodeFunDecs, out-F
 use Rattle.tg_syntax.specs.declared.tokens.Ident.{Ident}
 use Rattle.tg_syntax.specs.Measures.{size}
 use Rattle.tg_syntax.specs.Tree.{Exp, Exps, Decs, no_decs, FunDecs}
-use Rattle.tg_syntax.specs.Plain.{plain, plain_kind, plain_exps, plain_inits, plain_functions, plain_dec}
+use Rattle.tg_syntax.specs.glue.Plain.{plain, plain_kind, plain_exps, plain_inits, plain_functions, plain_dec}
 use Rattle.tg_syntax.proofs.ListLaws.{plain_exps-items, plain_inits-items, plain_functions-items}
-use Rattle.tg_syntax.specs.Lists.{exps_of, inits_of, decs_of, functions_of}
+use Rattle.tg_syntax.specs.glue.Lists.{exps_of, inits_of, decs_of, functions_of}
 use Rattle.tg_types.specs.declared.faults.TypeRule.{TypeRule}
 use Rattle.tg_types.specs.declared.faults.TypeRule.TheVariants.{T20, T21}
 use Rattle.tg_types.specs.declared.limits.Limit.{Limit}
-use Rattle.tg_types.specs.Faults.{rule_and_byte}
+use Rattle.tg_types.specs.glue.Faults.{rule_and_byte}
 use Rattle.tg_syntax.specs.Functions.{Measures, Levels, measures, own, own_params, own_functions, own_decs, declared, declared_exps, declared_inits}
 use Rattle.tg_syntax.specs.Functions.{declared_decs, declared_functions}
 use Rattle.tg_syntax.proofs.FunctionLaws.{texts, same_texts, same_exps_texts, same_decs_texts, same_functions_texts}

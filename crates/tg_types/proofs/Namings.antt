@@ -18,8 +18,8 @@ use Rattle.tg_types.specs.Scopes.{Scope, Binding, Signature, variable_at, functi
 use Rattle.tg_types.specs.Scopes.{standard_of, type_of_text, standard_bindings, standard_types}
 use Rattle.tg_types.specs.Groups.{type_named}
 use Rattle.tg_types.specs.Typing.{variable_of, function_of, is_loop_variable}
-use Rattle.tg_types.specs.Bindings.{variable_in, function_in, IsDeclared}
-use Rattle.tg_types.specs.States.{Fails, bad}
+use Rattle.tg_types.specs.glue.Bindings.{variable_in, function_in, IsDeclared}
+use Rattle.tg_types.specs.glue.States.{Fails, bad}
 use Rattle.tg_types.proofs.Steps.{step, given, fails_first}
 
 front : {A : Type 0} (b : Bool) (v w : A) (o p : Option A) → (o ≡ Some w → p ≡ Some w) → (if b then Some v else o) ≡ Some w →

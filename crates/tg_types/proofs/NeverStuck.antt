@@ -9,7 +9,7 @@ use Rattle.tg_types.specs.declared.notes.Note.{Note}
 use Rattle.tg_types.specs.Scopes.{outermost_scope}
 use Rattle.tg_types.specs.Accepted.{finding, accepted}
 use Rattle.tg_types.specs.Derivations.{Derivation}
-use Rattle.tg_types.specs.Laws.{IsNeverStuck}
+use Rattle.tg_types.specs.laws.Laws.{IsNeverStuck}
 use Rattle.tg_types.proofs.Derivations.{derivation, among_themselves, checked_has_type}
 use Rattle.tg_types.proofs.SoundDirect.{typed_not_stuck, sees_outermost}
 

@@ -7,7 +7,7 @@ use Rattle.tg_types.specs.declared.notes.Means.{Means}
 use Rattle.tg_types.specs.Accepted.{Finding, accepted, at_fault}
 use Rattle.tg_types.specs.Answered.{AreRising, Accepts, meaning_at}
 use Rattle.tg_types.specs.Has.{Says}
-use Rattle.tg_types.specs.Laws.{NotesAreFound}
+use Rattle.tg_types.specs.laws.Laws.{NotesAreFound}
 use Rattle.tg_types.proofs.NoteSteps.{found}
 
 rising : (f : Finding) (sorted : List Note) → Accepts f sorted → AreRising sorted

@@ -11,7 +11,7 @@ use Rattle.tg_types.specs.declared.notes.Means.{Means}
 use Rattle.tg_types.specs.Types.{Ty, Shape}
 use Rattle.tg_types.specs.Checks.{Check, Noted, CheckResult, fine, fault, on_fine, keep, give, refuse, note, ◌>>=◌}
 use Rattle.tg_types.specs.Scopes.{Scope, Binding, binding, standard_bindings, standard_types, in_no_loop}
-use Rattle.tg_types.specs.States.{Fails, bad, no_memory, AnswersCheck, Leads, Keeps, Opens, scope_of}
+use Rattle.tg_types.specs.glue.States.{Fails, bad, no_memory, AnswersCheck, Leads, Keeps, Opens, scope_of}
 
 no_truth : IsTrue false → ⊥
 no_truth h = cc

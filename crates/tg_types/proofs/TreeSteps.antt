@@ -19,8 +19,8 @@ use Rattle.tg_syntax.specs.declared.trees.Inits.{Inits as CodeInits, out-Inits}
 use Rattle.tg_syntax.specs.declared.trees.FunDecs.{FunDecs as CodeFunDecs, out-FunDecs}
 use Rattle.tg_syntax.specs.declared.trees.Kind.{Kind, If, Let}
 use Rattle.tg_syntax.specs.Tree.{Exp, Decs, no_decs}
-use Rattle.tg_syntax.specs.Plain.{plain, plain_kind, plain_exps, plain_inits, plain_functions, plain_dec}
-use Rattle.tg_syntax.specs.Lists.{exps_of, inits_of, decs_of, functions_of}
+use Rattle.tg_syntax.specs.glue.Plain.{plain, plain_kind, plain_exps, plain_inits, plain_functions, plain_dec}
+use Rattle.tg_syntax.specs.glue.Lists.{exps_of, inits_of, decs_of, functions_of}
 use Rattle.tg_syntax.proofs.ListLaws.{plain_kind-Let, plain_exps-items, plain_inits-items, plain_functions-items}
 use Rattle.tg_types.specs.declared.faults.TypeRule.{TypeRule}
 use Rattle.tg_types.specs.declared.states.CheckingState.{CheckingState}
@@ -29,10 +29,10 @@ use Rattle.tg_types.specs.Checks.{Check, Noted, CheckResult, fine, give, on_fine
 use Rattle.tg_types.specs.Scopes.{Scope, Signature}
 use Rattle.tg_types.specs.Groups.{with_params}
 use Rattle.tg_types.specs.Typing.{start_of, expression_count, expect_all, expect_fields, body_fits, typed, typed_last, declare, bodies}
-use Rattle.tg_types.specs.Selections.{init_count, function_count}
-use Rattle.tg_types.specs.Trees.{fitting, choice, second_way, idle, one_body, IsAmong}
+use Rattle.tg_types.specs.glue.Selections.{init_count, function_count}
+use Rattle.tg_types.specs.glue.Trees.{fitting, choice, second_way, idle, one_body, IsAmong}
 use Rattle.tg_syntax.specs.NamesWithin.{NamesWithin, ExpsWithin, InitsWithin, DecsWithin, FunctionsWithin}
-use Rattle.tg_types.specs.States.{Fails, AnswersCheck, Leads, Keeps, Opens, scope_of, noted_of}
+use Rattle.tg_types.specs.glue.States.{Fails, AnswersCheck, Leads, Keeps, Opens, scope_of, noted_of}
 use Rattle.tg_types.proofs.LimitFaults.{span_is}
 use Rattle.tg_types.proofs.Steps.{step, two_steps, fails_first, two_fail_first, two_fail_then, last_fails, same_scope, keeps_both, keeps_same}
 use Rattle.tg_types.proofs.Steps.{opens_keep, opens_both}

@@ -7,15 +7,8 @@ pub mod Limits
 pub mod Has
 pub mod Accepted
 pub mod BeginWithin
-pub mod Kinds
-pub mod Bindings
-pub mod Shapes
-pub mod States
-pub mod Selections
-pub mod Trees
-pub mod Faults
 pub mod Answered
 pub mod Programs
 pub mod Derivations
-pub mod Laws
-pub mod Declaring
+pub mod glue
+pub mod laws

@@ -4,7 +4,7 @@ use Rattle.std.specs.Coded.{Coded, code_by, coded×, coded_ℕ, coded_list}
 use Rattle.tg_syntax.specs.declared.trees.Program.{Program}
 use Rattle.tg_syntax.specs.contracts.trees.Program as program
 use Rattle.tg_syntax.specs.Tree.{Exp}
-use Rattle.tg_syntax.specs.Plain.{plain}
+use Rattle.tg_syntax.specs.glue.Plain.{plain}
 use Rattle.tg_syntax.specs.NamesWithin.{NamesWithin}
 use Rattle.tg_syntax.specs.Beginnings.{BeginsApart}
 use Rattle.tg_types.specs.declared.notes.Note.{Note}

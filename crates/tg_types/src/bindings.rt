@@ -1,7 +1,7 @@
 ghost use Rattle.std.specs.Prelude.{◌≡◌, IfOk, Some};
 ghost use Rattle.std.specs.Option.{option_map};
 ghost use Rattle.tg_types.specs.Typing.{is_loop_variable};
-ghost use Rattle.tg_types.specs.Bindings.{variable_in, function_in, IsDeclared};
+ghost use Rattle.tg_types.specs.glue.Bindings.{variable_in, function_in, IsDeclared};
 ghost use Rattle.tg_types.specs.Scopes as scopes;
 
 use crate::kinds::Ty;
@@ -75,7 +75,7 @@ impl Model for Binding {
 
     ghost Value = { PlainBinding };
 
-    ghost use Rattle.tg_types.specs.Bindings.{binding_of};
+    ghost use Rattle.tg_types.specs.glue.Bindings.{binding_of};
 
     ghost view = { λ b. binding_of b.meaning };
 }

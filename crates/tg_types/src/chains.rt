@@ -1,10 +1,10 @@
 ghost use Rattle.std.specs.Prelude.{◌≡◌, ◌<◌, ℕ, length, map, slice_index_or, IfOk, All};
-ghost use Rattle.tg_syntax.specs.Plain.{plain_type, plain_form};
+ghost use Rattle.tg_syntax.specs.glue.Plain.{plain_type, plain_form};
 ghost use Rattle.tg_types.specs.declared.chains.Chain.{Chain as Place};
 ghost use Rattle.tg_types.specs.declared.chains.Chain.TheVariants.{Onward};
 ghost use Rattle.tg_syntax.specs.NamesWithin.{TypesWithin, NameIsWithin};
 ghost use Rattle.tg_types.specs.Groups as groups;
-ghost use Rattle.tg_types.specs.Declaring.{
+ghost use Rattle.tg_types.specs.glue.Declaring.{
   HasPlaces,
   AreDifferent,
   chain_from,

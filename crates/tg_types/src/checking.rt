@@ -1,5 +1,5 @@
 ghost use Rattle.std.specs.Prelude.{◌≡◌, length, IfOk, IfErr};
-ghost use Rattle.tg_syntax.specs.Plain.{plain};
+ghost use Rattle.tg_syntax.specs.glue.Plain.{plain};
 ghost use Rattle.tg_syntax.specs.NamesWithin.{NamesWithin};
 ghost use Rattle.tg_syntax.specs.Beginnings.{BeginsApart};
 ghost use Rattle.tg_types.specs.Accepted.{finding};

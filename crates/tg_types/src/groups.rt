@@ -1,16 +1,23 @@
 ghost use Rattle.std.specs.Prelude.{◌≡◌, ℕ, [], ◌∷◌, List, length, map, Bool, not, All};
 ghost use Rattle.std.specs.Prelude.{OnOk, IfOk};
 ghost use Rattle.tg_syntax.specs.declared.tokens.Ident.{Ident as PlainIdent};
-ghost use Rattle.tg_syntax.specs.Plain.{plain_type, plain_form};
+ghost use Rattle.tg_syntax.specs.glue.Plain.{plain_type, plain_form};
 ghost use Rattle.tg_syntax.specs.Tree.{TypeDec as PlainTypeDec};
 ghost use Rattle.tg_syntax.specs.NamesWithin.{TypesWithin, FormWithin, ParamsWithin, NameIsWithin};
 ghost use Rattle.tg_types.specs.declared.faults.TypeRule.TheVariants.{T16};
 ghost use Rattle.tg_types.specs.Checks.{Noted, keep, add_shape};
 ghost use Rattle.tg_types.specs.Scopes.{Scope};
 ghost use Rattle.tg_types.specs.Groups as groups;
-ghost use Rattle.tg_types.specs.Declaring.{HasNames, HasPlaces, AreDifferent, chain_from};
-ghost use Rattle.tg_types.specs.Declaring.{ChainWithin, named_types};
-ghost use Rattle.tg_types.specs.States.{AnswersCheck, MovesOn, Keeps, Opens, scope_of, noted_of};
+ghost use Rattle.tg_types.specs.glue.Declaring.{HasNames, HasPlaces, AreDifferent, chain_from};
+ghost use Rattle.tg_types.specs.glue.Declaring.{ChainWithin, named_types};
+ghost use Rattle.tg_types.specs.glue.States.{
+  AnswersCheck,
+  MovesOn,
+  Keeps,
+  Opens,
+  scope_of,
+  noted_of,
+};
 
 use crate::chains::{Chain, ends_of};
 use crate::faults::{TypeFault, TypeRule};

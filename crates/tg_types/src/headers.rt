@@ -1,12 +1,12 @@
 ghost use Rattle.std.specs.Prelude.{◌≡◌, [], length, List, ℕ, Bool, IfOk, OnOk};
-ghost use Rattle.tg_syntax.specs.Plain.{plain_functions};
+ghost use Rattle.tg_syntax.specs.glue.Plain.{plain_functions};
 ghost use Rattle.tg_types.specs.declared.faults.TypeRule.TheVariants.{T17};
 ghost use Rattle.tg_types.specs.Checks.{Noted};
 ghost use Rattle.tg_types.specs.Scopes.{Scope};
 ghost use Rattle.tg_types.specs.Groups as groups;
-ghost use Rattle.tg_types.specs.Selections.{function_count, header_of};
+ghost use Rattle.tg_types.specs.glue.Selections.{function_count, header_of};
 ghost use Rattle.tg_syntax.specs.NamesWithin.{FunctionsWithin, ParamsWithin, KindWithin};
-ghost use Rattle.tg_types.specs.States.{AnswersCheck, Judges, Opens, scope_of, noted_of};
+ghost use Rattle.tg_types.specs.glue.States.{AnswersCheck, Judges, Opens, scope_of, noted_of};
 
 use crate::bindings::{Binding, Signature};
 use crate::faults::{TypeFault, TypeRule};

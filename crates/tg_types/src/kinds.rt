@@ -1,6 +1,6 @@
 ghost use Rattle.std.specs.Prelude.{◌≡◌, Option};
 ghost use Rattle.tg_types.specs.Types as types;
-ghost use Rattle.tg_types.specs.Kinds.{record_byte, array_byte};
+ghost use Rattle.tg_types.specs.glue.Kinds.{record_byte, array_byte};
 
 use std::marker::Model;
 
@@ -26,7 +26,7 @@ impl Model for Ty {
 
     ghost Value = { PlainTy };
 
-    ghost use Rattle.tg_types.specs.Kinds.{type_of, kind_of, kind_of_type};
+    ghost use Rattle.tg_types.specs.glue.Kinds.{type_of, kind_of, kind_of_type};
 
     ghost view = { λ t. type_of t.kind };
 

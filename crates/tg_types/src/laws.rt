@@ -1,5 +1,5 @@
-ghost use Rattle.tg_types.specs.Laws.{CheckedHasType, FaultsStandWithin, IsNeverStuck};
-ghost use Rattle.tg_types.specs.Laws.{NotesAreFound};
+ghost use Rattle.tg_types.specs.laws.Laws.{CheckedHasType, FaultsStandWithin, IsNeverStuck};
+ghost use Rattle.tg_types.specs.laws.Laws.{NotesAreFound};
 
 /// A law: a checked program has a type by the relation of typed parts, which asks of each use,
 /// call, field and comparison what the program's notes say there.

@@ -1,15 +1,21 @@
 ghost use Rattle.std.specs.Prelude.{◌≡◌, ◌≤◌, [], ◌++◌, List};
-ghost use Rattle.tg_syntax.specs.Plain.{plain, plain_lvalue, plain_exps, plain_inits, plain_dec};
-ghost use Rattle.tg_syntax.specs.Plain.{plain_functions};
+ghost use Rattle.tg_syntax.specs.glue.Plain.{
+  plain,
+  plain_lvalue,
+  plain_exps,
+  plain_inits,
+  plain_dec,
+  plain_functions,
+};
 ghost use Rattle.tg_syntax.specs.Tree.{no_decs};
-ghost use Rattle.tg_syntax.specs.Lists.{decs_of};
+ghost use Rattle.tg_syntax.specs.glue.Lists.{decs_of};
 ghost use Rattle.tg_syntax.specs.Measures.{size};
 ghost use Rattle.tg_syntax.specs.Functions as functions;
 ghost use Rattle.tg_syntax.specs.Functions.{Measures};
 ghost use Rattle.tg_types.specs.declared.faults.TypeRule.TheVariants.{T20, T21};
 ghost use Rattle.tg_types.specs.Limits.{above};
 ghost use Rattle.tg_types.specs.Limits as limits;
-ghost use Rattle.tg_types.specs.Faults.{rule_and_byte};
+ghost use Rattle.tg_types.specs.glue.Faults.{rule_and_byte};
 
 use crate::faults::TypeRule;
 use tg_syntax::{

@@ -4,7 +4,7 @@ ghost use Rattle.tg_symbols.specs.Tables.{looked_up};
 ghost use Rattle.tg_types.specs.Scopes.{Scope, bound, standard_types};
 ghost use Rattle.tg_types.specs.Groups as groups;
 ghost use Rattle.tg_types.specs.Typing as typing;
-ghost use Rattle.tg_types.specs.States.{MovesOn, Judges, Keeps, scope_of};
+ghost use Rattle.tg_types.specs.glue.States.{MovesOn, Judges, Keeps, scope_of};
 
 use crate::bindings::Signature;
 use crate::faults::{TypeFault, TypeRule};

@@ -1,5 +1,5 @@
 ghost use Rattle.tg_types.specs.Typing as typing;
-ghost use Rattle.tg_types.specs.States.{AnswersCheck, Keeps, noted_of};
+ghost use Rattle.tg_types.specs.glue.States.{AnswersCheck, Keeps, noted_of};
 ghost use Rattle.tg_syntax.specs.declared.trees.Op.TheVariants.{Plus};
 ghost use Rattle.tg_types.specs.Checks.{Noted};
 

@@ -1,8 +1,8 @@
 ghost use Rattle.std.specs.Prelude.{◌≡◌, IfOk, length};
-ghost use Rattle.tg_syntax.specs.Plain.{plain_inits};
+ghost use Rattle.tg_syntax.specs.glue.Plain.{plain_inits};
 ghost use Rattle.tg_types.specs.Typing as typing;
-ghost use Rattle.tg_types.specs.Selections.{init_count, selected_of, placed_of, made_fields};
-ghost use Rattle.tg_types.specs.States.{AnswersCheck, Keeps, noted_of};
+ghost use Rattle.tg_types.specs.glue.Selections.{init_count, selected_of, placed_of, made_fields};
+ghost use Rattle.tg_types.specs.glue.States.{AnswersCheck, Keeps, noted_of};
 
 use crate::faults::{TypeFault, TypeRule};
 use crate::kinds::Ty;

@@ -1,6 +1,6 @@
 ghost use Rattle.tg_types.specs.Checks.{Noted, keep};
 ghost use Rattle.tg_types.specs.Typing as typing;
-ghost use Rattle.tg_types.specs.States.{AnswersCheck};
+ghost use Rattle.tg_types.specs.glue.States.{AnswersCheck};
 
 use crate::faults::{TypeFault, TypeRule};
 use crate::kinds::Ty;

@@ -1,7 +1,7 @@
 ghost use Rattle.std.specs.Prelude.{◌≡◌};
 ghost use Rattle.std.specs.Option.{option_map};
 ghost use Rattle.tg_types.specs.Types as types;
-ghost use Rattle.tg_types.specs.Shapes.{fields_in_shape, element_in_shape};
+ghost use Rattle.tg_types.specs.glue.Shapes.{fields_in_shape, element_in_shape};
 
 use crate::kinds::Ty;
 use std::marker::Model;
@@ -25,7 +25,7 @@ impl Model for Shape {
 
     ghost Value = { PlainShape };
 
-    ghost use Rattle.tg_types.specs.Shapes.{shape_of};
+    ghost use Rattle.tg_types.specs.glue.Shapes.{shape_of};
 
     ghost view = { λ s. shape_of s.form };
 }

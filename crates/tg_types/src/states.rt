@@ -1,6 +1,6 @@
 ghost use Rattle.std.specs.Prelude.{◌≡◌, [], List, ℕ};
 ghost use Rattle.tg_types.specs.Checks.{note, Noted};
-ghost use Rattle.tg_types.specs.States.{AnswersCheck, Keeps, noted_of};
+ghost use Rattle.tg_types.specs.glue.States.{AnswersCheck, Keeps, noted_of};
 
 use crate::bindings::Binding;
 use crate::faults::TypeFault;

@@ -1,9 +1,15 @@
 ghost use Rattle.std.specs.Prelude.{◌≡◌, ◌==◌, ◌∷◌, length, Bool, true, false, Some, None};
 ghost use Rattle.std.specs.Prelude.{OnOk, IfSome, box_value};
 ghost use Rattle.std.specs.Option.{option_map};
-ghost use Rattle.tg_syntax.specs.Plain.{plain, plain_lvalue, plain_exps, plain_inits, plain_dec};
-ghost use Rattle.tg_syntax.specs.Plain.{plain_functions};
-ghost use Rattle.tg_syntax.specs.Lists.{decs_of};
+ghost use Rattle.tg_syntax.specs.glue.Plain.{
+  plain,
+  plain_lvalue,
+  plain_exps,
+  plain_inits,
+  plain_dec,
+  plain_functions,
+};
+ghost use Rattle.tg_syntax.specs.glue.Lists.{decs_of};
 ghost use Rattle.tg_syntax.specs.Tree as tree;
 ghost use Rattle.tg_syntax.specs.declared.trees.Kind.{If, Let};
 ghost use Rattle.tg_syntax.specs.declared.trees.Exps.{out-Exps};
@@ -13,14 +19,25 @@ ghost use Rattle.tg_types.specs.Types.{int_type, none_type};
 ghost use Rattle.tg_types.specs.Checks.{Noted};
 ghost use Rattle.tg_types.specs.Scopes.{Scope, variable_at};
 ghost use Rattle.tg_types.specs.Typing as typing;
-ghost use Rattle.tg_types.specs.Selections.{init_count, function_count};
-ghost use Rattle.tg_types.specs.Trees.{nowhere, fitting, without_value, left_operand};
-ghost use Rattle.tg_types.specs.Trees.{right_operand, filled, second_way, choice, idle, counting};
-ghost use Rattle.tg_types.specs.Trees.{one_body, IsAmong};
+ghost use Rattle.tg_types.specs.glue.Selections.{init_count, function_count};
+ghost use Rattle.tg_types.specs.glue.Trees.{
+  nowhere,
+  fitting,
+  without_value,
+  left_operand,
+  right_operand,
+  filled,
+  second_way,
+  choice,
+  idle,
+  counting,
+  one_body,
+  IsAmong,
+};
 ghost use Rattle.tg_syntax.specs.NamesWithin.{NamesWithin, PlaceWithin, ExpsWithin, InitsWithin};
 ghost use Rattle.tg_syntax.specs.NamesWithin.{DecsWithin, FunctionsWithin, NameIsWithin};
-ghost use Rattle.tg_types.specs.States.{AnswersCheck, MovesOn, Judges, Declares, Keeps, Opens};
-ghost use Rattle.tg_types.specs.States.{scope_of, noted_of};
+ghost use Rattle.tg_types.specs.glue.States.{AnswersCheck, MovesOn, Judges, Declares, Keeps, Opens};
+ghost use Rattle.tg_types.specs.glue.States.{scope_of, noted_of};
 
 use crate::bindings::{Binding, Signature};
 use crate::faults::{TypeFault, TypeRule};

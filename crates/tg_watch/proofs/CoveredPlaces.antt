@@ -10,8 +10,8 @@ use Rattle.std.proofs.lemmas.Option.{slice_get-get_or, get_or_from_slice_get}
 use Rattle.tg_state.specs.State.{code_base}
 use Rattle.tg_machine.specs.declared.fetches.Seen.{Seen}
 use Rattle.tg_watch.specs.Reports.{is_seen, covered}
-use Rattle.tg_watch.specs.Standing.{Covers}
 use Rattle.tg_watch.specs.Watching.{IsInCode}
+use Rattle.tg_watch.specs.glue.Standing.{Covers}
 
 -- a place that was seen, with a fetch more
 seen_more : (place : ℕ) (s : List Seen) (x : Seen) → is_seen place (s ++ x ∷ []) ≡ (is_seen place s || ((x.place == place) || false))

@@ -6,7 +6,7 @@ use Rattle.std.proofs.lemmas.List.{length-drop, length-map}
 use Rattle.std.proofs.lemmas.Option.{slice_get-map, slice_get-get_or, get_or_from_slice_get}
 use Rattle.tg_machine.specs.declared.fetches.Seen.{Seen}
 use Rattle.tg_watch.specs.Reports.{seen_line, trace_report}
-use Rattle.tg_watch.specs.Standing.{Holds}
+use Rattle.tg_watch.specs.glue.Standing.{Holds}
 
 get-drop : {A : Type 0} (n : ℕ) (xs : List A) (i : ℕ) → slice_get (drop n xs) i ≡ slice_get xs (n + i)
 get-drop zero xs i = ap (slice_get xs) (omega arith)

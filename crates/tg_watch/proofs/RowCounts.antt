@@ -15,9 +15,9 @@ use Rattle.std.proofs.lemmas.List.Sums.{sum_by-append, count_by-le-length}
 use Rattle.std.proofs.lemmas.Slice.Eq.{bytes_eq-Decides}
 use Rattle.tg_isa.specs.Table.{decode_of}
 use Rattle.tg_machine.specs.declared.fetches.Seen.{Seen}
-use Rattle.tg_watch.specs.Counting.{lines_of, HasCount}
 use Rattle.tg_watch.specs.Reports.{counted_names, row_text, is_counted, count_of, count_line, count_lines, profile_report}
-use Rattle.tg_watch.specs.Standing.{Counts}
+use Rattle.tg_watch.specs.glue.Counting.{lines_of, HasCount}
+use Rattle.tg_watch.specs.glue.Standing.{Counts}
 
 pub names_size : length counted_names ≡ 43
 unfolding counted_names

@@ -2,5 +2,4 @@ pub mod Watching
 pub mod Words
 pub mod Told
 pub mod Reports
-pub mod Counting
-pub mod Standing
+pub mod glue

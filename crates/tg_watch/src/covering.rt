@@ -1,6 +1,6 @@
 ghost use Rattle.std.specs.Prelude.{◌≡◌, ◌≤◌, take};
 ghost use Rattle.tg_watch.specs.Reports.{coverage_report, covered_line};
-ghost use Rattle.tg_watch.specs.Standing.{Covers};
+ghost use Rattle.tg_watch.specs.glue.Standing.{Covers};
 
 use crate::lines::{put, put_decimal};
 use crate::watchers::Watcher;

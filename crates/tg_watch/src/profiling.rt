@@ -1,8 +1,8 @@
 ghost use Rattle.std.specs.Prelude.{◌≡◌, ◌≤◌, ◌<◌, ◌^◌, [], length, take, slice_get, slice_index};
 ghost use Rattle.std.specs.Prelude.{slice_index_or, MatchOption};
-ghost use Rattle.tg_watch.specs.Counting.{HasCount, lines_of};
 ghost use Rattle.tg_watch.specs.Reports.{count_line, counted_names, profile_report};
-ghost use Rattle.tg_watch.specs.Standing.{Counts};
+ghost use Rattle.tg_watch.specs.glue.Counting.{HasCount, lines_of};
+ghost use Rattle.tg_watch.specs.glue.Standing.{Counts};
 
 use crate::lines::{put, put_decimal};
 use crate::rows::{row_name, row_number};

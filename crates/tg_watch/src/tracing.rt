@@ -1,6 +1,6 @@
 ghost use Rattle.std.specs.Prelude.{◌≡◌, ◌≤◌, take};
 ghost use Rattle.tg_watch.specs.Reports.{seen_line, trace_report};
-ghost use Rattle.tg_watch.specs.Standing.{Holds};
+ghost use Rattle.tg_watch.specs.glue.Standing.{Holds};
 
 use crate::lines::{put, word_in_hex};
 use crate::watchers::Watcher;

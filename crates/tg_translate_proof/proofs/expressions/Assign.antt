@@ -28,20 +28,21 @@ use Rattle.tg_translate.specs.declared.held.HeldAddress.TheVariants.{InOwnFrame,
 use Rattle.tg_translate.specs.declared.operands.Operand.TheVariants.{Number, Kept}
 use Rattle.tg_translate.specs.declared.wants.Want.{Want}
 use Rattle.tg_translate.specs.declared.wants.Want.TheVariants as want
-use Rattle.tg_translate.specs.States.{TranslationState, Translated, drawn, Translates, after}
-use Rattle.tg_translate.specs.Wants.{Made, done, value_of, value_from}
-use Rattle.tg_translate.specs.Constructs.{Storage, in_temp, at_address, read, field_place, element_place, HeldAt, hold_address, held_address, store_at}
-use Rattle.tg_translate.specs.Constructs.{hold}
-use Rattle.tg_translate.specs.Constructs as constructs
-use Rattle.tg_translate.specs.Purity.{assigns_nothing}
-use Rattle.tg_translate.specs.Scopes.{field_number}
-use Rattle.tg_translate.specs.Updates.{begins_with, is_same_place}
-use Rattle.tg_translate.specs.Translate.{expression, locate, assignment, updated, behind_read}
-use Rattle.tg_correct.specs.Laws.{tree_work}
-use Rattle.tg_translate_proof.specs.Tables.{Later}
-use Rattle.tg_translate_proof.specs.Worlds.{Holdings, Stands, temporary, nowhere, GrowsTo}
-use Rattle.tg_translate_proof.specs.Situations.{Program, Setting, IsCovered, Holds, Extends, value_runs, statement_runs, statements_run}
-use Rattle.tg_translate_proof.specs.Shown.{Shown, IsShown, Situation, SituationBy, FollowsHere, Onward, MadeFollows, IsWantable, IsLeft, left_over, evaluates}
+use Rattle.tg_translate.specs.mirror.States.{TranslationState, Translated, drawn, Translates, after}
+use Rattle.tg_translate.specs.mirror.Wants.{Made, done, value_of, value_from}
+use Rattle.tg_translate.specs.mirror.Constructs.{Storage, in_temp, at_address, read, field_place, element_place, HeldAt, hold_address, held_address, store_at}
+use Rattle.tg_translate.specs.mirror.Constructs.{hold}
+use Rattle.tg_translate.specs.mirror.Constructs as constructs
+use Rattle.tg_translate.specs.mirror.Purity.{assigns_nothing}
+use Rattle.tg_translate.specs.mirror.Scopes.{field_number}
+use Rattle.tg_translate.specs.mirror.Updates.{begins_with, is_same_place}
+use Rattle.tg_translate.specs.mirror.Translate.{expression, locate, assignment, updated, behind_read}
+use Rattle.tg_correct.specs.laws.Laws.{tree_work}
+use Rattle.tg_translate_proof.specs.glue.Tables.{Later}
+use Rattle.tg_translate_proof.specs.glue.Worlds.{Holdings, Stands, temporary, nowhere, GrowsTo}
+use Rattle.tg_translate_proof.specs.glue.Situations.{Program, Setting, IsCovered, Holds, Extends, value_runs, statement_runs, statements_run}
+use Rattle.tg_translate_proof.specs.glue.Shown.{Shown, IsShown, Situation, SituationBy, FollowsHere, Onward, MadeFollows, IsWantable, IsLeft, left_over}
+use Rattle.tg_translate_proof.specs.glue.Shown.{evaluates}
 use Rattle.tg_translate_proof.proofs.state.TranslationStates.{made_in, state_in, after_inv, later_none, later_on, later_value}
 use Rattle.tg_translate_proof.proofs.invariant.Cases.{by_made, source_of, grows_on, value_follows}
 use Rattle.tg_translate_proof.proofs.invariant.Parts.{StatesGrow, more, paid, extends_on, ready_part}

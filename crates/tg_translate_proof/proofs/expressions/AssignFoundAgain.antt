@@ -16,7 +16,7 @@ use Rattle.tg_semantics.specs.Evaluation as evaluation
 use Rattle.tg_semantics.specs.Evaluation.{Location, in_variable, in_field, in_element}
 use Rattle.tg_semantics.specs.Operators.{field_in, element_in, is_below}
 use Rattle.tg_semantics.specs.Passing.{Rest, Passing, passing, with_found, ends}
-use Rattle.tg_semantics.specs.Laws.{behind}
+use Rattle.tg_semantics.specs.laws.Laws.{behind}
 use Rattle.tg_semantics.specs.Levels.{levels_of}
 use Rattle.tg_types.specs.declared.notes.Means.{Means}
 use Rattle.tg_types.specs.declared.notes.Means.TheVariants as means
@@ -25,12 +25,12 @@ use Rattle.tg_semantics.specs.Environments.{name_of}
 use Rattle.tg_types.specs.Scopes.{at_of, Scope}
 use Rattle.tg_types.specs.Has as has
 use Rattle.tg_types.specs.Has.{Has, HasPlace}
-use Rattle.tg_translate.specs.States.{TranslationState}
-use Rattle.tg_translate.specs.Scopes.{field_number}
-use Rattle.tg_translate.specs.Updates.{is_same_variable, is_sum_or_difference, is_same_place, is_same_index}
-use Rattle.tg_translate_proof.specs.Covered.{CoversPlace, Covers}
-use Rattle.tg_translate_proof.specs.Worlds.{Content, nowhere, free, variable, kept, fixed, IsOf}
-use Rattle.tg_translate_proof.specs.Situations.{Program, Part, Setting, IsReady, key_of}
+use Rattle.tg_translate.specs.mirror.States.{TranslationState}
+use Rattle.tg_translate.specs.mirror.Scopes.{field_number}
+use Rattle.tg_translate.specs.mirror.Updates.{is_same_variable, is_sum_or_difference, is_same_place, is_same_index}
+use Rattle.tg_translate_proof.specs.glue.Covered.{CoversPlace, Covers}
+use Rattle.tg_translate_proof.specs.glue.Worlds.{Content, nowhere, free, variable, kept, fixed, IsOf}
+use Rattle.tg_translate_proof.specs.glue.Situations.{Program, Part, Setting, IsReady, key_of}
 use Rattle.tg_translate_proof.proofs.state.Keys.{some_same}
 use Rattle.tg_translate_proof.proofs.expressions.BinarySides.{both_true}
 use Rattle.tg_translate_proof.proofs.state.ObjectStores.{first_of, first_is}

@@ -26,16 +26,16 @@ use Rattle.tg_translate.specs.declared.held.HeldAddress.{HeldAddress}
 use Rattle.tg_translate.specs.declared.held.HeldAddress.TheVariants.{InOwnFrame, Beside, At}
 use Rattle.tg_translate.specs.declared.operands.Operand.{Operand}
 use Rattle.tg_translate.specs.declared.operands.Operand.TheVariants.{Number, Kept}
-use Rattle.tg_translate.specs.States.{TranslationState, Translates, drawn, after, with_frame, one_temp}
-use Rattle.tg_translate.specs.Wants.{followed}
-use Rattle.tg_translate.specs.Constructs.{Storage, in_temp, at_address, place_in, frame_out, link_of, slot_address, read, plus, nil_check, after_all, element}
-use Rattle.tg_translate.specs.Constructs.{field_place, field_of, Held, operand, HeldAt, hold_address, held_address}
-use Rattle.tg_translate.specs.Scopes.{frame_at, field_number}
-use Rattle.tg_translate.specs.Translate.{locate}
-use Rattle.tg_translate_proof.specs.Tables.{Later}
-use Rattle.tg_translate_proof.specs.Worlds.{temporary, nowhere, cell, IsOf}
-use Rattle.tg_translate_proof.specs.Situations.{Program, Part, Setting, key_of, value_runs, statements_run}
-use Rattle.tg_translate_proof.specs.Shown.{Shown, FollowsHere, left_over}
+use Rattle.tg_translate.specs.mirror.States.{TranslationState, Translates, drawn, after, with_frame, one_temp}
+use Rattle.tg_translate.specs.mirror.Wants.{followed}
+use Rattle.tg_translate.specs.mirror.Constructs.{Storage, in_temp, at_address, place_in, frame_out, link_of, slot_address, read, plus, nil_check, after_all}
+use Rattle.tg_translate.specs.mirror.Constructs.{element, field_place, field_of, Held, operand, HeldAt, hold_address, held_address}
+use Rattle.tg_translate.specs.mirror.Scopes.{frame_at, field_number}
+use Rattle.tg_translate.specs.mirror.Translate.{locate}
+use Rattle.tg_translate_proof.specs.glue.Tables.{Later}
+use Rattle.tg_translate_proof.specs.glue.Worlds.{temporary, nowhere, cell, IsOf}
+use Rattle.tg_translate_proof.specs.glue.Situations.{Program, Part, Setting, key_of, value_runs, statements_run}
+use Rattle.tg_translate_proof.specs.glue.Shown.{Shown, FollowsHere, left_over}
 use Rattle.tg_translate_proof.proofs.state.TranslationStates.{made_in, state_in, after_inv, later_none}
 use Rattle.tg_translate_proof.proofs.invariant.Cases.{worked, set_here, holds_with_temp, grows_none}
 use Rattle.tg_translate_proof.proofs.invariant.Parts.{StatesGrow, extends_none}

@@ -23,16 +23,17 @@ use Rattle.tg_tree.specs.Actions as actions
 use Rattle.tg_tree.proofs.Alikes.{runs_in_turn}
 use Rattle.tg_translate.specs.declared.wants.Want.{Want}
 use Rattle.tg_translate.specs.declared.wants.Want.TheVariants as want
-use Rattle.tg_translate.specs.States.{TranslationState, drawn, Translates, after}
-use Rattle.tg_translate.specs.Wants.{Made, value, done, value_of, put_in, followed, as_statement, value_from, arm_from}
-use Rattle.tg_translate.specs.Constructs.{Storage, in_temp, at_address, want_for, assign, store_at}
-use Rattle.tg_translate.specs.Updates.{begins_with}
-use Rattle.tg_translate.specs.Translate.{expression, locate, assignment, assigned, behind_read}
-use Rattle.tg_correct.specs.Laws.{tree_work}
-use Rattle.tg_translate_proof.specs.Tables.{Later}
-use Rattle.tg_translate_proof.specs.Worlds.{Holdings, unknown, Stands, GrowsTo, Key, cell, temporary, IsOf, variable, kept}
-use Rattle.tg_translate_proof.specs.Situations.{Program, Part, Setting, Holds, MayAssign, Extends, with_temps, floor, value_runs, statement_runs, statements_run, calling, heads, frames_at}
-use Rattle.tg_translate_proof.specs.Shown.{Shown, IsShown, Situation, FollowsHere, Onward, MadeFollows, IsWantable, IsLeft, left_over, evaluates}
+use Rattle.tg_translate.specs.mirror.States.{TranslationState, drawn, Translates, after}
+use Rattle.tg_translate.specs.mirror.Wants.{Made, value, done, value_of, put_in, followed, as_statement, value_from, arm_from}
+use Rattle.tg_translate.specs.mirror.Constructs.{Storage, in_temp, at_address, want_for, assign, store_at}
+use Rattle.tg_translate.specs.mirror.Updates.{begins_with}
+use Rattle.tg_translate.specs.mirror.Translate.{expression, locate, assignment, assigned, behind_read}
+use Rattle.tg_correct.specs.laws.Laws.{tree_work}
+use Rattle.tg_translate_proof.specs.glue.Tables.{Later}
+use Rattle.tg_translate_proof.specs.glue.Worlds.{Holdings, unknown, Stands, GrowsTo, Key, cell, temporary, IsOf, variable, kept}
+use Rattle.tg_translate_proof.specs.glue.Situations.{Program, Part, Setting, Holds, MayAssign, Extends, with_temps, floor, value_runs, statement_runs}
+use Rattle.tg_translate_proof.specs.glue.Situations.{statements_run, calling, heads, frames_at}
+use Rattle.tg_translate_proof.specs.glue.Shown.{Shown, IsShown, Situation, FollowsHere, Onward, MadeFollows, IsWantable, IsLeft, left_over, evaluates}
 use Rattle.tg_translate_proof.proofs.state.TranslationStates.{made_in, state_in, after_inv, later_none, later_on, later_value}
 use Rattle.tg_translate_proof.proofs.invariant.Cases.{by_made, source_of, worked, grows_none, grows_on}
 use Rattle.tg_translate_proof.proofs.invariant.Parts.{StatesGrow, Piece, Moment, Behind, more, paid, extends_none, extends_on, sub_value, sub_arm, ready_part}

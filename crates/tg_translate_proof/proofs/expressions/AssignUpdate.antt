@@ -31,19 +31,19 @@ use Rattle.tg_tree.specs.Tree.{Const, FrameAddress, Stms, no_stms, stm}
 use Rattle.tg_tree.specs.Actions.{World, Temps, Go, charged}
 use Rattle.tg_translate.specs.declared.wants.Want.{Want}
 use Rattle.tg_translate.specs.declared.homes.Within.{Within}
-use Rattle.tg_translate.specs.States.{TranslationState, Translates, drawn, after}
-use Rattle.tg_translate.specs.Wants.{Made, value, done}
-use Rattle.tg_translate.specs.Constructs.{Storage, in_temp, at_address, place_in, frame_out, slot_address, read}
-use Rattle.tg_translate.specs.Constructs as tg_constructs
-use Rattle.tg_translate.specs.Scopes.{Findings, home_place, frame_at, variable_place}
-use Rattle.tg_translate.specs.Choices.{left_want}
-use Rattle.tg_translate.specs.Purity.{assigns_nothing}
-use Rattle.tg_translate.specs.Updates.{is_same_variable, is_same_place, begins_with}
-use Rattle.tg_translate.specs.Translate.{expression, locate, assignment, assigned, updated, behind_read, with_left}
-use Rattle.tg_correct.specs.Laws.{tree_work}
-use Rattle.tg_translate_proof.specs.Worlds.{Holdings, temporary, IsOf, GrowsTo}
-use Rattle.tg_translate_proof.specs.Situations.{Program, Part, Setting, Holds, Extends, value_runs, statements_run}
-use Rattle.tg_translate_proof.specs.Shown.{Situation, IsShown, FollowsHere, evaluates, left_over}
+use Rattle.tg_translate.specs.mirror.States.{TranslationState, Translates, drawn, after}
+use Rattle.tg_translate.specs.mirror.Wants.{Made, value, done}
+use Rattle.tg_translate.specs.mirror.Constructs.{Storage, in_temp, at_address, place_in, frame_out, slot_address, read}
+use Rattle.tg_translate.specs.mirror.Constructs as tg_constructs
+use Rattle.tg_translate.specs.mirror.Scopes.{Findings, home_place, frame_at, variable_place}
+use Rattle.tg_translate.specs.mirror.Choices.{left_want}
+use Rattle.tg_translate.specs.mirror.Purity.{assigns_nothing}
+use Rattle.tg_translate.specs.mirror.Updates.{is_same_variable, is_same_place, begins_with}
+use Rattle.tg_translate.specs.mirror.Translate.{expression, locate, assignment, assigned, updated, behind_read, with_left}
+use Rattle.tg_correct.specs.laws.Laws.{tree_work}
+use Rattle.tg_translate_proof.specs.glue.Worlds.{Holdings, temporary, IsOf, GrowsTo}
+use Rattle.tg_translate_proof.specs.glue.Situations.{Program, Part, Setting, Holds, Extends, value_runs, statements_run}
+use Rattle.tg_translate_proof.specs.glue.Shown.{Situation, IsShown, FollowsHere, evaluates, left_over}
 use Rattle.tg_translate_proof.proofs.state.TranslationStates.{made_in, state_in, after_inv}
 use Rattle.tg_translate_proof.proofs.expressions.LValueAddress.{Premises, SeenVariable, NameTyped, name_typed, found_home, IsAt, PlaceSituation, PlaceShown}
 use Rattle.tg_translate_proof.proofs.expressions.LValueAddress.{StorageFollows, place_source, locates, reads}

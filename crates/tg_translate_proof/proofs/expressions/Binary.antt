@@ -11,8 +11,8 @@ use Rattle.tg_types.specs.Types.{Ty, int_type, string_type}
 use Rattle.tg_types.specs.Scopes.{Scope}
 use Rattle.tg_types.specs.Has as has
 use Rattle.tg_types.specs.Has.{Has, Says, SaysOf, Compares, Identifies, Alike}
-use Rattle.tg_translate_proof.specs.Situations.{Program, Setting}
-use Rattle.tg_translate_proof.specs.Shown.{Shown, Situation, IsShown}
+use Rattle.tg_translate_proof.specs.glue.Situations.{Program, Setting}
+use Rattle.tg_translate_proof.specs.glue.Shown.{Shown, Situation, IsShown}
 use Rattle.tg_translate_proof.proofs.invariant.Parts.{StatesGrow, Piece}
 use Rattle.tg_translate_proof.proofs.expressions.BinarySides.{may_left, may_right}
 use Rattle.tg_translate_proof.proofs.expressions.BinaryPlusMinus.{plus_shown, minus_shown}

@@ -15,13 +15,13 @@ use Rattle.tg_tree.specs.Tree as tree
 use Rattle.tg_tree.specs.Tree.{Temp, Const, Cond, Ts}
 use Rattle.tg_translate.specs.declared.wants.Want.{Want}
 use Rattle.tg_translate.specs.declared.wants.Want.TheVariants as want
-use Rattle.tg_translate.specs.States.{TranslationState, drawn, Translates, after, with_frame, one_temp}
-use Rattle.tg_translate.specs.Wants.{Made, value, done, test, test_of, put_in, dropped, condition_from}
-use Rattle.tg_translate.specs.Translate.{expression, connective}
-use Rattle.tg_translate_proof.specs.Tables.{Later}
-use Rattle.tg_translate_proof.specs.Worlds.{temporary, nowhere}
-use Rattle.tg_translate_proof.specs.Situations.{Program, Setting}
-use Rattle.tg_translate_proof.specs.Shown.{Shown, IsShown, Situation, SituationBy, FollowsHere, evaluates, IsWantable}
+use Rattle.tg_translate.specs.mirror.States.{TranslationState, drawn, Translates, after, with_frame, one_temp}
+use Rattle.tg_translate.specs.mirror.Wants.{Made, value, done, test, test_of, put_in, dropped, condition_from}
+use Rattle.tg_translate.specs.mirror.Translate.{expression, connective}
+use Rattle.tg_translate_proof.specs.glue.Tables.{Later}
+use Rattle.tg_translate_proof.specs.glue.Worlds.{temporary, nowhere}
+use Rattle.tg_translate_proof.specs.glue.Situations.{Program, Setting}
+use Rattle.tg_translate_proof.specs.glue.Shown.{Shown, IsShown, Situation, SituationBy, FollowsHere, evaluates, IsWantable}
 use Rattle.tg_translate_proof.proofs.state.TranslationStates.{made_in, state_in, after_inv, later_none, later_on}
 use Rattle.tg_translate_proof.proofs.invariant.Cases.{by_made}
 use Rattle.tg_translate_proof.proofs.expressions.BinaryLeft.{LeftSide, plain_left, binary_by}

@@ -26,21 +26,21 @@ use Rattle.tg_tree.specs.declared.operators.Rel.TheVariants as rel
 use Rattle.tg_tree.specs.Tree as tree
 use Rattle.tg_tree.specs.Tree.{Tx, Const, Address, Temp, FrameAddress, Load, LoadByte, Call, Service, After, Compare, Fault, Seq, Stms, no_stms, stm}
 use Rattle.tg_tree.specs.Forms.{nothing as nothing_done}
-use Rattle.tg_tree.specs.Lists.{join_stms}
+use Rattle.tg_tree.specs.glue.Lists.{join_stms}
 use Rattle.tg_tree.specs.Shapes.{is_flat, is_flat_condition}
 use Rattle.tg_tree.specs.Units.{Trees, hoisted_units, joined_units}
 use Rattle.tg_tree.specs.Operators.{word, exactly, operate, stops_by}
 use Rattle.tg_tree.specs.Actions.{World, Temps, Go, Next, with_given}
 use Rattle.tg_translate.specs.declared.operands.Operand.{Operand}
 use Rattle.tg_translate.specs.declared.operands.Operand.TheVariants.{Number}
-use Rattle.tg_translate.specs.States.{TranslationState, Translated, drawn, Translates, give}
-use Rattle.tg_translate.specs.Wants.{Made, value}
-use Rattle.tg_translate.specs.Constructs.{operand, zero_check, quotient_check, overflow, minus_one, least_int, quotient, checked_quotient, quotient_of}
-use Rattle.tg_translate.specs.Purity.{assigns_nothing}
-use Rattle.tg_translate_proof.specs.Tables.{Later}
-use Rattle.tg_translate_proof.specs.Worlds.{Holdings, GrowsTo, Stands, an_int}
-use Rattle.tg_translate_proof.specs.Situations.{Program, Part, Setting, Holds, Extends, value_runs, test_runs, statement_runs, statements_run}
-use Rattle.tg_translate_proof.specs.Shown.{Shown, IsShown, Situation, SituationBy, FollowsHere, Onward, IsWanted, left_over, evaluates}
+use Rattle.tg_translate.specs.mirror.States.{TranslationState, Translated, drawn, Translates, give}
+use Rattle.tg_translate.specs.mirror.Wants.{Made, value}
+use Rattle.tg_translate.specs.mirror.Constructs.{operand, zero_check, quotient_check, overflow, minus_one, least_int, quotient, checked_quotient, quotient_of}
+use Rattle.tg_translate.specs.mirror.Purity.{assigns_nothing}
+use Rattle.tg_translate_proof.specs.glue.Tables.{Later}
+use Rattle.tg_translate_proof.specs.glue.Worlds.{Holdings, GrowsTo, Stands, an_int}
+use Rattle.tg_translate_proof.specs.glue.Situations.{Program, Part, Setting, Holds, Extends, value_runs, test_runs, statement_runs, statements_run}
+use Rattle.tg_translate_proof.specs.glue.Shown.{Shown, IsShown, Situation, SituationBy, FollowsHere, Onward, IsWanted, left_over, evaluates}
 use Rattle.tg_translate_proof.proofs.state.TranslationStates.{state_in, later_none}
 use Rattle.tg_translate_proof.proofs.invariant.Cases.{by_made, wanted_of, worked}
 use Rattle.tg_translate_proof.proofs.expressions.BinaryLeft.{LeftSide, plain_left, binary_by}

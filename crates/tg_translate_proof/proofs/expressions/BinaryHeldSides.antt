@@ -12,19 +12,19 @@ use Rattle.tg_types.specs.Types.{Ty, int_type}
 use Rattle.tg_types.specs.Has.{Has}
 use Rattle.tg_tree.specs.Tree as tree
 use Rattle.tg_tree.specs.Tree.{Tx, Const, Address, Temp, FrameAddress, Load, LoadByte, Call, Service, After, Stms, no_stms}
-use Rattle.tg_tree.specs.Lists.{join_stms}
+use Rattle.tg_tree.specs.glue.Lists.{join_stms}
 use Rattle.tg_tree.specs.Actions.{World, Temps, Next}
 use Rattle.tg_translate.specs.declared.operands.Operand.{Operand}
 use Rattle.tg_translate.specs.declared.wants.Want.TheVariants as want
-use Rattle.tg_translate.specs.States.{TranslationState, Translates, drawn, after}
-use Rattle.tg_translate.specs.Wants.{Made, value, done, test, value_of}
-use Rattle.tg_translate.specs.Constructs.{operand, hold, Held}
-use Rattle.tg_translate.specs.Purity.{assigns_nothing}
-use Rattle.tg_translate.specs.Translate.{expression}
-use Rattle.tg_translate_proof.specs.Tables.{Later}
-use Rattle.tg_translate_proof.specs.Worlds.{Holdings, GrowsTo, Stands, temporary, IsOf}
-use Rattle.tg_translate_proof.specs.Situations.{Program, Part, Setting, Holds, Extends, statements_run}
-use Rattle.tg_translate_proof.specs.Shown.{Shown, SituationBy, FollowsHere, IsNamed, left_over, evaluates}
+use Rattle.tg_translate.specs.mirror.States.{TranslationState, Translates, drawn, after}
+use Rattle.tg_translate.specs.mirror.Wants.{Made, value, done, test, value_of}
+use Rattle.tg_translate.specs.mirror.Constructs.{operand, hold, Held}
+use Rattle.tg_translate.specs.mirror.Purity.{assigns_nothing}
+use Rattle.tg_translate.specs.mirror.Translate.{expression}
+use Rattle.tg_translate_proof.specs.glue.Tables.{Later}
+use Rattle.tg_translate_proof.specs.glue.Worlds.{Holdings, GrowsTo, Stands, temporary, IsOf}
+use Rattle.tg_translate_proof.specs.glue.Situations.{Program, Part, Setting, Holds, Extends, statements_run}
+use Rattle.tg_translate_proof.specs.glue.Shown.{Shown, SituationBy, FollowsHere, IsNamed, left_over, evaluates}
 use Rattle.tg_translate_proof.proofs.state.TranslationStates.{made_in, after_inv, later_none, later_on, later_value}
 use Rattle.tg_translate_proof.proofs.expressions.BinaryLeft.{LeftSide, binary_by}
 use Rattle.tg_translate_proof.proofs.invariant.Parts.{StatesGrow, LeftPiece, first_value, first_named, from, more, extends_none, ready_part}

@@ -29,19 +29,19 @@ use Rattle.tg_tree.specs.Units.{Trees, hoisted_units}
 use Rattle.tg_tree.specs.Operators.{holds}
 use Rattle.tg_tree.specs.Actions.{World, Temps, Go}
 use Rattle.tg_translate.specs.declared.wants.Want.{Want}
-use Rattle.tg_translate.specs.Choices.{left_want}
-use Rattle.tg_translate.specs.Constructs.{comparison, relation}
-use Rattle.tg_translate.specs.Purity.{assigns_nothing}
-use Rattle.tg_translate.specs.Scopes.{compares_strings}
-use Rattle.tg_translate.specs.States.{drawn, Translates, after, give}
-use Rattle.tg_translate.specs.Translate.{expression, with_left}
-use Rattle.tg_translate.specs.Wants.{Made, test}
-use Rattle.tg_correct.specs.Laws.{tree_work}
-use Rattle.tg_translate_proof.specs.Tables.{Later}
-use Rattle.tg_translate_proof.specs.Worlds as worlds
-use Rattle.tg_translate_proof.specs.Worlds.{Holdings, Stands, a_nil, a_nil_record, a_record, an_array}
-use Rattle.tg_translate_proof.specs.Situations.{Program, Setting, Holds, test_runs}
-use Rattle.tg_translate_proof.specs.Shown.{Situation, IsShown, FollowsHere, left_over, evaluates, Onward, IsTold}
+use Rattle.tg_translate.specs.mirror.Choices.{left_want}
+use Rattle.tg_translate.specs.mirror.Constructs.{comparison, relation}
+use Rattle.tg_translate.specs.mirror.Purity.{assigns_nothing}
+use Rattle.tg_translate.specs.mirror.Scopes.{compares_strings}
+use Rattle.tg_translate.specs.mirror.States.{drawn, Translates, after, give}
+use Rattle.tg_translate.specs.mirror.Translate.{expression, with_left}
+use Rattle.tg_translate.specs.mirror.Wants.{Made, test}
+use Rattle.tg_correct.specs.laws.Laws.{tree_work}
+use Rattle.tg_translate_proof.specs.glue.Tables.{Later}
+use Rattle.tg_translate_proof.specs.glue.Worlds as worlds
+use Rattle.tg_translate_proof.specs.glue.Worlds.{Holdings, Stands, a_nil, a_nil_record, a_record, an_array}
+use Rattle.tg_translate_proof.specs.glue.Situations.{Program, Setting, Holds, test_runs}
+use Rattle.tg_translate_proof.specs.glue.Shown.{Situation, IsShown, FollowsHere, left_over, evaluates, Onward, IsTold}
 use Rattle.tg_translate_proof.proofs.state.TranslationStates.{after_inv, state_in, later_none}
 use Rattle.tg_translate_proof.proofs.invariant.Cases.{by_made, worked, truth_is_set}
 use Rattle.tg_translate_proof.proofs.expressions.BinaryLeft.{LeftSide, plain_left}

@@ -21,13 +21,13 @@ use Rattle.tg_tree.specs.Shapes.{is_flat}
 use Rattle.tg_tree.specs.Units.{Trees, hoisted_units}
 use Rattle.tg_tree.specs.Operators.{holds}
 use Rattle.tg_tree.specs.Actions.{Go}
-use Rattle.tg_translate.specs.States.{drawn, Translates, give}
-use Rattle.tg_translate.specs.Wants.{Made, test}
-use Rattle.tg_translate.specs.Constructs.{comparison}
-use Rattle.tg_translate.specs.Scopes.{compares_strings}
-use Rattle.tg_translate_proof.specs.Tables.{Later}
-use Rattle.tg_translate_proof.specs.Situations.{Program, Setting, test_runs}
-use Rattle.tg_translate_proof.specs.Shown.{Shown, IsShown, Situation, SituationBy, FollowsHere, left_over, evaluates, Onward, IsTold}
+use Rattle.tg_translate.specs.mirror.States.{drawn, Translates, give}
+use Rattle.tg_translate.specs.mirror.Wants.{Made, test}
+use Rattle.tg_translate.specs.mirror.Constructs.{comparison}
+use Rattle.tg_translate.specs.mirror.Scopes.{compares_strings}
+use Rattle.tg_translate_proof.specs.glue.Tables.{Later}
+use Rattle.tg_translate_proof.specs.glue.Situations.{Program, Setting, test_runs}
+use Rattle.tg_translate_proof.specs.glue.Shown.{Shown, IsShown, Situation, SituationBy, FollowsHere, left_over, evaluates, Onward, IsTold}
 use Rattle.tg_translate_proof.proofs.state.TranslationStates.{state_in, later_none}
 use Rattle.tg_translate_proof.proofs.invariant.Cases.{by_made, worked, truth_is_set}
 use Rattle.tg_translate_proof.proofs.expressions.BinaryLeft.{LeftSide, plain_left, binary_by}

@@ -8,15 +8,15 @@ use Rattle.tg_types.specs.Types.{Ty}
 use Rattle.tg_tree.specs.Actions.{World, Temps}
 use Rattle.tg_translate.specs.declared.homes.Within.{Within}
 use Rattle.tg_translate.specs.declared.wants.Want.{Want}
-use Rattle.tg_translate.specs.Choices.{left_want}
-use Rattle.tg_translate.specs.Purity.{assigns_nothing}
-use Rattle.tg_translate.specs.States.{TranslationState, Translates, drawn, after}
-use Rattle.tg_translate.specs.Translate.{expression, with_left}
-use Rattle.tg_translate.specs.Wants.{Made}
-use Rattle.tg_translate_proof.specs.Tables.{Later}
-use Rattle.tg_translate_proof.specs.Worlds.{Holdings}
-use Rattle.tg_translate_proof.specs.Situations.{Program, Part}
-use Rattle.tg_translate_proof.specs.Shown.{SituationBy, IsShown, Shown}
+use Rattle.tg_translate.specs.mirror.Choices.{left_want}
+use Rattle.tg_translate.specs.mirror.Purity.{assigns_nothing}
+use Rattle.tg_translate.specs.mirror.States.{TranslationState, Translates, drawn, after}
+use Rattle.tg_translate.specs.mirror.Translate.{expression, with_left}
+use Rattle.tg_translate.specs.mirror.Wants.{Made}
+use Rattle.tg_translate_proof.specs.glue.Tables.{Later}
+use Rattle.tg_translate_proof.specs.glue.Worlds.{Holdings}
+use Rattle.tg_translate_proof.specs.glue.Situations.{Program, Part}
+use Rattle.tg_translate_proof.specs.glue.Shown.{SituationBy, IsShown, Shown}
 
 module _ (P : Program) where
   -- states only grow, by what translates an expression

@@ -32,15 +32,15 @@ use Rattle.tg_tree.specs.Operators.{exactly, holds}
 use Rattle.tg_tree.specs.Actions.{World, Temps, Go, with_given}
 use Rattle.tg_translate.specs.declared.homes.Within.{Within}
 use Rattle.tg_translate.specs.declared.wants.Want.{Want}
-use Rattle.tg_translate.specs.States.{TranslationState, drawn, Translates, give}
-use Rattle.tg_translate.specs.Wants.{Made, value, test}
-use Rattle.tg_translate.specs.Constructs.{comparison, operation}
-use Rattle.tg_translate.specs.Scopes.{compares_strings}
-use Rattle.tg_translate.specs.Purity.{assigns_nothing}
-use Rattle.tg_translate_proof.specs.Tables.{Later}
-use Rattle.tg_translate_proof.specs.Worlds.{Holdings, Stands, an_int}
-use Rattle.tg_translate_proof.specs.Situations.{Program, Setting, value_runs, test_runs}
-use Rattle.tg_translate_proof.specs.Shown.{Shown, IsShown, Situation, SituationBy, FollowsHere, Onward, IsWanted, IsTold, left_over, evaluates}
+use Rattle.tg_translate.specs.mirror.States.{TranslationState, drawn, Translates, give}
+use Rattle.tg_translate.specs.mirror.Wants.{Made, value, test}
+use Rattle.tg_translate.specs.mirror.Constructs.{comparison, operation}
+use Rattle.tg_translate.specs.mirror.Scopes.{compares_strings}
+use Rattle.tg_translate.specs.mirror.Purity.{assigns_nothing}
+use Rattle.tg_translate_proof.specs.glue.Tables.{Later}
+use Rattle.tg_translate_proof.specs.glue.Worlds.{Holdings, Stands, an_int}
+use Rattle.tg_translate_proof.specs.glue.Situations.{Program, Setting, value_runs, test_runs}
+use Rattle.tg_translate_proof.specs.glue.Shown.{Shown, IsShown, Situation, SituationBy, FollowsHere, Onward, IsWanted, IsTold, left_over, evaluates}
 use Rattle.tg_translate_proof.proofs.state.TranslationStates.{state_in, later_none}
 use Rattle.tg_translate_proof.proofs.invariant.Cases.{by_made, wanted_of, worked, truth_is_set}
 use Rattle.tg_translate_proof.proofs.expressions.BinaryLeft.{LeftSide, plain_left, binary_by}

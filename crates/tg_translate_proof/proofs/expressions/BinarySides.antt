@@ -17,14 +17,14 @@ use Rattle.tg_tree.specs.Actions.{World, Temps, Go}
 use Rattle.tg_translate.specs.declared.homes.Within.{Within}
 use Rattle.tg_translate.specs.declared.wants.Want.{Want}
 use Rattle.tg_translate.specs.declared.wants.Want.TheVariants as want
-use Rattle.tg_translate.specs.States.{TranslationState, drawn, Translates, after}
-use Rattle.tg_translate.specs.Wants.{Made, value_of, value_from}
-use Rattle.tg_translate.specs.Purity.{assigns_nothing}
-use Rattle.tg_translate.specs.Translate.{expression}
-use Rattle.tg_translate_proof.specs.Tables.{Later}
-use Rattle.tg_translate_proof.specs.Worlds.{Stands, GrowsTo}
-use Rattle.tg_translate_proof.specs.Situations.{Program, Part, Setting, MayAssign, value_runs}
-use Rattle.tg_translate_proof.specs.Shown.{SituationBy, FollowsHere, evaluates}
+use Rattle.tg_translate.specs.mirror.States.{TranslationState, drawn, Translates, after}
+use Rattle.tg_translate.specs.mirror.Wants.{Made, value_of, value_from}
+use Rattle.tg_translate.specs.mirror.Purity.{assigns_nothing}
+use Rattle.tg_translate.specs.mirror.Translate.{expression}
+use Rattle.tg_translate_proof.specs.glue.Tables.{Later}
+use Rattle.tg_translate_proof.specs.glue.Worlds.{Stands, GrowsTo}
+use Rattle.tg_translate_proof.specs.glue.Situations.{Program, Part, Setting, MayAssign, value_runs}
+use Rattle.tg_translate_proof.specs.glue.Shown.{SituationBy, FollowsHere, evaluates}
 use Rattle.tg_translate_proof.proofs.state.TranslationStates.{after_inv, later_on, later_value}
 use Rattle.tg_translate_proof.proofs.invariant.Cases.{worked}
 use Rattle.tg_translate_proof.proofs.expressions.BinaryLeft.{LeftSide}

@@ -24,13 +24,13 @@ use Rattle.tg_tree.specs.Shapes.{IsFlat}
 use Rattle.tg_tree.specs.Memory.{load}
 use Rattle.tg_tree.specs.FlatValue.{or_wrong, onward}
 use Rattle.tg_tree.specs.Actions.{World, Temps}
-use Rattle.tg_translate.specs.Wants.{value}
-use Rattle.tg_translate.specs.Updates.{begins_with, is_same_place}
-use Rattle.tg_translate.specs.Translate.{behind_read}
-use Rattle.tg_correct.specs.Laws.{tree_work}
-use Rattle.tg_translate_proof.specs.Worlds.{Holdings, Stands}
-use Rattle.tg_translate_proof.specs.Situations.{Program, Part, Setting, IsCovered, value_runs}
-use Rattle.tg_translate_proof.specs.Shown.{SituationBy, IsShown, Shown, FollowsHere, left_over, evaluates}
+use Rattle.tg_translate.specs.mirror.Wants.{value}
+use Rattle.tg_translate.specs.mirror.Updates.{begins_with, is_same_place}
+use Rattle.tg_translate.specs.mirror.Translate.{behind_read}
+use Rattle.tg_correct.specs.laws.Laws.{tree_work}
+use Rattle.tg_translate_proof.specs.glue.Worlds.{Holdings, Stands}
+use Rattle.tg_translate_proof.specs.glue.Situations.{Program, Part, Setting, IsCovered, value_runs}
+use Rattle.tg_translate_proof.specs.glue.Shown.{SituationBy, IsShown, Shown, FollowsHere, left_over, evaluates}
 use Rattle.tg_translate_proof.proofs.invariant.Cases.{by_made, wanted_of, grows_none}
 use Rattle.tg_translate_proof.proofs.invariant.Parts.{StatesGrow, extends_none}
 use Rattle.tg_translate_proof.proofs.expressions.BinaryLeft.{LeftSide, binary_by}

@@ -14,7 +14,7 @@ use Rattle.tg_simulation.specs.Agreement.{Source}
 use Rattle.tg_simulation.proofs.Following.{follows_working, follows_along}
 use Rattle.tg_semantics.specs.Values.{Value, string, Env, SourceWorld, add_weight, drop_weight}
 use Rattle.tg_semantics.specs.Evaluation as E
-use Rattle.tg_semantics.specs.Laws.{behind}
+use Rattle.tg_semantics.specs.laws.Laws.{behind}
 use Rattle.tg_semantics.specs.Levels.{runtime_weight}
 use Rattle.tg_semantics.specs.Operators.{comparison as compared, string_less, truth}
 use Rattle.tg_semantics.specs.MachineEnds.{rest_run}
@@ -29,23 +29,23 @@ use Rattle.tg_tree.specs.Units.{Trees}
 use Rattle.tg_tree.specs.Operators.{holds}
 use Rattle.tg_tree.specs.Actions.{World, Temps, Go}
 use Rattle.tg_runtime.specs.declared.routines.Routine.TheVariants as routine
-use Rattle.tg_runtime.specs.Labels.{label_of}
-use Rattle.tg_runtime.specs.Routines.{minus_one}
-use Rattle.tg_runtime_proof.specs.Serving.{order_of}
+use Rattle.tg_runtime.specs.mirror.Labels.{label_of}
+use Rattle.tg_runtime.specs.mirror.Routines.{minus_one}
+use Rattle.tg_runtime_proof.specs.laws.Serving.{order_of}
 use Rattle.tg_translate.specs.declared.wants.Want.{Want}
 use Rattle.tg_translate.specs.declared.wants.Want.TheVariants as want
-use Rattle.tg_translate.specs.Choices.{left_want}
-use Rattle.tg_translate.specs.Constructs.{comparison, relation, call_routine, two_txs}
-use Rattle.tg_translate.specs.Purity.{assigns_nothing}
-use Rattle.tg_translate.specs.Scopes.{compares_strings}
-use Rattle.tg_translate.specs.States.{TranslationState, drawn, Translates, after, give}
-use Rattle.tg_translate.specs.Translate.{expression, with_left}
-use Rattle.tg_translate.specs.Wants.{Made, test, value_of, value_from}
-use Rattle.tg_correct.specs.Laws.{tree_work}
-use Rattle.tg_translate_proof.specs.Tables.{Later}
-use Rattle.tg_translate_proof.specs.Worlds.{Holdings, Stands}
-use Rattle.tg_translate_proof.specs.Situations.{Program, Setting, Holds, test_runs, value_runs, values_run, calling, frames_at}
-use Rattle.tg_translate_proof.specs.Shown.{Situation, IsShown, FollowsHere, left_over, evaluates, Onward, IsTold}
+use Rattle.tg_translate.specs.mirror.Choices.{left_want}
+use Rattle.tg_translate.specs.mirror.Constructs.{comparison, relation, call_routine, two_txs}
+use Rattle.tg_translate.specs.mirror.Purity.{assigns_nothing}
+use Rattle.tg_translate.specs.mirror.Scopes.{compares_strings}
+use Rattle.tg_translate.specs.mirror.States.{TranslationState, drawn, Translates, after, give}
+use Rattle.tg_translate.specs.mirror.Translate.{expression, with_left}
+use Rattle.tg_translate.specs.mirror.Wants.{Made, test, value_of, value_from}
+use Rattle.tg_correct.specs.laws.Laws.{tree_work}
+use Rattle.tg_translate_proof.specs.glue.Tables.{Later}
+use Rattle.tg_translate_proof.specs.glue.Worlds.{Holdings, Stands}
+use Rattle.tg_translate_proof.specs.glue.Situations.{Program, Setting, Holds, test_runs, value_runs, values_run, calling, frames_at}
+use Rattle.tg_translate_proof.specs.glue.Shown.{Situation, IsShown, FollowsHere, left_over, evaluates, Onward, IsTold}
 use Rattle.tg_translate_proof.proofs.state.TranslationStates.{after_inv, state_in, later_none}
 use Rattle.tg_translate_proof.proofs.invariant.Cases.{by_made, truth_is_set}
 use Rattle.tg_translate_proof.proofs.expressions.BinaryLeft.{LeftSide, plain_left}

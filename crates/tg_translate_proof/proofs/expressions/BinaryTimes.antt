@@ -21,21 +21,21 @@ use Rattle.tg_types.specs.Has.{Has}
 use Rattle.tg_tree.specs.declared.operators.Bin.TheVariants as bin
 use Rattle.tg_tree.specs.Tree as tree
 use Rattle.tg_tree.specs.Tree.{Tx, Const, Temp, Move, Stms, no_stms, stm}
-use Rattle.tg_tree.specs.Lists.{join_stms}
+use Rattle.tg_tree.specs.glue.Lists.{join_stms}
 use Rattle.tg_tree.specs.Shapes.{is_flat}
 use Rattle.tg_tree.specs.Units.{Trees, hoisted_units}
 use Rattle.tg_tree.specs.Operators.{operate}
 use Rattle.tg_tree.specs.Actions.{World, Temps, set_temp, Go, Next, with_given, with_word}
 use Rattle.tg_translate.specs.declared.operands.Operand.{Operand}
 use Rattle.tg_translate.specs.declared.operands.Operand.TheVariants.{Number, Kept}
-use Rattle.tg_translate.specs.States.{TranslationState, Translates, give, fresh, ◌>>=◌, with_frame, one_temp}
-use Rattle.tg_translate.specs.Wants.{Made}
-use Rattle.tg_translate.specs.Constructs.{operand, product_check, overflow, product_of}
-use Rattle.tg_translate.specs.Purity.{assigns_nothing}
-use Rattle.tg_translate_proof.specs.Tables.{Later}
-use Rattle.tg_translate_proof.specs.Worlds.{Holdings, GrowsTo, Stands, an_int, temporary, nowhere, IsOf}
-use Rattle.tg_translate_proof.specs.Situations.{Program, Setting, Holds, Extends, value_runs, statement_runs, statements_run}
-use Rattle.tg_translate_proof.specs.Shown.{Shown, IsShown, Situation, SituationBy, FollowsHere, Onward, IsWanted, left_over, evaluates}
+use Rattle.tg_translate.specs.mirror.States.{TranslationState, Translates, give, fresh, ◌>>=◌, with_frame, one_temp}
+use Rattle.tg_translate.specs.mirror.Wants.{Made}
+use Rattle.tg_translate.specs.mirror.Constructs.{operand, product_check, overflow, product_of}
+use Rattle.tg_translate.specs.mirror.Purity.{assigns_nothing}
+use Rattle.tg_translate_proof.specs.glue.Tables.{Later}
+use Rattle.tg_translate_proof.specs.glue.Worlds.{Holdings, GrowsTo, Stands, an_int, temporary, nowhere, IsOf}
+use Rattle.tg_translate_proof.specs.glue.Situations.{Program, Setting, Holds, Extends, value_runs, statement_runs, statements_run}
+use Rattle.tg_translate_proof.specs.glue.Shown.{Shown, IsShown, Situation, SituationBy, FollowsHere, Onward, IsWanted, left_over, evaluates}
 use Rattle.tg_translate_proof.proofs.state.TranslationStates.{state_in, later_none, later_on}
 use Rattle.tg_translate_proof.proofs.invariant.Cases.{by_made, wanted_of, worked, set_here, holds_with_temp}
 use Rattle.tg_translate_proof.proofs.expressions.BinaryLeft.{LeftSide, plain_left, binary_by}

@@ -19,7 +19,7 @@ use Rattle.tg_semantics.specs.Evaluation as evaluation
 use Rattle.tg_semantics.specs.Levels.{levels_of}
 use Rattle.tg_semantics.specs.Passing.{Rest, Passing, passing, with_found}
 use Rattle.tg_semantics.specs.MachineEnds.{rest_run}
-use Rattle.tg_semantics.specs.Laws.{behind}
+use Rattle.tg_semantics.specs.laws.Laws.{behind}
 use Rattle.tg_types.specs.declared.notes.Means.TheVariants as means
 use Rattle.tg_types.specs.Types.{Ty, int_type, none_type}
 use Rattle.tg_semantics.specs.Environments.{name_of}
@@ -38,28 +38,28 @@ use Rattle.tg_tree.specs.Actions.{Go}
 use Rattle.tg_translate.specs.declared.wants.Want.{Want}
 use Rattle.tg_translate.specs.declared.wants.Want.TheVariants as want
 use Rattle.tg_translate.specs.declared.homes.Callee.{Callee}
-use Rattle.tg_translate.specs.States.{TranslationState, drawn, after}
-use Rattle.tg_translate.specs.Wants.{value}
-use Rattle.tg_translate.specs.Scopes.{frame_at, call_declared}
-use Rattle.tg_translate.specs.Scopes as scopes
-use Rattle.tg_translate.specs.Constructs.{frame_out}
-use Rattle.tg_translate.specs.Purity.{assigns_nothing, all_assign_nothing}
-use Rattle.tg_translate.specs.Translate.{values as made_values}
-use Rattle.tg_correct.specs.Laws.{tree_work}
-use Rattle.tg_translate_proof.specs.Covered.{CoversExps, CoversUse, LinksLead}
-use Rattle.tg_translate_proof.specs.Tables.{Later, HasFound}
-use Rattle.tg_translate_proof.specs.Worlds.{Holdings, Stands, Places, Scene, temporary, kept}
-use Rattle.tg_translate_proof.specs.Situations.{Program, Setting, Extends, MayAssign, frames_at, calling}
-use Rattle.tg_translate_proof.specs.Situations.{value_runs, values_run}
-use Rattle.tg_translate_proof.specs.Shown.{FollowsHere, Shown, Situation, IsShown, IsWanted, IsWantable, Onward, evaluates}
-use Rattle.tg_translate_proof.specs.Shown.{left_over}
+use Rattle.tg_translate.specs.mirror.States.{TranslationState, drawn, after}
+use Rattle.tg_translate.specs.mirror.Wants.{value}
+use Rattle.tg_translate.specs.mirror.Scopes.{frame_at, call_declared}
+use Rattle.tg_translate.specs.mirror.Scopes as scopes
+use Rattle.tg_translate.specs.mirror.Constructs.{frame_out}
+use Rattle.tg_translate.specs.mirror.Purity.{assigns_nothing, all_assign_nothing}
+use Rattle.tg_translate.specs.mirror.Translate.{values as made_values}
+use Rattle.tg_correct.specs.laws.Laws.{tree_work}
+use Rattle.tg_translate_proof.specs.glue.Covered.{CoversExps, CoversUse, LinksLead}
+use Rattle.tg_translate_proof.specs.glue.Tables.{Later, HasFound}
+use Rattle.tg_translate_proof.specs.glue.Worlds.{Holdings, Stands, Places, Scene, temporary, kept}
+use Rattle.tg_translate_proof.specs.glue.Situations.{Program, Setting, Extends, MayAssign, frames_at, calling}
+use Rattle.tg_translate_proof.specs.glue.Situations.{value_runs, values_run}
+use Rattle.tg_translate_proof.specs.glue.Shown.{FollowsHere, Shown, Situation, IsShown, IsWanted, IsWantable, Onward, evaluates}
+use Rattle.tg_translate_proof.specs.glue.Shown.{left_over}
 use Rattle.tg_translate_proof.proofs.state.TranslationStates.{after_inv, state_in, later_none, found_later}
 use Rattle.tg_translate_proof.proofs.invariant.Cases.{grows_on, wanted_of, by_made}
 use Rattle.tg_translate_proof.proofs.invariant.Parts.{StatesGrow, Moment, Behind, at_begin, more, along_on, extends_on}
 use Rattle.tg_translate_proof.proofs.state.StaticLinks.{flat_follows, links_are, frame_is, frame_is_flat, frame_length}
 use Rattle.tg_translate_proof.proofs.expressions.CallArguments.{AreMade, arguments_made, StandAll, count_of, Arguments, arguments_follow, arguments_later}
 use Rattle.tg_translate_proof.proofs.state.NamesInSight.{IsSeenFunction, is_seen, is_found}
-use Rattle.tg_translate_proof.specs.Situations.{GroupsFit}
+use Rattle.tg_translate_proof.specs.glue.Situations.{GroupsFit}
 use Rattle.tg_translate_proof.proofs.expressions.CallFunction.{call_follows}
 
 -- what is known of a function in sight stays where there are more variables

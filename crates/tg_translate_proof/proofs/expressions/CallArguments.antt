@@ -10,26 +10,26 @@ use Rattle.tg_semantics.specs.Values.{Value}
 use Rattle.tg_semantics.specs.Evaluation.{eval_all}
 use Rattle.tg_semantics.specs.Passing.{Rest, Passing, passing}
 use Rattle.tg_semantics.specs.MachineEnds.{rest_run}
-use Rattle.tg_semantics.specs.Laws.{behind}
+use Rattle.tg_semantics.specs.laws.Laws.{behind}
 use Rattle.tg_types.specs.Types.{Ty}
 use Rattle.tg_types.specs.Has.{Fits, HasValues}
 use Rattle.tg_tree.specs.Tree.{Tx, Txs, no_txs, tx}
 use Rattle.tg_tree.specs.Units.{Trees, argument_units, hoisted_units}
 use Rattle.tg_tree.specs.Shapes.{are_flat}
-use Rattle.tg_tree.specs.Lists.{join_txs}
+use Rattle.tg_tree.specs.glue.Lists.{join_txs}
 use Rattle.tg_tree.specs.Actions.{World, Temps, Go}
 use Rattle.tg_tree.proofs.ListLaws.{join_txs-none, join_txs-assoc}
 use Rattle.tg_translate.specs.declared.homes.Within.{Within}
 use Rattle.tg_translate.specs.declared.wants.Want.TheVariants as want
-use Rattle.tg_translate.specs.Scopes.{Findings}
-use Rattle.tg_translate.specs.States.{TranslationState, drawn, after}
-use Rattle.tg_translate.specs.Translate.{expression, values as made_values}
-use Rattle.tg_translate.specs.Wants.{value_from}
-use Rattle.tg_correct.specs.Laws.{tree_work}
-use Rattle.tg_translate_proof.specs.Tables.{Later}
-use Rattle.tg_translate_proof.specs.Worlds.{Holdings, Stands}
-use Rattle.tg_translate_proof.specs.Situations.{Program, Setting, value_runs, values_run}
-use Rattle.tg_translate_proof.specs.Shown.{Situation, FollowsHere}
+use Rattle.tg_translate.specs.mirror.Scopes.{Findings}
+use Rattle.tg_translate.specs.mirror.States.{TranslationState, drawn, after}
+use Rattle.tg_translate.specs.mirror.Translate.{expression, values as made_values}
+use Rattle.tg_translate.specs.mirror.Wants.{value_from}
+use Rattle.tg_correct.specs.laws.Laws.{tree_work}
+use Rattle.tg_translate_proof.specs.glue.Tables.{Later}
+use Rattle.tg_translate_proof.specs.glue.Worlds.{Holdings, Stands}
+use Rattle.tg_translate_proof.specs.glue.Situations.{Program, Setting, value_runs, values_run}
+use Rattle.tg_translate_proof.specs.glue.Shown.{Situation, FollowsHere}
 use Rattle.tg_translate_proof.proofs.state.TranslationStates.{after_inv, made_in, state_in, later_none, later_on, later_value}
 use Rattle.tg_translate_proof.proofs.invariant.Parts.{StatesGrow, Piece, Moment, Behind, at_then, sub_value, more, extends_none, extends_on}
 use Rattle.tg_translate_proof.proofs.invariant.Cases.{grows_none, grows_on}

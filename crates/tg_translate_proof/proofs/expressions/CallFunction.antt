@@ -19,7 +19,7 @@ use Rattle.tg_semantics.specs.Evaluation as evaluation
 use Rattle.tg_semantics.specs.Evaluation.{Job, run_function}
 use Rattle.tg_semantics.specs.Passing.{Rest, Passing, passing, with_turn, over_in}
 use Rattle.tg_semantics.specs.MachineEnds.{rest_run, as_source}
-use Rattle.tg_semantics.specs.Laws.{behind}
+use Rattle.tg_semantics.specs.laws.Laws.{behind}
 use Rattle.tg_semantics.proofs.AsSource.{turns_as_source}
 use Rattle.tg_types.specs.Types.{Ty}
 use Rattle.tg_types.specs.Scopes.{Signature, at_of}
@@ -30,14 +30,14 @@ use Rattle.tg_tree.specs.Running.{with_fuel, entered, fuelled, outermost, with_s
 use Rattle.tg_tree.specs.Running.{without_slots, no_temps, placed}
 use Rattle.tg_tree.specs.Links.{LinkedPoint, first_is, frames_around, run_linked_body, call_within}
 use Rattle.tg_runtime_proof.proofs.Calling.{placed_world, placed_temps, placed_is}
-use Rattle.tg_translate.specs.Wants.{done}
+use Rattle.tg_translate.specs.mirror.Wants.{done}
 use Rattle.tg_types.specs.Has.{HaveValues}
-use Rattle.tg_correct.specs.Laws.{tree_work}
-use Rattle.tg_translate_proof.specs.Worlds.{Holdings}
-use Rattle.tg_translate_proof.specs.Worlds.{Scene, IsScene}
-use Rattle.tg_translate_proof.specs.Situations.{Program, Setting, Part, floor, Holds}
-use Rattle.tg_translate_proof.specs.Situations.{frames_of, frames_at, calling, going}
-use Rattle.tg_translate_proof.specs.Shown.{FollowsHere, Shown}
+use Rattle.tg_correct.specs.laws.Laws.{tree_work}
+use Rattle.tg_translate_proof.specs.glue.Worlds.{Holdings}
+use Rattle.tg_translate_proof.specs.glue.Worlds.{Scene, IsScene}
+use Rattle.tg_translate_proof.specs.glue.Situations.{Program, Setting, Part, floor, Holds}
+use Rattle.tg_translate_proof.specs.glue.Situations.{frames_of, frames_at, calling, going}
+use Rattle.tg_translate_proof.specs.glue.Shown.{FollowsHere, Shown}
 use Rattle.tg_translate_proof.proofs.invariant.Parts.{StatesGrow, more}
 use Rattle.tg_translate_proof.proofs.expressions.CallArguments.{StandAll}
 use Rattle.tg_translate_proof.proofs.state.NamesInSight.{IsSeenFunction}

@@ -14,7 +14,7 @@ use Rattle.tg_semantics.specs.declared.standards.Standard.TheVariants as standar
 use Rattle.tg_semantics.specs.Values.{Value, int, string, SourceWorld}
 use Rattle.tg_semantics.specs.Environments.{find, name_of, to_standard, levels_out}
 use Rattle.tg_semantics.specs.Evaluation as E
-use Rattle.tg_semantics.specs.Laws.{behind}
+use Rattle.tg_semantics.specs.laws.Laws.{behind}
 use Rattle.tg_semantics.specs.Operators.{is_below}
 use Rattle.tg_semantics.specs.MachineEnds.{rest_run}
 use Rattle.tg_semantics.specs.Passing.{Rest, Passing, passing, with_found}
@@ -26,18 +26,18 @@ use Rattle.tg_tree.specs.Tree as tree
 use Rattle.tg_tree.specs.Tree.{Tx, Txs, no_txs}
 use Rattle.tg_tree.specs.Units.{Trees}
 use Rattle.tg_tree.specs.Actions.{World, Temps, Go}
-use Rattle.tg_runtime.specs.Labels.{label_of}
-use Rattle.tg_runtime_proof.specs.Serving.{is_outside}
-use Rattle.tg_translate.specs.Constructs.{call_routine}
-use Rattle.tg_translate.specs.Scopes.{call, routine_of}
-use Rattle.tg_translate.specs.States.{TranslationState, drawn, after, give}
-use Rattle.tg_translate.specs.Translate.{values}
-use Rattle.tg_translate.specs.Wants.{value}
-use Rattle.tg_correct.specs.Laws.{tree_work}
-use Rattle.tg_translate_proof.specs.Tables.{Later}
-use Rattle.tg_translate_proof.specs.Worlds.{Holdings, Stands, IsText, IsScene}
-use Rattle.tg_translate_proof.specs.Situations.{Program, Part, Setting, Holds, floor, value_runs, values_run, calling, frames_at}
-use Rattle.tg_translate_proof.specs.Shown.{Situation, IsShown, evaluates}
+use Rattle.tg_runtime.specs.mirror.Labels.{label_of}
+use Rattle.tg_runtime_proof.specs.laws.Serving.{is_outside}
+use Rattle.tg_translate.specs.mirror.Constructs.{call_routine}
+use Rattle.tg_translate.specs.mirror.Scopes.{call, routine_of}
+use Rattle.tg_translate.specs.mirror.States.{TranslationState, drawn, after, give}
+use Rattle.tg_translate.specs.mirror.Translate.{values}
+use Rattle.tg_translate.specs.mirror.Wants.{value}
+use Rattle.tg_correct.specs.laws.Laws.{tree_work}
+use Rattle.tg_translate_proof.specs.glue.Tables.{Later}
+use Rattle.tg_translate_proof.specs.glue.Worlds.{Holdings, Stands, IsText, IsScene}
+use Rattle.tg_translate_proof.specs.glue.Situations.{Program, Part, Setting, Holds, floor, value_runs, values_run, calling, frames_at}
+use Rattle.tg_translate_proof.specs.glue.Shown.{Situation, IsShown, evaluates}
 use Rattle.tg_translate_proof.proofs.state.TranslationStates.{after_inv, state_in, later_none}
 use Rattle.tg_translate_proof.proofs.invariant.Cases.{by_made, wanted_of, grows_on}
 use Rattle.tg_translate_proof.proofs.invariant.Parts.{StatesGrow, Moment, at_begin, more, paid}

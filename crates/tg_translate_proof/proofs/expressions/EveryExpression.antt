@@ -14,9 +14,9 @@ use Rattle.tg_semantics.specs.Environments.{name_of}
 use Rattle.tg_types.specs.Scopes.{Scope, standard_one, signature}
 use Rattle.tg_types.specs.Has as has
 use Rattle.tg_types.specs.Has.{Has, HasValues, HaveValues, Fits}
-use Rattle.tg_translate.specs.Purity.{assigns_nothing}
-use Rattle.tg_translate_proof.specs.Situations.{Program, Part, Setting, MayAssign}
-use Rattle.tg_translate_proof.specs.Shown.{Shown, ExpressionFollows}
+use Rattle.tg_translate.specs.mirror.Purity.{assigns_nothing}
+use Rattle.tg_translate_proof.specs.glue.Situations.{Program, Part, Setting, MayAssign}
+use Rattle.tg_translate_proof.specs.glue.Shown.{Shown, ExpressionFollows}
 use Rattle.tg_translate_proof.proofs.invariant.Parts.{StatesGrow}
 use Rattle.tg_translate_proof.proofs.state.StatesGrow.{states_grow}
 use Rattle.tg_translate_proof.proofs.invariant.Needs.{premises}

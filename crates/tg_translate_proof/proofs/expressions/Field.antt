@@ -28,15 +28,16 @@ use Rattle.tg_tree.specs.Operators.{word, operate}
 use Rattle.tg_tree.specs.FlatValue.{or_wrong, onward}
 use Rattle.tg_tree.specs.Forms.{nothing as nothing_done}
 use Rattle.tg_tree.specs.Actions.{World, Temps, set_temp, Go, Next, charged, with_word}
-use Rattle.tg_translate.specs.States.{TranslationState, Translated, drawn, after, with_frame, one_temp}
-use Rattle.tg_translate.specs.Constructs.{Storage, in_temp, at_address, read, plus, nil_check, field_place, field_of, hold, keep, after_all, Held, operand}
-use Rattle.tg_translate.specs.Scopes.{field_number}
-use Rattle.tg_translate.specs.Translate.{locate}
-use Rattle.tg_correct.specs.Laws.{tree_work}
-use Rattle.tg_translate_proof.specs.Tables.{Later}
-use Rattle.tg_translate_proof.specs.Worlds.{Holdings, unknown, Stands, a_nil_record, a_record, record_of, temporary, nowhere, part}
-use Rattle.tg_translate_proof.specs.Situations.{Program, Part, Setting, Holds, Extends, value_runs, statement_runs, statements_run}
-use Rattle.tg_translate_proof.specs.Shown.{FollowsHere, left_over}
+use Rattle.tg_translate.specs.mirror.States.{TranslationState, Translated, drawn, after, with_frame, one_temp}
+use Rattle.tg_translate.specs.mirror.Constructs.{Storage, in_temp, at_address, read, plus, nil_check, field_place, field_of, hold, keep, after_all, Held}
+use Rattle.tg_translate.specs.mirror.Constructs.{operand}
+use Rattle.tg_translate.specs.mirror.Scopes.{field_number}
+use Rattle.tg_translate.specs.mirror.Translate.{locate}
+use Rattle.tg_correct.specs.laws.Laws.{tree_work}
+use Rattle.tg_translate_proof.specs.glue.Tables.{Later}
+use Rattle.tg_translate_proof.specs.glue.Worlds.{Holdings, unknown, Stands, a_nil_record, a_record, record_of, temporary, nowhere, part}
+use Rattle.tg_translate_proof.specs.glue.Situations.{Program, Part, Setting, Holds, Extends, value_runs, statement_runs, statements_run}
+use Rattle.tg_translate_proof.specs.glue.Shown.{FollowsHere, left_over}
 use Rattle.tg_translate_proof.proofs.state.TranslationStates.{made_in, state_in, after_inv, later_none, later_on, behind_none, front_none}
 use Rattle.tg_translate_proof.proofs.invariant.Cases.{worked, set_here, holds_with_temp, grows_none, grows_on}
 use Rattle.tg_translate_proof.proofs.invariant.Parts.{more, paid, extends_none, extends_on, ready_part, stop_follows}

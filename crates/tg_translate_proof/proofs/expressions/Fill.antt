@@ -17,7 +17,7 @@ use Rattle.tg_simulation.proofs.Following.{follows_working, follows_paying, foll
 use Rattle.tg_semantics.specs.Values.{Value, int, reference, SourceWorld, elements, add_weight, drop_weight, add_heap, add_object}
 use Rattle.tg_semantics.specs.Values.{by_heap, by_size}
 use Rattle.tg_semantics.specs.Evaluation as E
-use Rattle.tg_semantics.specs.Laws.{behind}
+use Rattle.tg_semantics.specs.laws.Laws.{behind}
 use Rattle.tg_semantics.specs.Levels.{runtime_weight}
 use Rattle.tg_semantics.specs.Operators.{array_bytes}
 use Rattle.tg_semantics.specs.MachineEnds.{rest_run}
@@ -28,20 +28,20 @@ use Rattle.tg_tree.specs.Tree.{Tx, Txs, tx, no_txs}
 use Rattle.tg_tree.specs.Units.{Trees, marked_entry_units}
 use Rattle.tg_tree.specs.Actions.{World, Temps, Go, Back, over}
 use Rattle.tg_runtime.specs.declared.routines.Routine.TheVariants as routine
-use Rattle.tg_runtime.specs.Labels.{label_of}
+use Rattle.tg_runtime.specs.mirror.Labels.{label_of}
 use Rattle.tg_runtime_proof.specs.Memories.{array_block}
-use Rattle.tg_runtime_proof.specs.Serving.{Makes, with_block, call_units, turn_units}
+use Rattle.tg_runtime_proof.specs.laws.Serving.{Makes, with_block, call_units, turn_units}
 use Rattle.tg_runtime_proof.proofs.Arrays.{array_length}
-use Rattle.tg_translate.specs.Constructs.{make_array, two_txs}
-use Rattle.tg_translate.specs.States.{TranslationState, drawn, after, give}
-use Rattle.tg_translate.specs.Translate.{expression}
-use Rattle.tg_translate.specs.Wants.{value, value_from}
 use Rattle.tg_translate.specs.declared.wants.Want.TheVariants as want
-use Rattle.tg_correct.specs.Laws.{tree_work}
-use Rattle.tg_translate_proof.specs.Tables.{Later}
-use Rattle.tg_translate_proof.specs.Worlds.{Holdings, Stands, an_array, array_of, IsScene}
-use Rattle.tg_translate_proof.specs.Situations.{Program, Part, Setting, Holds, floor, value_runs, values_run, calling, frames_at}
-use Rattle.tg_translate_proof.specs.Shown.{Situation, IsShown, FollowsHere, evaluates}
+use Rattle.tg_translate.specs.mirror.Constructs.{make_array, two_txs}
+use Rattle.tg_translate.specs.mirror.States.{TranslationState, drawn, after, give}
+use Rattle.tg_translate.specs.mirror.Translate.{expression}
+use Rattle.tg_translate.specs.mirror.Wants.{value, value_from}
+use Rattle.tg_correct.specs.laws.Laws.{tree_work}
+use Rattle.tg_translate_proof.specs.glue.Tables.{Later}
+use Rattle.tg_translate_proof.specs.glue.Worlds.{Holdings, Stands, an_array, array_of, IsScene}
+use Rattle.tg_translate_proof.specs.glue.Situations.{Program, Part, Setting, Holds, floor, value_runs, values_run, calling, frames_at}
+use Rattle.tg_translate_proof.specs.glue.Shown.{Situation, IsShown, FollowsHere, evaluates}
 use Rattle.tg_translate_proof.proofs.state.TranslationStates.{after_inv, state_in, later_none}
 use Rattle.tg_translate_proof.proofs.invariant.Cases.{by_made, wanted_of, grows_on}
 use Rattle.tg_translate_proof.proofs.invariant.Parts.{StatesGrow, Piece, Moment, Behind, at_begin, more, paid, stop_follows}

@@ -15,7 +15,7 @@ use Rattle.tg_semantics.specs.Evaluation.{with_variable}
 use Rattle.tg_semantics.specs.Levels.{levels_of}
 use Rattle.tg_semantics.specs.Passing.{Rest, Passing, passing}
 use Rattle.tg_semantics.specs.MachineEnds.{rest_run}
-use Rattle.tg_semantics.specs.Laws.{behind}
+use Rattle.tg_semantics.specs.laws.Laws.{behind}
 use Rattle.tg_types.specs.Types.{Ty, int_type, none_type}
 use Rattle.tg_semantics.specs.Environments.{name_of}
 use Rattle.tg_types.specs.Scopes.{variable_at, binding, in_a_loop, at_of}
@@ -25,7 +25,7 @@ use Rattle.tg_frame.specs.declared.accesses.Access.{Access}
 use Rattle.tg_tree.specs.declared.operators.Rel.TheVariants as rel
 use Rattle.tg_tree.specs.Tree as tree
 use Rattle.tg_tree.specs.Tree.{Tx, Ts, Stms, no_stms, stm}
-use Rattle.tg_tree.specs.Lists.{join_stms}
+use Rattle.tg_tree.specs.glue.Lists.{join_stms}
 use Rattle.tg_tree.specs.Shapes.{is_flat}
 use Rattle.tg_tree.specs.Units.{Trees, hoisted_units}
 use Rattle.tg_tree.specs.Forms.{nothing as nothing_done, when}
@@ -34,15 +34,16 @@ use Rattle.tg_tree.specs.Operators.{holds}
 use Rattle.tg_translate.specs.declared.operands.Operand.{Operand}
 use Rattle.tg_translate.specs.declared.operands.Operand.TheVariants.{Kept}
 use Rattle.tg_translate.specs.declared.wants.Want.TheVariants as want
-use Rattle.tg_translate.specs.States.{TranslationState, drawn, after}
-use Rattle.tg_translate.specs.Wants.{Made, done, dropped, value_of, value_from, statement_from}
-use Rattle.tg_translate.specs.Constructs.{first_minus_one, turns, turn_of, count_of, in_body, operand, keep, Held}
-use Rattle.tg_translate.specs.Translate.{expression}
-use Rattle.tg_translate_proof.specs.Covered.{Covers}
-use Rattle.tg_translate_proof.specs.Tables.{Later}
-use Rattle.tg_translate_proof.specs.Worlds.{Holdings, unknown, GrowsTo, Key, cell, temporary, nowhere, free, variable, kept, fixed, Places, IsOf, word_of}
-use Rattle.tg_translate_proof.specs.Situations.{Program, Part, Setting, Holds, IsReady, IsCovered, MayAssign, Extends, with_temps, floor, value_runs, statement_runs, statements_run}
-use Rattle.tg_translate_proof.specs.Shown.{Shown, IsShown, Situation, IsWantable, FollowsHere, Onward, MadeFollows, left_over, evaluates}
+use Rattle.tg_translate.specs.mirror.States.{TranslationState, drawn, after}
+use Rattle.tg_translate.specs.mirror.Wants.{Made, done, dropped, value_of, value_from, statement_from}
+use Rattle.tg_translate.specs.mirror.Constructs.{first_minus_one, turns, turn_of, count_of, in_body, operand, keep, Held}
+use Rattle.tg_translate.specs.mirror.Translate.{expression}
+use Rattle.tg_translate_proof.specs.glue.Covered.{Covers}
+use Rattle.tg_translate_proof.specs.glue.Tables.{Later}
+use Rattle.tg_translate_proof.specs.glue.Worlds.{Holdings, unknown, GrowsTo, Key, cell, temporary, nowhere, free, variable, kept, fixed, Places, IsOf, word_of}
+use Rattle.tg_translate_proof.specs.glue.Situations.{Program, Part, Setting, Holds, IsReady, IsCovered, MayAssign, Extends, with_temps, floor, value_runs}
+use Rattle.tg_translate_proof.specs.glue.Situations.{statement_runs, statements_run}
+use Rattle.tg_translate_proof.specs.glue.Shown.{Shown, IsShown, Situation, IsWantable, FollowsHere, Onward, MadeFollows, left_over, evaluates}
 use Rattle.tg_translate_proof.proofs.state.TranslationStates.{made_in, state_in, after_inv, later_none, later_on, later_value}
 use Rattle.tg_translate_proof.proofs.invariant.Cases.{by_made, source_of, worked}
 use Rattle.tg_translate_proof.proofs.invariant.Parts.{StatesGrow, more, paid, extends_none, extends_on, along_on, ready_part}

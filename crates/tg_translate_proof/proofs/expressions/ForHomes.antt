@@ -19,12 +19,13 @@ use Rattle.tg_tree.specs.Actions.{World, Temps, with_word}
 use Rattle.tg_tree.specs.Operators.{holds}
 use Rattle.tg_translate.specs.declared.operands.Operand.{Operand}
 use Rattle.tg_translate.specs.declared.operands.Operand.TheVariants.{Number, Kept}
-use Rattle.tg_translate.specs.States.{TranslationState, drawn, one_temp, one_slot}
-use Rattle.tg_translate.specs.Constructs.{first_minus_one, operand}
-use Rattle.tg_translate_proof.specs.Tables.{Later}
-use Rattle.tg_translate_proof.specs.Worlds.{Holdings, unknown, Key, cell, temporary, Content, nowhere, free, variable, kept, fixed, Places, IsOf, Invariant}
-use Rattle.tg_translate_proof.specs.Situations.{Program, Part, Setting, Holds, IsReady, with_temps, floor, key_of}
-use Rattle.tg_translate_proof.specs.Shown.{FollowsHere}
+use Rattle.tg_translate.specs.mirror.States.{TranslationState, drawn, one_temp, one_slot}
+use Rattle.tg_translate.specs.mirror.Constructs.{first_minus_one, operand}
+use Rattle.tg_translate_proof.specs.glue.Tables.{Later}
+use Rattle.tg_translate_proof.specs.glue.Worlds.{Holdings, unknown, Key, cell, temporary, Content, nowhere, free, variable, kept, fixed, Places, IsOf}
+use Rattle.tg_translate_proof.specs.glue.Worlds.{Invariant}
+use Rattle.tg_translate_proof.specs.glue.Situations.{Program, Part, Setting, Holds, IsReady, with_temps, floor, key_of}
+use Rattle.tg_translate_proof.specs.glue.Shown.{FollowsHere}
 use Rattle.tg_translate_proof.proofs.state.TranslationStates.{behind_none, front_none}
 use Rattle.tg_translate_proof.proofs.invariant.Cases.{worked}
 use Rattle.tg_translate_proof.proofs.invariant.Parts.{more}

@@ -15,7 +15,7 @@ use Rattle.tg_semantics.specs.Evaluation as evaluation
 use Rattle.tg_semantics.specs.Evaluation.{with_variable}
 use Rattle.tg_semantics.specs.Passing.{Rest, Passing, passing, with_turn, with_found}
 use Rattle.tg_semantics.specs.MachineEnds.{rest_run}
-use Rattle.tg_semantics.specs.Laws.{behind}
+use Rattle.tg_semantics.specs.laws.Laws.{behind}
 use Rattle.tg_types.specs.Types.{Ty, int_type, none_type}
 use Rattle.tg_semantics.specs.Environments.{name_of}
 use Rattle.tg_types.specs.Scopes.{variable_at, binding, in_a_loop, at_of}
@@ -29,15 +29,17 @@ use Rattle.tg_tree.specs.Forms.{nothing as nothing_done}
 use Rattle.tg_tree.specs.Actions.{World, Temps, Go, Next, Around, leaving, with_word}
 use Rattle.tg_translate.specs.declared.operands.Operand.TheVariants.{Kept}
 use Rattle.tg_translate.specs.declared.wants.Want.TheVariants as want
-use Rattle.tg_translate.specs.States.{TranslationState, drawn}
-use Rattle.tg_translate.specs.Wants.{Made, dropped}
-use Rattle.tg_translate.specs.Constructs.{read, own_place, assign_value, turn_of, in_body, operand}
-use Rattle.tg_translate.specs.Translate.{expression}
-use Rattle.tg_correct.specs.Laws.{tree_work}
-use Rattle.tg_translate_proof.specs.Tables.{Later}
-use Rattle.tg_translate_proof.specs.Worlds.{Holdings, unknown, Stands, an_int, GrowsTo, Key, cell, temporary, Content, nowhere, variable, kept, fixed, Places, IsOf, HoldsAt, HoldsVariable, word_of}
-use Rattle.tg_translate_proof.specs.Situations.{Program, Part, Setting, Holds, IsReady, Extends, with_temps, floor, value_runs, statement_runs, statements_run, heads, frames_at}
-use Rattle.tg_translate_proof.specs.Shown.{Shown, Situation, FollowsHere, Onward, Outward, left_over, evaluates}
+use Rattle.tg_translate.specs.mirror.States.{TranslationState, drawn}
+use Rattle.tg_translate.specs.mirror.Wants.{Made, dropped}
+use Rattle.tg_translate.specs.mirror.Constructs.{read, own_place, assign_value, turn_of, in_body, operand}
+use Rattle.tg_translate.specs.mirror.Translate.{expression}
+use Rattle.tg_correct.specs.laws.Laws.{tree_work}
+use Rattle.tg_translate_proof.specs.glue.Tables.{Later}
+use Rattle.tg_translate_proof.specs.glue.Worlds.{Holdings, unknown, Stands, an_int, GrowsTo, Key, cell, temporary, Content, nowhere, variable, kept, fixed}
+use Rattle.tg_translate_proof.specs.glue.Worlds.{Places, IsOf, HoldsAt, HoldsVariable, word_of}
+use Rattle.tg_translate_proof.specs.glue.Situations.{Program, Part, Setting, Holds, IsReady, Extends, with_temps, floor, value_runs, statement_runs}
+use Rattle.tg_translate_proof.specs.glue.Situations.{statements_run, heads, frames_at}
+use Rattle.tg_translate_proof.specs.glue.Shown.{Shown, Situation, FollowsHere, Onward, Outward, left_over, evaluates}
 use Rattle.tg_translate_proof.proofs.state.TranslationStates.{later_none}
 use Rattle.tg_translate_proof.proofs.invariant.Cases.{worked, grows_none, grows_on}
 use Rattle.tg_translate_proof.proofs.invariant.Parts.{StatesGrow, more, extends_none, extends_on}

@@ -17,10 +17,11 @@ use Rattle.tg_tree.specs.Shapes.{is_flat}
 use Rattle.tg_tree.specs.Memory.{Memory, Closed, Has, put, load, store, slot}
 use Rattle.tg_tree.specs.Actions.{World, Temps, set_temp, Go, Next, with_word, with_memory}
 use Rattle.tg_runtime_proof.specs.Memories.{IsWhole}
-use Rattle.tg_translate.specs.Constructs.{read, own_place, assign_value}
-use Rattle.tg_translate_proof.specs.Worlds.{Holdings, unknown, Stands, an_int, Key, cell, temporary, Content, nowhere, free, variable, kept, fixed, Places, AllTemps, IsOf, HoldsAt, HoldsVariable, Invariant, word_of}
-use Rattle.tg_translate_proof.specs.Situations.{Program, Part, with_temps, value_runs, statement_runs}
-use Rattle.tg_translate_proof.specs.Shown.{FollowsHere}
+use Rattle.tg_translate.specs.mirror.Constructs.{read, own_place, assign_value}
+use Rattle.tg_translate_proof.specs.glue.Worlds.{Holdings, unknown, Stands, an_int, Key, cell, temporary, Content, nowhere, free, variable, kept, fixed, Places}
+use Rattle.tg_translate_proof.specs.glue.Worlds.{AllTemps, IsOf, HoldsAt, HoldsVariable, Invariant, word_of}
+use Rattle.tg_translate_proof.specs.glue.Situations.{Program, Part, with_temps, value_runs, statement_runs}
+use Rattle.tg_translate_proof.specs.glue.Shown.{FollowsHere}
 use Rattle.tg_translate_proof.proofs.invariant.Cases.{worked}
 use Rattle.tg_translate_proof.proofs.invariant.Parts.{more}
 use Rattle.tg_translate_proof.proofs.expressions.BinarySides.{lifted_small}

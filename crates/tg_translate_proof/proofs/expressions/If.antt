@@ -24,14 +24,15 @@ use Rattle.tg_tree.specs.Actions.{World, Temps, set_temp, Go, Next}
 use Rattle.tg_translate.specs.declared.homes.Within.{Within}
 use Rattle.tg_translate.specs.declared.wants.Want.{Want}
 use Rattle.tg_translate.specs.declared.wants.Want.TheVariants as want
-use Rattle.tg_translate.specs.States.{TranslationState, drawn, Translates, after, with_frame, one_temp}
-use Rattle.tg_translate.specs.Wants.{Made, value, done, test, test_of, put_in, dropped, arm_from, condition_from, statement_from}
-use Rattle.tg_translate.specs.Purity.{assigns_nothing}
-use Rattle.tg_translate.specs.Translate.{expression, choice, is_conjunction, is_zero, connective}
-use Rattle.tg_translate_proof.specs.Tables.{Later}
-use Rattle.tg_translate_proof.specs.Worlds.{Stands, temporary, nowhere}
-use Rattle.tg_translate_proof.specs.Situations.{Program, Setting, Part, MayAssign, test_runs, statement_runs}
-use Rattle.tg_translate_proof.specs.Shown.{Shown, IsShown, Situation, SituationBy, FollowsHere, left_over, evaluates, Onward, IsTold, IsWantable, MadeFollows, is_set}
+use Rattle.tg_translate.specs.mirror.States.{TranslationState, drawn, Translates, after, with_frame, one_temp}
+use Rattle.tg_translate.specs.mirror.Wants.{Made, value, done, test, test_of, put_in, dropped, arm_from, condition_from, statement_from}
+use Rattle.tg_translate.specs.mirror.Purity.{assigns_nothing}
+use Rattle.tg_translate.specs.mirror.Translate.{expression, choice, is_conjunction, is_zero, connective}
+use Rattle.tg_translate_proof.specs.glue.Tables.{Later}
+use Rattle.tg_translate_proof.specs.glue.Worlds.{Stands, temporary, nowhere}
+use Rattle.tg_translate_proof.specs.glue.Situations.{Program, Setting, Part, MayAssign, test_runs, statement_runs}
+use Rattle.tg_translate_proof.specs.glue.Shown.{Shown, IsShown, Situation, SituationBy, FollowsHere, left_over, evaluates, Onward, IsTold, IsWantable}
+use Rattle.tg_translate_proof.specs.glue.Shown.{MadeFollows, is_set}
 use Rattle.tg_translate_proof.proofs.state.TranslationStates.{made_in, state_in, after_inv, later_none, later_on}
 use Rattle.tg_translate_proof.proofs.invariant.Cases.{by_made, worked, grows_on}
 use Rattle.tg_translate_proof.proofs.expressions.BinaryLeft.{LeftSide, plain_left}

@@ -21,14 +21,15 @@ use Rattle.tg_tree.specs.Actions.{World, Temps, set_temp, Go, Next, with_word}
 use Rattle.tg_translate.specs.declared.homes.Within.{Within}
 use Rattle.tg_translate.specs.declared.wants.Want.{Want}
 use Rattle.tg_translate.specs.declared.wants.Want.TheVariants as want
-use Rattle.tg_translate.specs.States.{TranslationState, drawn, Translates, after, with_frame, one_temp}
-use Rattle.tg_translate.specs.Wants.{Made, value, done, test, arms, arm_from, deliver, condition_from, statement_from}
-use Rattle.tg_translate.specs.Purity.{assigns_nothing}
-use Rattle.tg_translate.specs.Translate.{expression, chosen_arm, choice, is_conjunction}
-use Rattle.tg_translate_proof.specs.Tables.{Later}
-use Rattle.tg_translate_proof.specs.Worlds.{Holdings, Stands, an_int, no_value, temporary, nowhere, GrowsTo}
-use Rattle.tg_translate_proof.specs.Situations.{Program, Setting, Part, MayAssign, value_runs, test_runs, statement_runs}
-use Rattle.tg_translate_proof.specs.Shown.{Shown, IsShown, Situation, SituationBy, FollowsHere, left_over, evaluates, Onward, IsWanted, IsWantable, IsLeft, MadeFollows, is_set, put_where}
+use Rattle.tg_translate.specs.mirror.States.{TranslationState, drawn, Translates, after, with_frame, one_temp}
+use Rattle.tg_translate.specs.mirror.Wants.{Made, value, done, test, arms, arm_from, deliver, condition_from, statement_from}
+use Rattle.tg_translate.specs.mirror.Purity.{assigns_nothing}
+use Rattle.tg_translate.specs.mirror.Translate.{expression, chosen_arm, choice, is_conjunction}
+use Rattle.tg_translate_proof.specs.glue.Tables.{Later}
+use Rattle.tg_translate_proof.specs.glue.Worlds.{Holdings, Stands, an_int, no_value, temporary, nowhere, GrowsTo}
+use Rattle.tg_translate_proof.specs.glue.Situations.{Program, Setting, Part, MayAssign, value_runs, test_runs, statement_runs}
+use Rattle.tg_translate_proof.specs.glue.Shown.{Shown, IsShown, Situation, SituationBy, FollowsHere, left_over, evaluates, Onward, IsWanted, IsWantable, IsLeft}
+use Rattle.tg_translate_proof.specs.glue.Shown.{MadeFollows, is_set, put_where}
 use Rattle.tg_translate_proof.proofs.state.TranslationStates.{made_in, state_in, after_inv, later_none, later_on, behind_none, front_none}
 use Rattle.tg_translate_proof.proofs.invariant.Cases.{by_made, worked, wanted_of, holds_with_temp, set_here, IsLoose, grows_on}
 use Rattle.tg_translate_proof.proofs.expressions.BinaryLeft.{LeftSide, plain_left}

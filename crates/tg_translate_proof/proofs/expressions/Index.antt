@@ -20,7 +20,7 @@ use Rattle.tg_types.specs.Has as has
 use Rattle.tg_types.specs.Has.{Has, HasPlace}
 use Rattle.tg_tree.specs.Tree.{Tx, Temp, Const, Load, Binary, Ts, Fault, Stms, no_stms, stm}
 use Rattle.tg_tree.specs.Forms.{nothing as nothing_done}
-use Rattle.tg_tree.specs.Lists.{join_stms}
+use Rattle.tg_tree.specs.glue.Lists.{join_stms}
 use Rattle.tg_tree.proofs.ListLaws.{join_stms-none}
 use Rattle.tg_tree.specs.Units.{Trees, hoisted_units}
 use Rattle.tg_tree.specs.Shapes.{is_flat}
@@ -29,16 +29,17 @@ use Rattle.tg_tree.specs.Actions.{World, Temps, Go, Next, charged, with_word}
 use Rattle.tg_runtime_proof.proofs.Signs.{not_negative}
 use Rattle.tg_translate.specs.declared.operands.Operand.{Operand}
 use Rattle.tg_translate.specs.declared.wants.Want.TheVariants as want
-use Rattle.tg_translate.specs.States.{TranslationState, Translates, drawn, after}
-use Rattle.tg_translate.specs.Wants.{Made, value_of, value_from}
-use Rattle.tg_translate.specs.Constructs.{Storage, in_temp, at_address, read, operand, index_check, element, element_place, element_of, hold, keep, after_all, Held}
-use Rattle.tg_translate.specs.Purity.{assigns_nothing, place_assigns_nothing}
-use Rattle.tg_translate.specs.Translate.{expression, locate}
-use Rattle.tg_correct.specs.Laws.{tree_work}
-use Rattle.tg_translate_proof.specs.Tables.{Later}
-use Rattle.tg_translate_proof.specs.Worlds.{Holdings, unknown, part, GrowsTo, Stands, an_int, an_array, array_of, temporary, IsOf, kept}
-use Rattle.tg_translate_proof.specs.Situations.{Program, Part, Setting, Holds, MayAssign, Extends, value_runs, statement_runs, statements_run}
-use Rattle.tg_translate_proof.specs.Shown.{Shown, FollowsHere, left_over, evaluates}
+use Rattle.tg_translate.specs.mirror.States.{TranslationState, Translates, drawn, after}
+use Rattle.tg_translate.specs.mirror.Wants.{Made, value_of, value_from}
+use Rattle.tg_translate.specs.mirror.Constructs.{Storage, in_temp, at_address, read, operand, index_check, element, element_place, element_of, hold, keep}
+use Rattle.tg_translate.specs.mirror.Constructs.{after_all, Held}
+use Rattle.tg_translate.specs.mirror.Purity.{assigns_nothing, place_assigns_nothing}
+use Rattle.tg_translate.specs.mirror.Translate.{expression, locate}
+use Rattle.tg_correct.specs.laws.Laws.{tree_work}
+use Rattle.tg_translate_proof.specs.glue.Tables.{Later}
+use Rattle.tg_translate_proof.specs.glue.Worlds.{Holdings, unknown, part, GrowsTo, Stands, an_int, an_array, array_of, temporary, IsOf, kept}
+use Rattle.tg_translate_proof.specs.glue.Situations.{Program, Part, Setting, Holds, MayAssign, Extends, value_runs, statement_runs, statements_run}
+use Rattle.tg_translate_proof.specs.glue.Shown.{Shown, FollowsHere, left_over, evaluates}
 use Rattle.tg_translate_proof.proofs.state.TranslationStates.{made_in, state_in, after_inv, later_none, later_on, later_value}
 use Rattle.tg_translate_proof.proofs.invariant.Cases.{worked}
 use Rattle.tg_translate_proof.proofs.invariant.Parts.{StatesGrow, more, paid, extends_none, ready_part, stop_follows}

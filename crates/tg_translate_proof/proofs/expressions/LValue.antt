@@ -1,8 +1,8 @@
 -- Every l-value, from the facts of the expressions in it.
 use Rattle.std.proofs.Common.{ℕ}
 use Rattle.tg_syntax.specs.Tree.{LValue, Simple, Field, Index}
-use Rattle.tg_translate_proof.specs.Situations.{Program, Setting}
-use Rattle.tg_translate_proof.specs.Shown.{Shown}
+use Rattle.tg_translate_proof.specs.glue.Situations.{Program, Setting}
+use Rattle.tg_translate_proof.specs.glue.Shown.{Shown}
 use Rattle.tg_translate_proof.proofs.invariant.Parts.{StatesGrow}
 use Rattle.tg_translate_proof.proofs.expressions.LValueAddress.{Premises, PlaceShown, name_shown}
 use Rattle.tg_translate_proof.proofs.expressions.Field.{field_shown}

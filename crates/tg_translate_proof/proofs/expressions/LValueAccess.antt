@@ -18,16 +18,17 @@ use Rattle.tg_types.specs.Has.{HasValues}
 use Rattle.tg_tree.specs.Memory.{Memory, Closed, Has, put, load, store, slot}
 use Rattle.tg_tree.specs.Actions.{World, Temps}
 use Rattle.tg_runtime_proof.proofs.Stores.{IsStored}
-use Rattle.tg_translate_proof.specs.Worlds.{Holdings, unknown, part, Made, record_of, array_of, Stands, an_int, a_string, a_nil, a_nil_record, a_record, an_array, no_value}
-use Rattle.tg_translate_proof.specs.Worlds.{IsLaid, Key, cell, temporary, Content, nowhere, free, variable, kept, fixed, IsOf, HoldsAt, HoldsVariable, word_of}
-use Rattle.tg_translate_proof.specs.Situations.{Program, Part, Setting, Holds, with_temps, floor}
+use Rattle.tg_translate_proof.specs.glue.Worlds.{Holdings, unknown, part, Made, record_of, array_of, Stands, an_int, a_string, a_nil, a_nil_record, a_record}
+use Rattle.tg_translate_proof.specs.glue.Worlds.{an_array, no_value, IsLaid, Key, cell, temporary, Content, nowhere, free, variable, kept, fixed, IsOf, HoldsAt}
+use Rattle.tg_translate_proof.specs.glue.Worlds.{HoldsVariable, word_of}
+use Rattle.tg_translate_proof.specs.glue.Situations.{Program, Part, Setting, Holds, with_temps, floor}
 use Rattle.tg_translate_proof.proofs.state.Keys.{index_of, held_word, of_is_used, some_same, set_length}
 use Rattle.tg_translate_proof.proofs.state.HomeWrites.{Written, slot_written, assigned, holds_open}
 use Rattle.tg_translate_proof.proofs.state.ObjectStores.{FirstAt, first_of, first_is, FirstPart, first_part, first_get, get_first, set_first, FieldHas, ElementHas, field_by, element_by}
 use Rattle.tg_translate_proof.proofs.state.ObjectStores.{LaidRecord, LaidArray, laid_as_record, laid_as_array, part_stored, part_keeps}
 use Rattle.tg_translate_proof.proofs.expressions.LValueAddress.{IsAt, a_slot, a_field, an_element, Premises, reads, writes_to}
-use Rattle.tg_translate_proof.specs.Worlds.{laid_record, laid_array}
-use Rattle.tg_translate_proof.specs.Worlds as worlds
+use Rattle.tg_translate_proof.specs.glue.Worlds.{laid_record, laid_array}
+use Rattle.tg_translate_proof.specs.glue.Worlds as worlds
 
 get_below : {A : Type 0} (xs : List A) (i : ℕ) → i < length xs → (a : A) × (slice_get xs i ≡ Some a)
 get_below [] i lt = absurd (omega (arith, lt))

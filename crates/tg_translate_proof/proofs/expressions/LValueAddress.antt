@@ -20,7 +20,7 @@ use Rattle.tg_semantics.specs.Evaluation.{Location, in_variable, in_field, in_el
 use Rattle.tg_semantics.specs.Passing.{Rest, Passing, passing, with_found}
 use Rattle.tg_semantics.specs.MachineEnds.{rest_run}
 use Rattle.tg_semantics.specs.Levels.{levels_of}
-use Rattle.tg_semantics.specs.Laws.{behind}
+use Rattle.tg_semantics.specs.laws.Laws.{behind}
 use Rattle.tg_types.specs.declared.notes.Means.TheVariants as means
 use Rattle.tg_types.specs.Types.{Ty, Shape, record_shape, array_shape}
 use Rattle.tg_types.specs.Typing.{placed}
@@ -42,19 +42,20 @@ use Rattle.tg_tree.specs.Memory.{load, slot}
 use Rattle.tg_tree.specs.Actions.{World, Temps, Go, charged, with_word}
 use Rattle.tg_translate.specs.declared.homes.Home.{Home}
 use Rattle.tg_translate.specs.declared.homes.Within.{Within}
-use Rattle.tg_translate.specs.States.{TranslationState, Translated, drawn, after}
-use Rattle.tg_translate.specs.Wants.{is_none}
-use Rattle.tg_translate.specs.Constructs.{Storage, in_temp, at_address, place_in, frame_out, slot_address, read}
-use Rattle.tg_translate.specs.Scopes.{home_place, frame_at, variable_place}
-use Rattle.tg_translate.specs.Purity.{place_assigns_nothing}
-use Rattle.tg_translate.specs.Translate.{locate, sequence, declarations, Begun}
-use Rattle.tg_correct.specs.Laws.{tree_work}
-use Rattle.tg_translate_proof.specs.Tables.{Table, Later, HasFound}
-use Rattle.tg_translate_proof.specs.Covered.{CoversPlace, CoversName, LinksLead}
-use Rattle.tg_translate_proof.specs.Worlds.{Holdings, Stands, GrowsTo, record_of, array_of, Key, cell, temporary, Content, nowhere, variable, kept, Places, IsOf, AllTemps}
-use Rattle.tg_translate_proof.specs.Worlds.{word_of, HoldsVariable, HoldsAt, IsLaid}
-use Rattle.tg_translate_proof.specs.Situations.{Program, Part, Setting, Holds, IsReady, IsNear, key_of, Extends, with_temps, floor, value_runs, statements_run}
-use Rattle.tg_translate_proof.specs.Shown.{FollowsHere, Outward, left_over}
+use Rattle.tg_translate.specs.mirror.States.{TranslationState, Translated, drawn, after}
+use Rattle.tg_translate.specs.mirror.Wants.{is_none}
+use Rattle.tg_translate.specs.mirror.Constructs.{Storage, in_temp, at_address, place_in, frame_out, slot_address, read}
+use Rattle.tg_translate.specs.mirror.Scopes.{home_place, frame_at, variable_place}
+use Rattle.tg_translate.specs.mirror.Purity.{place_assigns_nothing}
+use Rattle.tg_translate.specs.mirror.Translate.{locate, sequence, declarations, Begun}
+use Rattle.tg_correct.specs.laws.Laws.{tree_work}
+use Rattle.tg_translate_proof.specs.glue.Tables.{Table, Later, HasFound}
+use Rattle.tg_translate_proof.specs.glue.Covered.{CoversPlace, CoversName, LinksLead}
+use Rattle.tg_translate_proof.specs.glue.Worlds.{Holdings, Stands, GrowsTo, record_of, array_of, Key, cell, temporary, Content, nowhere, variable, kept, Places}
+use Rattle.tg_translate_proof.specs.glue.Worlds.{IsOf, AllTemps, word_of, HoldsVariable, HoldsAt, IsLaid}
+use Rattle.tg_translate_proof.specs.glue.Situations.{Program, Part, Setting, Holds, IsReady, IsNear, key_of, Extends, with_temps, floor, value_runs}
+use Rattle.tg_translate_proof.specs.glue.Situations.{statements_run}
+use Rattle.tg_translate_proof.specs.glue.Shown.{FollowsHere, Outward, left_over}
 use Rattle.tg_translate_proof.proofs.state.TranslationStates.{made_in, state_in, later_none}
 use Rattle.tg_translate_proof.proofs.invariant.Cases.{worked, grows_none}
 use Rattle.tg_translate_proof.proofs.invariant.Parts.{more, paid, extends_none}
@@ -314,7 +315,7 @@ module _ (P : Program) where
     pub is_place : drawn (place_in (frame_at x.p.within seen.home.level) seen.home.access) x.σ ≡ drawn x.storage x.τ
     is_place =
         let home_is : looked_up typed_.at x.σ.homes ≡ Some seen.home =
-            found_home P.table x.σ x.p.scope.bindings (name_of v) typed_.at x.ty typed_.loop x.ready.found typed_.is_bound ∙ seen.tabled in
+        found_home P.table x.σ x.p.scope.bindings (name_of v) typed_.at x.ty typed_.loop x.ready.found typed_.is_bound ∙ seen.tabled in
         sym (ap (λ o. drawn (home_place x.p.within o) x.σ) home_is) ∙
         (sym (ap (λ o. variable_place x.p.within o x.σ) (set.found (at_of v) (means.Variable typed_.at) typed_.says)) ∙ x.is_made)
 

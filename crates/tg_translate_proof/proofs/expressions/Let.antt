@@ -21,21 +21,22 @@ use Rattle.tg_types.specs.Has as has
 use Rattle.tg_types.specs.Has.{Has, HasDecs, HasLast}
 use Rattle.tg_tree.specs.Tree.{Tx, Const, Address, Temp, FrameAddress, Binary, Load, LoadByte, Call, Service, After, Ts, Stms, no_stms, stm}
 use Rattle.tg_tree.specs.Units.{Trees}
-use Rattle.tg_tree.specs.Lists.{join_stms}
+use Rattle.tg_tree.specs.glue.Lists.{join_stms}
 use Rattle.tg_tree.proofs.Alikes.{runs_in_turn}
 use Rattle.tg_tree.specs.Actions.{World, Temps, set_temp, Go, Next}
 use Rattle.tg_tree.specs.Actions as actions
 use Rattle.tg_translate.specs.declared.wants.Want.{Want}
 use Rattle.tg_translate.specs.declared.wants.Want.TheVariants as want
-use Rattle.tg_translate.specs.States.{TranslationState, drawn}
-use Rattle.tg_translate.specs.Wants.{Made, value, done, test, value_of, put_in, dropped, behind}
-use Rattle.tg_translate.specs.Translate.{declarations, sequence}
-use Rattle.tg_correct.specs.Laws.{tree_work}
-use Rattle.tg_translate_proof.specs.Covered.{CoversDecs, CoversExps}
-use Rattle.tg_translate_proof.specs.Tables.{Later}
-use Rattle.tg_translate_proof.specs.Worlds.{Holdings, Stands, GrowsTo, Places, temporary, kept}
-use Rattle.tg_translate_proof.specs.Situations.{Program, Part, Setting, Holds, MayAssign, Extends, value_runs, test_runs, statement_runs, statements_run, calling, heads, frames_at}
-use Rattle.tg_translate_proof.specs.Shown.{IsShown, Situation, IsWantable, IsWanted, IsLeft, IsTold, IsNamed, FollowsHere, Onward, left_over, put_where}
+use Rattle.tg_translate.specs.mirror.States.{TranslationState, drawn}
+use Rattle.tg_translate.specs.mirror.Wants.{Made, value, done, test, value_of, put_in, dropped, behind}
+use Rattle.tg_translate.specs.mirror.Translate.{declarations, sequence}
+use Rattle.tg_correct.specs.laws.Laws.{tree_work}
+use Rattle.tg_translate_proof.specs.glue.Covered.{CoversDecs, CoversExps}
+use Rattle.tg_translate_proof.specs.glue.Tables.{Later}
+use Rattle.tg_translate_proof.specs.glue.Worlds.{Holdings, Stands, GrowsTo, Places, temporary, kept}
+use Rattle.tg_translate_proof.specs.glue.Situations.{Program, Part, Setting, Holds, MayAssign, Extends, value_runs, test_runs, statement_runs, statements_run}
+use Rattle.tg_translate_proof.specs.glue.Situations.{calling, heads, frames_at}
+use Rattle.tg_translate_proof.specs.glue.Shown.{IsShown, Situation, IsWantable, IsWanted, IsLeft, IsTold, IsNamed, FollowsHere, Onward, left_over, put_where}
 use Rattle.tg_translate_proof.proofs.state.TranslationStates.{made_in, state_in, after_inv, later_none, later_on}
 use Rattle.tg_translate_proof.proofs.invariant.Cases.{by_made, grows_none, grows_on}
 use Rattle.tg_translate_proof.proofs.invariant.Parts.{StatesGrow, more, extends_none, extends_on}

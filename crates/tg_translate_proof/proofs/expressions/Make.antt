@@ -21,30 +21,30 @@ use Rattle.tg_semantics.specs.Evaluation as E
 use Rattle.tg_semantics.specs.Evaluation.{eval_inits}
 use Rattle.tg_semantics.specs.Passing.{Rest, Passing, passing}
 use Rattle.tg_semantics.specs.MachineEnds.{rest_run}
-use Rattle.tg_semantics.specs.Laws.{behind}
+use Rattle.tg_semantics.specs.laws.Laws.{behind}
 use Rattle.tg_types.specs.Types.{Ty, Shape, none_type, record_type, record_shape}
 use Rattle.tg_types.specs.Has as has
 use Rattle.tg_types.specs.Has.{Has, HasInits, Fits, HasValues, FieldsHaveValues, ShapeHasValues, ShapesHaveValues}
 use Rattle.tg_tree.specs.Tree.{Tx, Temp, After, Move, Seq, Stms, no_stms, stm}
-use Rattle.tg_tree.specs.Lists.{join_stms}
+use Rattle.tg_tree.specs.glue.Lists.{join_stms}
 use Rattle.tg_tree.proofs.ListLaws.{join_stms-none, join_stms-assoc}
 use Rattle.tg_tree.specs.Actions.{World, Temps, set_temp, Next, with_word}
 use Rattle.tg_translate.specs.declared.homes.Within.{Within}
 use Rattle.tg_translate.specs.declared.operands.Operand.{Operand}
 use Rattle.tg_translate.specs.declared.operands.Operand.TheVariants.{Number, Kept}
 use Rattle.tg_translate.specs.declared.wants.Want.TheVariants as want
-use Rattle.tg_translate.specs.Scopes.{Findings}
-use Rattle.tg_translate.specs.States.{TranslationState, drawn, after, with_frame, one_temp}
-use Rattle.tg_translate.specs.Wants.{Made, value, value_of, value_from}
-use Rattle.tg_translate.specs.Constructs.{hold_next, none_held, record_of, make_record, space_for_record, Held, HeldAll}
-use Rattle.tg_translate.specs.Purity.{assigns_nothing, inits_assign_nothing}
-use Rattle.tg_translate.specs.Translate.{expression, fields as made_fields}
-use Rattle.tg_correct.specs.Laws.{tree_work}
-use Rattle.tg_translate_proof.specs.Covered.{Covers, CoversInits}
-use Rattle.tg_translate_proof.specs.Tables.{Later}
-use Rattle.tg_translate_proof.specs.Worlds.{Holdings, Stands, GrowsTo, temporary, nowhere, Places, Scene}
-use Rattle.tg_translate_proof.specs.Situations.{Program, Part, Setting, Holds, MayAssign, Extends, value_runs, statements_run}
-use Rattle.tg_translate_proof.specs.Shown.{Shown, IsShown, Situation, FollowsHere, left_over, evaluates}
+use Rattle.tg_translate.specs.mirror.Scopes.{Findings}
+use Rattle.tg_translate.specs.mirror.States.{TranslationState, drawn, after, with_frame, one_temp}
+use Rattle.tg_translate.specs.mirror.Wants.{Made, value, value_of, value_from}
+use Rattle.tg_translate.specs.mirror.Constructs.{hold_next, none_held, record_of, make_record, space_for_record, Held, HeldAll}
+use Rattle.tg_translate.specs.mirror.Purity.{assigns_nothing, inits_assign_nothing}
+use Rattle.tg_translate.specs.mirror.Translate.{expression, fields as made_fields}
+use Rattle.tg_correct.specs.laws.Laws.{tree_work}
+use Rattle.tg_translate_proof.specs.glue.Covered.{Covers, CoversInits}
+use Rattle.tg_translate_proof.specs.glue.Tables.{Later}
+use Rattle.tg_translate_proof.specs.glue.Worlds.{Holdings, Stands, GrowsTo, temporary, nowhere, Places, Scene}
+use Rattle.tg_translate_proof.specs.glue.Situations.{Program, Part, Setting, Holds, MayAssign, Extends, value_runs, statements_run}
+use Rattle.tg_translate_proof.specs.glue.Shown.{Shown, IsShown, Situation, FollowsHere, left_over, evaluates}
 use Rattle.tg_translate_proof.proofs.state.TranslationStates.{after_inv, made_in, state_in, later_none, later_on, later_value}
 use Rattle.tg_translate_proof.proofs.invariant.Cases.{worked, grows_none, grows_on, by_made, wanted_of, set_here}
 use Rattle.tg_translate_proof.proofs.invariant.Parts.{StatesGrow, more, paid, extends_none, extends_on}

@@ -22,12 +22,12 @@ use Rattle.tg_types.specs.Types.{Ty, record_type, record_shape}
 use Rattle.tg_tree.specs.Tree.{Tx, Stms, no_stms, stm, Move}
 use Rattle.tg_tree.specs.Actions.{World, Temps, set_temp, Next, over}
 use Rattle.tg_translate.specs.declared.operands.Operand.{Operand}
-use Rattle.tg_translate.specs.Constructs.{space_for_record}
-use Rattle.tg_runtime_proof.specs.Serving.{with_block}
-use Rattle.tg_correct.specs.Laws.{tree_work}
-use Rattle.tg_translate_proof.specs.Worlds.{Holdings, Stands, GrowsTo, a_record, record_of, temporary, nowhere}
-use Rattle.tg_translate_proof.specs.Situations.{Program, Part, Setting, Holds, statements_run}
-use Rattle.tg_translate_proof.specs.Shown.{FollowsHere}
+use Rattle.tg_translate.specs.mirror.Constructs.{space_for_record}
+use Rattle.tg_runtime_proof.specs.laws.Serving.{with_block}
+use Rattle.tg_correct.specs.laws.Laws.{tree_work}
+use Rattle.tg_translate_proof.specs.glue.Worlds.{Holdings, Stands, GrowsTo, a_record, record_of, temporary, nowhere}
+use Rattle.tg_translate_proof.specs.glue.Situations.{Program, Part, Setting, Holds, statements_run}
+use Rattle.tg_translate_proof.specs.glue.Shown.{FollowsHere}
 use Rattle.tg_translate_proof.proofs.state.HeapBlocks.{AreOwned}
 use Rattle.tg_translate_proof.proofs.state.NewRecords.{FieldsStand, fields_many, record_block, record_length, record_added}
 use Rattle.tg_translate_proof.proofs.expressions.MakeFields.{own_stores, OperandsHave, stores_follow}

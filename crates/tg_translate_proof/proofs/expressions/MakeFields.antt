@@ -7,7 +7,7 @@ use Rattle.tg_simulation.specs.Runs.{Run}
 use Rattle.tg_simulation.specs.Ran.{Ran}
 use Rattle.tg_simulation.specs.Agreement.{Source}
 use Rattle.tg_tree.specs.Tree.{Tx, Stms, no_stms, stm, Temp, Store}
-use Rattle.tg_tree.specs.Lists.{join_stms}
+use Rattle.tg_tree.specs.glue.Lists.{join_stms}
 use Rattle.tg_tree.specs.Memory.{Memory, store}
 use Rattle.tg_tree.specs.Shapes.{is_flat}
 use Rattle.tg_tree.specs.Units.{Trees, hoisted_units}
@@ -15,12 +15,12 @@ use Rattle.tg_tree.specs.Actions.{World, Temps, Go, Next, with_word, with_memory
 use Rattle.tg_tree.proofs.ListLaws.{join_stms-none, join_stms-assoc}
 use Rattle.tg_translate.specs.declared.operands.Operand.{Operand}
 use Rattle.tg_translate.specs.declared.operands.Operand.TheVariants.{Number, Kept}
-use Rattle.tg_translate.specs.Constructs.{operand, plus, store_field, store_fields}
-use Rattle.tg_translate.specs.Wants.{followed}
+use Rattle.tg_translate.specs.mirror.Constructs.{operand, plus, store_field, store_fields}
+use Rattle.tg_translate.specs.mirror.Wants.{followed}
 use Rattle.tg_runtime_proof.proofs.Bytes.{word_bytes}
 use Rattle.tg_runtime_proof.proofs.Memories.{blocked, store_in_block}
-use Rattle.tg_translate_proof.specs.Situations.{Program, Part, value_runs, statements_run}
-use Rattle.tg_translate_proof.specs.Shown.{FollowsHere}
+use Rattle.tg_translate_proof.specs.glue.Situations.{Program, Part, value_runs, statements_run}
+use Rattle.tg_translate_proof.specs.glue.Shown.{FollowsHere}
 use Rattle.tg_translate_proof.proofs.state.NewRecords.{words_block, record_block}
 use Rattle.tg_translate_proof.proofs.expressions.Field.{plus_follows}
 use Rattle.tg_translate_proof.proofs.invariant.Cases.{worked}

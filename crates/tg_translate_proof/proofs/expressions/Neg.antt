@@ -25,13 +25,13 @@ use Rattle.tg_tree.specs.Units.{Trees, hoisted_units}
 use Rattle.tg_tree.specs.Operators.{exactly}
 use Rattle.tg_tree.specs.Actions.{World, Temps, Go, with_given}
 use Rattle.tg_translate.specs.declared.wants.Want.TheVariants as want
-use Rattle.tg_translate.specs.States.{TranslationState, drawn}
-use Rattle.tg_translate.specs.Wants.{Made, value, value_from}
-use Rattle.tg_translate.specs.Constructs.{negation, least_int}
-use Rattle.tg_translate.specs.Translate.{expression}
-use Rattle.tg_translate_proof.specs.Tables.{Later}
-use Rattle.tg_translate_proof.specs.Situations.{Program, Setting, value_runs}
-use Rattle.tg_translate_proof.specs.Shown.{Shown, IsShown, Situation, FollowsHere, Onward, IsWanted, left_over, evaluates}
+use Rattle.tg_translate.specs.mirror.States.{TranslationState, drawn}
+use Rattle.tg_translate.specs.mirror.Wants.{Made, value, value_from}
+use Rattle.tg_translate.specs.mirror.Constructs.{negation, least_int}
+use Rattle.tg_translate.specs.mirror.Translate.{expression}
+use Rattle.tg_translate_proof.specs.glue.Tables.{Later}
+use Rattle.tg_translate_proof.specs.glue.Situations.{Program, Setting, value_runs}
+use Rattle.tg_translate_proof.specs.glue.Shown.{Shown, IsShown, Situation, FollowsHere, Onward, IsWanted, left_over, evaluates}
 use Rattle.tg_translate_proof.proofs.state.TranslationStates.{after_inv, state_in, later_none}
 use Rattle.tg_translate_proof.proofs.invariant.Cases.{by_made, worked}
 use Rattle.tg_translate_proof.proofs.invariant.Parts.{StatesGrow, Piece, Behind, at_begin, sub_value, more, paid}

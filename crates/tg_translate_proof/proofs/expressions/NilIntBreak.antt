@@ -11,10 +11,10 @@ use Rattle.tg_types.specs.Has.{Has}
 use Rattle.tg_tree.specs.Tree as tree
 use Rattle.tg_tree.specs.Tree.{Tx, Const}
 use Rattle.tg_tree.specs.Actions.{Go, Next}
-use Rattle.tg_translate.specs.Wants.{value, done}
-use Rattle.tg_translate_proof.specs.Worlds.{Stands, an_int, a_nil}
-use Rattle.tg_translate_proof.specs.Situations.{Program, Setting, value_runs, statement_runs}
-use Rattle.tg_translate_proof.specs.Shown.{Shown, Situation, FollowsHere, left_over, evaluates, Onward, IsWanted}
+use Rattle.tg_translate.specs.mirror.Wants.{value, done}
+use Rattle.tg_translate_proof.specs.glue.Worlds.{Stands, an_int, a_nil}
+use Rattle.tg_translate_proof.specs.glue.Situations.{Program, Setting, value_runs, statement_runs}
+use Rattle.tg_translate_proof.specs.glue.Shown.{Shown, Situation, FollowsHere, left_over, evaluates, Onward, IsWanted}
 use Rattle.tg_translate_proof.proofs.invariant.Cases.{by_made, worked, wanted_of, grows_none}
 use Rattle.tg_translate_proof.proofs.invariant.Parts.{more, paid, extends_none}
 

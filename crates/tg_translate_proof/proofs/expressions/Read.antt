@@ -18,16 +18,16 @@ use Rattle.tg_tree.specs.Tree.{Tx, Temp, Load, Stms, no_stms, stm}
 use Rattle.tg_tree.specs.Memory.{load}
 use Rattle.tg_tree.specs.Actions.{World, Temps, Go, charged, with_word}
 use Rattle.tg_translate.specs.declared.wants.Want.{Want}
-use Rattle.tg_translate.specs.States.{TranslationState, drawn}
-use Rattle.tg_translate.specs.Wants.{Made, value}
-use Rattle.tg_translate.specs.Constructs.{Storage, in_temp, at_address, read, after_all}
-use Rattle.tg_translate.specs.Purity.{place_assigns_nothing}
-use Rattle.tg_translate.specs.Translate.{locate}
-use Rattle.tg_correct.specs.Laws.{tree_work}
-use Rattle.tg_translate_proof.specs.Tables.{Later}
-use Rattle.tg_translate_proof.specs.Worlds.{Holdings, Stands, GrowsTo, temporary, IsOf, word_of, HoldsVariable}
-use Rattle.tg_translate_proof.specs.Situations.{Program, Part, Setting, Holds, IsReady, MayAssign, Extends, with_temps, value_runs, statements_run}
-use Rattle.tg_translate_proof.specs.Shown.{Shown, IsShown, Situation, FollowsHere, Onward, IsWanted, IsVariables, IsNamed, left_over}
+use Rattle.tg_translate.specs.mirror.States.{TranslationState, drawn}
+use Rattle.tg_translate.specs.mirror.Wants.{Made, value}
+use Rattle.tg_translate.specs.mirror.Constructs.{Storage, in_temp, at_address, read, after_all}
+use Rattle.tg_translate.specs.mirror.Purity.{place_assigns_nothing}
+use Rattle.tg_translate.specs.mirror.Translate.{locate}
+use Rattle.tg_correct.specs.laws.Laws.{tree_work}
+use Rattle.tg_translate_proof.specs.glue.Tables.{Later}
+use Rattle.tg_translate_proof.specs.glue.Worlds.{Holdings, Stands, GrowsTo, temporary, IsOf, word_of, HoldsVariable}
+use Rattle.tg_translate_proof.specs.glue.Situations.{Program, Part, Setting, Holds, IsReady, MayAssign, Extends, with_temps, value_runs, statements_run}
+use Rattle.tg_translate_proof.specs.glue.Shown.{Shown, IsShown, Situation, FollowsHere, Onward, IsWanted, IsVariables, IsNamed, left_over}
 use Rattle.tg_translate_proof.proofs.state.TranslationStates.{state_in, after_inv}
 use Rattle.tg_translate_proof.proofs.invariant.Cases.{by_made, source_of, wanted_of, worked, grows_none}
 use Rattle.tg_translate_proof.proofs.invariant.Parts.{more, paid, extends_none}

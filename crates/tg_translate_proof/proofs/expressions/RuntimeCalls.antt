@@ -8,7 +8,7 @@ use Rattle.tg_simulation.specs.Runs.{Run}
 use Rattle.tg_simulation.specs.Ran.{Ran, Ended, works}
 use Rattle.tg_simulation.specs.Outcomes.{Outcome, passes_limit}
 use Rattle.tg_simulation.specs.Agreement.{Source, Matches}
-use Rattle.tg_simulation.specs.Simulating.{Comes}
+use Rattle.tg_simulation.specs.laws.Simulating.{Comes}
 use Rattle.tg_simulation.proofs.Following.{match_works, match_credit, follows_working, follows_passing, follows_full, follows_along}
 use Rattle.tg_semantics.specs.Values.{Ending, SourceWorld, add_weight}
 use Rattle.tg_semantics.specs.Levels.{runtime_weight}
@@ -22,20 +22,20 @@ use Rattle.tg_tree.specs.Actions.{World, Temps, Back, over, charged, wrong}
 use Rattle.tg_tree.specs.Running.{Runner, function_of, entered, fuelled, placed, with_slots, no_temps}
 use Rattle.tg_tree.specs.Links.{run_linked_body, call_within, frames_around, first_is}
 use Rattle.tg_runtime.specs.declared.routines.Routine.{Routine}
-use Rattle.tg_runtime.specs.Labels.{label_of}
+use Rattle.tg_runtime.specs.mirror.Labels.{label_of}
 use Rattle.tg_runtime.specs.declared.routines.Routine.TheVariants as routine
-use Rattle.tg_runtime.specs.Routines.{runtime, function, make_record, make_array, compare, print, flush, getchar, ord, chr}
-use Rattle.tg_runtime.specs.Routines.{size, substring, concat, negation, exit}
+use Rattle.tg_runtime.specs.mirror.Routines.{runtime, function, make_record, make_array, compare, print, flush, getchar, ord, chr}
+use Rattle.tg_runtime.specs.mirror.Routines.{size, substring, concat, negation, exit}
 use Rattle.tg_runtime_proof.specs.Memories.{IsStringAt}
-use Rattle.tg_runtime_proof.specs.Serving.{Serves, ServesWell, linked_host, calls, call_units, turn_units}
 use Rattle.tg_runtime_proof.specs.Settings.{Host}
+use Rattle.tg_runtime_proof.specs.laws.Serving.{Serves, ServesWell, linked_host, calls, call_units, turn_units}
 use Rattle.tg_runtime_proof.proofs.Calling.{around_body}
 use Rattle.tg_runtime_proof.proofs.Running.{linked_are_served}
 use Rattle.tg_runtime_proof.proofs.Strings.{block_length}
-use Rattle.tg_correct.specs.Laws.{tree_work}
-use Rattle.tg_translate_proof.specs.Worlds.{Holdings, IsText, Invariant, IsScene, Places, AllTemps, unknown}
-use Rattle.tg_translate_proof.specs.Situations.{Program, Part, Setting, Holds, floor, going, calling, frames_at}
-use Rattle.tg_translate_proof.specs.Shown.{FollowsHere}
+use Rattle.tg_correct.specs.laws.Laws.{tree_work}
+use Rattle.tg_translate_proof.specs.glue.Worlds.{Holdings, IsText, Invariant, IsScene, Places, AllTemps, unknown}
+use Rattle.tg_translate_proof.specs.glue.Situations.{Program, Part, Setting, Holds, floor, going, calling, frames_at}
+use Rattle.tg_translate_proof.specs.glue.Shown.{FollowsHere}
 use Rattle.tg_translate_proof.proofs.invariant.Parts.{more}
 
 -- what is followed is followed through units of work that come before it

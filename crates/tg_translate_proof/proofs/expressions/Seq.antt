@@ -18,14 +18,14 @@ use Rattle.tg_tree.specs.Tree.{Tx, Const, Address, Temp, FrameAddress, Binary, L
 use Rattle.tg_tree.specs.Actions.{World, Temps, set_temp, Go, Next}
 use Rattle.tg_translate.specs.declared.wants.Want.{Want}
 use Rattle.tg_translate.specs.declared.wants.Want.TheVariants as want
-use Rattle.tg_translate.specs.States.{TranslationState, drawn}
-use Rattle.tg_translate.specs.Wants.{Made, value, done, test, value_of, put_in, dropped, behind, behind_some}
-use Rattle.tg_translate.specs.Translate.{sequence}
-use Rattle.tg_correct.specs.Laws.{tree_work}
-use Rattle.tg_translate_proof.specs.Tables.{Later}
-use Rattle.tg_translate_proof.specs.Worlds.{Holdings, Stands}
-use Rattle.tg_translate_proof.specs.Situations.{Program, Part, Setting, MayAssign, value_runs, statement_runs, statements_run}
-use Rattle.tg_translate_proof.specs.Shown.{IsShown, Situation, IsWantable, IsWanted, IsNamed, FollowsHere, Onward, MadeFollows, left_over, put_where}
+use Rattle.tg_translate.specs.mirror.States.{TranslationState, drawn}
+use Rattle.tg_translate.specs.mirror.Wants.{Made, value, done, test, value_of, put_in, dropped, behind, behind_some}
+use Rattle.tg_translate.specs.mirror.Translate.{sequence}
+use Rattle.tg_correct.specs.laws.Laws.{tree_work}
+use Rattle.tg_translate_proof.specs.glue.Tables.{Later}
+use Rattle.tg_translate_proof.specs.glue.Worlds.{Holdings, Stands}
+use Rattle.tg_translate_proof.specs.glue.Situations.{Program, Part, Setting, MayAssign, value_runs, statement_runs, statements_run}
+use Rattle.tg_translate_proof.specs.glue.Shown.{IsShown, Situation, IsWantable, IsWanted, IsNamed, FollowsHere, Onward, MadeFollows, left_over, put_where}
 use Rattle.tg_translate_proof.proofs.state.TranslationStates.{made_in, state_in, after_inv, later_none, later_value}
 use Rattle.tg_translate_proof.proofs.invariant.Cases.{by_made, source_of, worked}
 use Rattle.tg_translate_proof.proofs.invariant.Parts.{StatesGrow, more, paid}

@@ -11,28 +11,30 @@ use Rattle.tg_semantics.specs.Values.{Value, nothing, SourceWorld, Env}
 use Rattle.tg_semantics.specs.Passing.{Rest, Passing, passing}
 use Rattle.tg_semantics.specs.Evaluation as evaluation
 use Rattle.tg_semantics.specs.MachineEnds.{rest_run}
-use Rattle.tg_semantics.specs.Laws.{behind}
+use Rattle.tg_semantics.specs.laws.Laws.{behind}
 use Rattle.tg_semantics.specs.Levels.{levels_of}
 use Rattle.tg_types.specs.Types.{Ty, int_type, none_type}
 use Rattle.tg_types.specs.Has as has
 use Rattle.tg_types.specs.Has.{Has, HasLast}
 use Rattle.tg_tree.specs.Tree as tree
 use Rattle.tg_tree.specs.Tree.{Tx, Const, Ts, Stms, no_stms, stm}
-use Rattle.tg_tree.specs.Lists.{join_stms}
+use Rattle.tg_tree.specs.glue.Lists.{join_stms}
 use Rattle.tg_tree.proofs.ListLaws.{join_stms-none, join_stms-assoc}
 use Rattle.tg_tree.specs.Actions.{World, Temps, set_temp, Go, Next}
 use Rattle.tg_translate.specs.declared.homes.Within.{Within}
 use Rattle.tg_translate.specs.declared.wants.Want.{Want}
 use Rattle.tg_translate.specs.declared.wants.Want.TheVariants as want
-use Rattle.tg_translate.specs.States.{TranslationState, drawn, after}
-use Rattle.tg_translate.specs.Wants.{Made, value, done, test, value_of, put_in, dropped, followed, statement_from}
-use Rattle.tg_translate.specs.Purity.{assigns_nothing, all_assign_nothing}
-use Rattle.tg_translate.specs.Translate.{expression, sequence, Begun}
-use Rattle.tg_translate_proof.specs.Covered.{CoversExps}
-use Rattle.tg_translate_proof.specs.Tables.{Later}
-use Rattle.tg_translate_proof.specs.Worlds.{Holdings, Stands, GrowsTo, temporary, kept}
-use Rattle.tg_translate_proof.specs.Situations.{Program, Part, Setting, Holds, IsReady, MayAssign, Extends, value_runs, test_runs, statement_runs, statements_run}
-use Rattle.tg_translate_proof.specs.Shown.{Shown, IsWantable, IsWanted, IsLeft, IsTold, IsNamed, FollowsHere, Onward, MadeFollows, left_over, evaluates, put_where}
+use Rattle.tg_translate.specs.mirror.States.{TranslationState, drawn, after}
+use Rattle.tg_translate.specs.mirror.Wants.{Made, value, done, test, value_of, put_in, dropped, followed, statement_from}
+use Rattle.tg_translate.specs.mirror.Purity.{assigns_nothing, all_assign_nothing}
+use Rattle.tg_translate.specs.mirror.Translate.{expression, sequence, Begun}
+use Rattle.tg_translate_proof.specs.glue.Covered.{CoversExps}
+use Rattle.tg_translate_proof.specs.glue.Tables.{Later}
+use Rattle.tg_translate_proof.specs.glue.Worlds.{Holdings, Stands, GrowsTo, temporary, kept}
+use Rattle.tg_translate_proof.specs.glue.Situations.{Program, Part, Setting, Holds, IsReady, MayAssign, Extends, value_runs, test_runs, statement_runs}
+use Rattle.tg_translate_proof.specs.glue.Situations.{statements_run}
+use Rattle.tg_translate_proof.specs.glue.Shown.{Shown, IsWantable, IsWanted, IsLeft, IsTold, IsNamed, FollowsHere, Onward, MadeFollows, left_over, evaluates}
+use Rattle.tg_translate_proof.specs.glue.Shown.{put_where}
 use Rattle.tg_translate_proof.proofs.state.TranslationStates.{made_in, state_in, after_inv, later_none, later_on}
 use Rattle.tg_translate_proof.proofs.invariant.Cases.{worked, grows_none, grows_on, IsLoose}
 use Rattle.tg_translate_proof.proofs.invariant.Parts.{StatesGrow, more, extends_none, extends_on, ready_part}

@@ -29,15 +29,15 @@ use Rattle.tg_tree.specs.Memory.{string_block, statics_of}
 use Rattle.tg_tree.specs.Actions.{World, Temps, Go, Back, over, written}
 use Rattle.tg_runtime.specs.declared.routines.Routine.{Routine}
 use Rattle.tg_runtime.specs.declared.routines.Routine.TheVariants as routine
-use Rattle.tg_runtime.specs.Labels.{label_of}
-use Rattle.tg_runtime_proof.specs.Serving.{Serves, Makes, ServesWell, with_block, with_input, call_units, turn_units, first_of, order_of, is_outside}
+use Rattle.tg_runtime.specs.mirror.Labels.{label_of}
+use Rattle.tg_runtime_proof.specs.laws.Serving.{Serves, Makes, ServesWell, with_block, with_input, call_units, turn_units, first_of, order_of, is_outside}
 use Rattle.tg_runtime_proof.specs.Memories.{IsStringAt}
 use Rattle.tg_runtime_proof.proofs.Strings.{block_length, block_small, string_ends}
 use Rattle.tg_runtime_proof.proofs.Signs.{below_lt, neither_of}
-use Rattle.tg_correct.specs.Laws.{tree_work}
-use Rattle.tg_translate_proof.specs.Worlds.{Holdings, Stored, unknown, word, part, Stands, an_int, a_string, no_value, GrowsTo, IsText, IsScene, Invariant}
-use Rattle.tg_translate_proof.specs.Situations.{Program, Part, Setting, Holds, floor, calling, frames_at, with_temps}
-use Rattle.tg_translate_proof.specs.Shown.{FollowsHere}
+use Rattle.tg_correct.specs.laws.Laws.{tree_work}
+use Rattle.tg_translate_proof.specs.glue.Worlds.{Holdings, Stored, unknown, word, part, Stands, an_int, a_string, no_value, GrowsTo, IsText, IsScene, Invariant}
+use Rattle.tg_translate_proof.specs.glue.Situations.{Program, Part, Setting, Holds, floor, calling, frames_at, with_temps}
+use Rattle.tg_translate_proof.specs.glue.Shown.{FollowsHere}
 use Rattle.tg_translate_proof.proofs.state.HeapBlocks.{AreOwned, Fills, with_words, with_objects, grows, in_block}
 use Rattle.tg_translate_proof.proofs.invariant.Cases.{grows_none}
 use Rattle.tg_translate_proof.proofs.invariant.Parts.{more, stop_follows}

@@ -17,12 +17,12 @@ use Rattle.tg_types.specs.Has.{Has}
 use Rattle.tg_tree.specs.Tree.{Address, Literal}
 use Rattle.tg_tree.specs.Memory.{literal_from, literal_address, string_text}
 use Rattle.tg_tree.specs.Actions.{Go, with_word}
-use Rattle.tg_translate.specs.States.{drawn}
-use Rattle.tg_translate.specs.Wants.{value}
-use Rattle.tg_correct.specs.Laws.{tree_work}
-use Rattle.tg_translate_proof.specs.Worlds.{Stands, a_string}
-use Rattle.tg_translate_proof.specs.Situations.{Program, value_runs}
-use Rattle.tg_translate_proof.specs.Shown.{Situation, Shown, left_over, FollowsHere}
+use Rattle.tg_translate.specs.mirror.States.{drawn}
+use Rattle.tg_translate.specs.mirror.Wants.{value}
+use Rattle.tg_correct.specs.laws.Laws.{tree_work}
+use Rattle.tg_translate_proof.specs.glue.Worlds.{Stands, a_string}
+use Rattle.tg_translate_proof.specs.glue.Situations.{Program, value_runs}
+use Rattle.tg_translate_proof.specs.glue.Shown.{Situation, Shown, left_over, FollowsHere}
 use Rattle.tg_translate_proof.proofs.state.TranslationStates.{state_in}
 use Rattle.tg_translate_proof.proofs.invariant.Cases.{by_made, worked, wanted_of, grows_none}
 use Rattle.tg_translate_proof.proofs.invariant.Parts.{more, paid, extends_none}

@@ -12,7 +12,7 @@ use Rattle.tg_semantics.specs.Values.{Value, int, nothing, SourceWorld}
 use Rattle.tg_semantics.specs.Evaluation as evaluation
 use Rattle.tg_semantics.specs.Passing.{Rest, Passing, passing, with_turn, over_in}
 use Rattle.tg_semantics.specs.MachineEnds.{rest_run, as_source}
-use Rattle.tg_semantics.specs.Laws.{behind}
+use Rattle.tg_semantics.specs.laws.Laws.{behind}
 use Rattle.tg_semantics.proofs.AsSource.{turns_as_source}
 use Rattle.tg_semantics.proofs.Unfolding.{fuel_unfolds}
 use Rattle.tg_types.specs.Types.{Ty, int_type, none_type}
@@ -27,15 +27,16 @@ use Rattle.tg_tree.specs.Meaning.{Point}
 use Rattle.tg_tree.specs.Running.{with_fuel}
 use Rattle.tg_tree.proofs.Linked.{linked_own}
 use Rattle.tg_translate.specs.declared.wants.Want.TheVariants as want
-use Rattle.tg_translate.specs.States.{TranslationState, drawn}
-use Rattle.tg_translate.specs.Wants.{Made, done, test_of, dropped, condition_from, statement_from}
-use Rattle.tg_translate.specs.Constructs.{repeat_while, in_body, in_test}
-use Rattle.tg_translate.specs.Translate.{expression}
-use Rattle.tg_correct.specs.Laws.{tree_work}
-use Rattle.tg_translate_proof.specs.Tables.{Later}
-use Rattle.tg_translate_proof.specs.Worlds.{Holdings, GrowsTo, temporary, kept}
-use Rattle.tg_translate_proof.specs.Situations.{Program, Part, Setting, Holds, IsReady, MayAssign, Extends, floor, statement_runs, test_runs, going_on, frames_at, heads}
-use Rattle.tg_translate_proof.specs.Shown.{Shown, IsShown, Situation, IsWantable, FollowsHere, Onward, MadeFollows, IsWanted, left_over, is_set, evaluates}
+use Rattle.tg_translate.specs.mirror.States.{TranslationState, drawn}
+use Rattle.tg_translate.specs.mirror.Wants.{Made, done, test_of, dropped, condition_from, statement_from}
+use Rattle.tg_translate.specs.mirror.Constructs.{repeat_while, in_body, in_test}
+use Rattle.tg_translate.specs.mirror.Translate.{expression}
+use Rattle.tg_correct.specs.laws.Laws.{tree_work}
+use Rattle.tg_translate_proof.specs.glue.Tables.{Later}
+use Rattle.tg_translate_proof.specs.glue.Worlds.{Holdings, GrowsTo, temporary, kept}
+use Rattle.tg_translate_proof.specs.glue.Situations.{Program, Part, Setting, Holds, IsReady, MayAssign, Extends, floor, statement_runs, test_runs, going_on}
+use Rattle.tg_translate_proof.specs.glue.Situations.{frames_at, heads}
+use Rattle.tg_translate_proof.specs.glue.Shown.{Shown, IsShown, Situation, IsWantable, FollowsHere, Onward, MadeFollows, IsWanted, left_over, is_set, evaluates}
 use Rattle.tg_translate_proof.proofs.state.TranslationStates.{made_in, state_in, after_inv, later_none, later_on}
 use Rattle.tg_translate_proof.proofs.invariant.Cases.{by_made, source_of, worked, grows_none, grows_on}
 use Rattle.tg_translate_proof.proofs.invariant.Parts.{StatesGrow, more, paid, extends_none, extends_on, ready_part}

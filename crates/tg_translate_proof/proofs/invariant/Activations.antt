@@ -20,16 +20,16 @@ use Rattle.tg_tree.specs.Operators.{word}
 use Rattle.tg_tree.specs.FlatValue.{flat_value}
 use Rattle.tg_tree.specs.Memory.{Memory, Closed, Has, load, put, slot}
 use Rattle.tg_tree.specs.Actions.{World, Temps}
-use Rattle.tg_translate.specs.States.{TranslationState, drawn}
-use Rattle.tg_translate.specs.Constructs.{Storage, in_temp, at_address, place_in, slot_address}
-use Rattle.tg_translate.specs.Scopes.{home_place, frame_at, variable_place}
-use Rattle.tg_translate.specs.Translate.{locate}
+use Rattle.tg_translate.specs.mirror.States.{TranslationState, drawn}
+use Rattle.tg_translate.specs.mirror.Constructs.{Storage, in_temp, at_address, place_in, slot_address}
+use Rattle.tg_translate.specs.mirror.Scopes.{home_place, frame_at, variable_place}
+use Rattle.tg_translate.specs.mirror.Translate.{locate}
 use Rattle.tg_runtime_proof.proofs.Memories.{put_apart}
-use Rattle.tg_translate_proof.specs.Covered.{CoversName}
-use Rattle.tg_translate_proof.specs.Worlds.{Holdings, Stands, IsOf, cell, nowhere}
-use Rattle.tg_translate_proof.specs.Situations.{Program, Part, Setting, Holds, IsReady, IsNear, frames_of, key_of}
-use Rattle.tg_translate_proof.specs.Activations.{link_in, IsFrameOut, at_home, by_own, by_slot, ChangesItsVariable}
-use Rattle.tg_translate_proof.specs.Activations.{AssignmentsFindTheirActivation, TemporariesAreOwn}
+use Rattle.tg_translate_proof.specs.glue.Covered.{CoversName}
+use Rattle.tg_translate_proof.specs.glue.Worlds.{Holdings, Stands, IsOf, cell, nowhere}
+use Rattle.tg_translate_proof.specs.glue.Situations.{Program, Part, Setting, Holds, IsReady, IsNear, frames_of, key_of}
+use Rattle.tg_translate_proof.specs.laws.Activations.{link_in, IsFrameOut, at_home, by_own, by_slot, ChangesItsVariable}
+use Rattle.tg_translate_proof.specs.laws.Activations.{AssignmentsFindTheirActivation, TemporariesAreOwn}
 use Rattle.tg_translate_proof.proofs.state.TranslationStates.{made_in}
 use Rattle.tg_translate_proof.proofs.state.Keys.{of_is_used}
 use Rattle.tg_translate_proof.proofs.state.StaticLinks.{Links, links_are}

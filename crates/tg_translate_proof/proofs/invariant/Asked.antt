@@ -14,13 +14,14 @@ use Rattle.tg_tree.specs.Tree.{Tx, Cond, Ts}
 use Rattle.tg_tree.specs.Actions.{World, Temps, set_temp, Go, Next}
 use Rattle.tg_translate.specs.declared.wants.Want.{Want}
 use Rattle.tg_translate.specs.declared.wants.Want.TheVariants as want
-use Rattle.tg_translate.specs.States.{TranslationState, drawn}
-use Rattle.tg_translate.specs.Wants.{Made, value_of, test_of, put_in, dropped}
-use Rattle.tg_translate.specs.Translate.{expression}
-use Rattle.tg_translate_proof.specs.Tables.{Later}
-use Rattle.tg_translate_proof.specs.Worlds.{Holdings, Stands, temporary, nowhere}
-use Rattle.tg_translate_proof.specs.Situations.{Program, Part, Setting, Holds, IsReady, IsCovered, MayAssign, value_runs, test_runs, statement_runs}
-use Rattle.tg_translate_proof.specs.Shown.{Shown, IsShown, Situation, IsWantable, IsWanted, IsNamed, FollowsHere, Onward, Outward, MadeFollows, left_over, is_set, evaluates}
+use Rattle.tg_translate.specs.mirror.States.{TranslationState, drawn}
+use Rattle.tg_translate.specs.mirror.Wants.{Made, value_of, test_of, put_in, dropped}
+use Rattle.tg_translate.specs.mirror.Translate.{expression}
+use Rattle.tg_translate_proof.specs.glue.Tables.{Later}
+use Rattle.tg_translate_proof.specs.glue.Worlds.{Holdings, Stands, temporary, nowhere}
+use Rattle.tg_translate_proof.specs.glue.Situations.{Program, Part, Setting, Holds, IsReady, IsCovered, MayAssign, value_runs, test_runs, statement_runs}
+use Rattle.tg_translate_proof.specs.glue.Shown.{Shown, IsShown, Situation, IsWantable, IsWanted, IsNamed, FollowsHere, Onward, Outward, MadeFollows, left_over}
+use Rattle.tg_translate_proof.specs.glue.Shown.{is_set, evaluates}
 use Rattle.tg_translate_proof.proofs.state.TranslationStates.{later_none, later_on, later_value}
 use Rattle.tg_translate_proof.proofs.invariant.Cases.{value_follows, condition_follows, arm_follows, dropped_follows, IsLoose}
 use Rattle.tg_translate_proof.proofs.invariant.Parts.{StatesGrow, more, extends_none, ready_part}

@@ -11,13 +11,13 @@ use Rattle.tg_simulation.proofs.Following.{follows_working, follows_paying, foll
 use Rattle.tg_tree.specs.Memory.{Memory}
 use Rattle.tg_tree.specs.Running.{with_fuel}
 use Rattle.tg_tree.specs.Forms.{nothing as nothing_done}
-use Rattle.tg_translate.specs.Wants.{test_of, is_true, truth_into, as_statement, put_in, dropped}
+use Rattle.tg_translate.specs.mirror.Wants.{test_of, is_true, truth_into, as_statement, put_in, dropped}
 use Rattle.tg_semantics.specs.Values.{Value, int, string, nil, reference, nothing, SourceWorld, Env}
 use Rattle.tg_semantics.specs.Operators.{truth}
 use Rattle.tg_semantics.specs.Passing.{Rest, Passing, passing}
 use Rattle.tg_semantics.specs.Evaluation.{eval}
 use Rattle.tg_semantics.specs.MachineEnds.{rest_run}
-use Rattle.tg_semantics.specs.Laws.{behind}
+use Rattle.tg_semantics.specs.laws.Laws.{behind}
 use Rattle.tg_types.specs.declared.notes.Note.{Note}
 use Rattle.tg_types.specs.Types.{Ty, Shape, int_type, none_type}
 use Rattle.tg_types.specs.Scopes.{Scope}
@@ -30,18 +30,19 @@ use Rattle.tg_tree.specs.Meaning.{Enter, Point, value as value_runs, test as tes
 use Rattle.tg_translate.specs.declared.homes.Within.{Within}
 use Rattle.tg_translate.specs.declared.wants.Want.{Want}
 use Rattle.tg_translate.specs.declared.wants.Want.TheVariants as want
-use Rattle.tg_translate.specs.States.{TranslationState, Translated, drawn, Translates, after}
-use Rattle.tg_translate.specs.Wants.{Made, value, done, test, value_of}
-use Rattle.tg_translate.specs.Scopes.{Findings}
-use Rattle.tg_correct.specs.Laws.{tree_work}
-use Rattle.tg_translate_proof.specs.Worlds.{Holdings, Stands, an_int, GrowsTo, unknown, Invariant, Key, cell, temporary, nowhere, free, HoldsAt, word_of, variable, kept, fixed, Content, Places, AllTemps}
-use Rattle.tg_translate_proof.specs.Situations as situations
+use Rattle.tg_translate.specs.mirror.States.{TranslationState, Translated, drawn, Translates, after}
+use Rattle.tg_translate.specs.mirror.Wants.{Made, value, done, test, value_of}
+use Rattle.tg_translate.specs.mirror.Scopes.{Findings}
+use Rattle.tg_correct.specs.laws.Laws.{tree_work}
+use Rattle.tg_translate_proof.specs.glue.Worlds.{Holdings, Stands, an_int, GrowsTo, unknown, Invariant, Key, cell, temporary, nowhere, free, HoldsAt, word_of}
+use Rattle.tg_translate_proof.specs.glue.Worlds.{variable, kept, fixed, Content, Places, AllTemps}
+use Rattle.tg_translate_proof.specs.glue.Situations as situations
 use Rattle.tg_translate_proof.proofs.state.TranslationStates.{made_in, state_in}
-use Rattle.tg_translate_proof.specs.Situations.{Program, Part, floor}
-use Rattle.tg_translate_proof.specs.Shown as shown
-use Rattle.tg_translate_proof.specs.Tables.{Table}
-use Rattle.tg_translate_proof.specs.Situations.{with_temps, Extends}
-use Rattle.tg_translate_proof.specs.Shown.{IsWanted, IsTold, IsLeft, IsWantable, is_set, left_over, put_where}
+use Rattle.tg_translate_proof.specs.glue.Situations.{Program, Part, floor}
+use Rattle.tg_translate_proof.specs.glue.Shown as shown
+use Rattle.tg_translate_proof.specs.glue.Tables.{Table}
+use Rattle.tg_translate_proof.specs.glue.Situations.{with_temps, Extends}
+use Rattle.tg_translate_proof.specs.glue.Shown.{IsWanted, IsTold, IsLeft, IsWantable, is_set, left_over, put_where}
 
 -- Holdings and types grow.
 

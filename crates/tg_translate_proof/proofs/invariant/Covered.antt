@@ -34,10 +34,10 @@ use Rattle.tg_types.specs.Groups.{with_functions, with_params}
 use Rattle.tg_types.specs.Has as Has
 use Rattle.tg_translate.specs.declared.homes.Home.{Home}
 use Rattle.tg_translate.specs.declared.homes.Callee.{Callee}
-use Rattle.tg_translate.specs.Scopes.{Findings}
-use Rattle.tg_translate_proof.specs.Tables.{Table}
-use Rattle.tg_translate_proof.specs.Covered.{Keeping, with_level, LinksLead, CoversUse, CoversName, Covers, CoversPlace, CoversExps}
-use Rattle.tg_translate_proof.specs.Covered.{CoversInits, CoversDecs, CoversFunctions}
+use Rattle.tg_translate.specs.mirror.Scopes.{Findings}
+use Rattle.tg_translate_proof.specs.glue.Tables.{Table}
+use Rattle.tg_translate_proof.specs.glue.Covered.{Keeping, with_level, LinksLead, CoversUse, CoversName, Covers, CoversPlace, CoversExps}
+use Rattle.tg_translate_proof.specs.glue.Covered.{CoversInits, CoversDecs, CoversFunctions}
 
 some_inj : {A : Type 0} {a b : A} → Some a ≡ Some b → a ≡ b
 some_inj e = cc

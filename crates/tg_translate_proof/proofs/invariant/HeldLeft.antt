@@ -13,21 +13,23 @@ use Rattle.tg_semantics.specs.MachineEnds.{rest_run}
 use Rattle.tg_types.specs.Types.{Ty, none_type}
 use Rattle.tg_types.specs.Has.{Has}
 use Rattle.tg_tree.specs.Tree.{Tx, Const, Temp, Move, Stms, no_stms, stm}
-use Rattle.tg_tree.specs.Lists.{join_stms}
+use Rattle.tg_tree.specs.glue.Lists.{join_stms}
 use Rattle.tg_tree.specs.Actions.{World, Temps, set_temp, Go, Next, with_word}
 use Rattle.tg_translate.specs.declared.operands.Operand.{Operand}
 use Rattle.tg_translate.specs.declared.operands.Operand.TheVariants.{Number, Kept}
 use Rattle.tg_translate.specs.declared.wants.Want.TheVariants as want
-use Rattle.tg_translate.specs.States.{TranslationState, drawn, with_frame, one_temp}
-use Rattle.tg_translate.specs.Wants.{Made, value_of}
-use Rattle.tg_translate.specs.Constructs.{Held, hold, keep}
-use Rattle.tg_translate.specs.Purity.{assigns_nothing}
-use Rattle.tg_translate.specs.Translate.{expression}
-use Rattle.tg_translate_proof.specs.Tables.{Later}
-use Rattle.tg_translate_proof.specs.Worlds.{Holdings, unknown, Stands, GrowsTo, Key, cell, temporary, Content, nowhere, free, variable, kept, fixed, Places, IsOf, HoldsAt, HoldsVariable, AllTemps, word_of}
+use Rattle.tg_translate.specs.mirror.States.{TranslationState, drawn, with_frame, one_temp}
+use Rattle.tg_translate.specs.mirror.Wants.{Made, value_of}
+use Rattle.tg_translate.specs.mirror.Constructs.{Held, hold, keep}
+use Rattle.tg_translate.specs.mirror.Purity.{assigns_nothing}
+use Rattle.tg_translate.specs.mirror.Translate.{expression}
+use Rattle.tg_translate_proof.specs.glue.Tables.{Later}
+use Rattle.tg_translate_proof.specs.glue.Worlds.{Holdings, unknown, Stands, GrowsTo, Key, cell, temporary, Content, nowhere, free, variable, kept, fixed}
+use Rattle.tg_translate_proof.specs.glue.Worlds.{Places, IsOf, HoldsAt, HoldsVariable, AllTemps, word_of}
 use Rattle.tg_tree.specs.Memory.{Memory}
-use Rattle.tg_translate_proof.specs.Situations.{Program, Part, Setting, Holds, IsReady, IsCovered, MayAssign, Extends, with_temps, floor, value_runs, statements_run}
-use Rattle.tg_translate_proof.specs.Shown.{Shown, FollowsHere, Onward, left_over, evaluates}
+use Rattle.tg_translate_proof.specs.glue.Situations.{Program, Part, Setting, Holds, IsReady, IsCovered, MayAssign, Extends, with_temps, floor, value_runs}
+use Rattle.tg_translate_proof.specs.glue.Situations.{statements_run}
+use Rattle.tg_translate_proof.specs.glue.Shown.{Shown, FollowsHere, Onward, left_over, evaluates}
 use Rattle.tg_translate_proof.proofs.state.TranslationStates.{later_none, later_on, later_value}
 use Rattle.tg_translate_proof.proofs.invariant.Cases.{worked, grows_none, grows_on}
 use Rattle.tg_translate_proof.proofs.invariant.Parts.{StatesGrow, more, along_on, ready_part, extends_none, extends_on}

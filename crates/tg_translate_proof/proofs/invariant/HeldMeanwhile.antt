@@ -10,21 +10,22 @@ use Rattle.tg_semantics.specs.Passing.{Rest}
 use Rattle.tg_semantics.specs.MachineEnds.{rest_run}
 use Rattle.tg_types.specs.Types.{Ty, none_type}
 use Rattle.tg_tree.specs.Tree.{Tx, Const, Address, Temp, FrameAddress, Binary, Load, LoadByte, Call, Service, After, Stms}
-use Rattle.tg_tree.specs.Lists.{join_stms}
+use Rattle.tg_tree.specs.glue.Lists.{join_stms}
 use Rattle.tg_tree.proofs.ListLaws.{join_stms-none}
 use Rattle.tg_tree.specs.Actions.{World, Temps, set_temp, Go, Next, with_word}
 use Rattle.tg_translate.specs.declared.operands.Operand.{Operand}
 use Rattle.tg_translate.specs.declared.operands.Operand.TheVariants.{Number, Kept}
 use Rattle.tg_translate.specs.declared.wants.Want.TheVariants as want
-use Rattle.tg_translate.specs.States.{TranslationState, drawn, with_frame, one_temp}
-use Rattle.tg_translate.specs.Wants.{Made, value, done, test, value_of, value_from}
-use Rattle.tg_translate.specs.Constructs.{hold}
-use Rattle.tg_translate.specs.Translate.{expression}
-use Rattle.tg_translate_proof.specs.Tables.{Later}
-use Rattle.tg_translate_proof.specs.Worlds.{Holdings, unknown, Stands, GrowsTo, Key, cell, temporary, Content, nowhere, free, variable, kept, fixed, Places, IsOf, HoldsAt, HoldsVariable, AllTemps}
+use Rattle.tg_translate.specs.mirror.States.{TranslationState, drawn, with_frame, one_temp}
+use Rattle.tg_translate.specs.mirror.Wants.{Made, value, done, test, value_of, value_from}
+use Rattle.tg_translate.specs.mirror.Constructs.{hold}
+use Rattle.tg_translate.specs.mirror.Translate.{expression}
+use Rattle.tg_translate_proof.specs.glue.Tables.{Later}
+use Rattle.tg_translate_proof.specs.glue.Worlds.{Holdings, unknown, Stands, GrowsTo, Key, cell, temporary, Content, nowhere, free, variable, kept, fixed}
+use Rattle.tg_translate_proof.specs.glue.Worlds.{Places, IsOf, HoldsAt, HoldsVariable, AllTemps}
 use Rattle.tg_tree.specs.Memory.{Memory}
-use Rattle.tg_translate_proof.specs.Situations.{Program, Part, Setting, Holds, IsReady, Extends, with_temps, floor, value_runs, statements_run}
-use Rattle.tg_translate_proof.specs.Shown.{FollowsHere, IsNamed, IsVariables}
+use Rattle.tg_translate_proof.specs.glue.Situations.{Program, Part, Setting, Holds, IsReady, Extends, with_temps, floor, value_runs, statements_run}
+use Rattle.tg_translate_proof.specs.glue.Shown.{FollowsHere, IsNamed, IsVariables}
 use Rattle.tg_translate_proof.proofs.state.TranslationStates.{after_inv, later_none, later_on, later_value}
 use Rattle.tg_translate_proof.proofs.invariant.Cases.{worked}
 use Rattle.tg_translate_proof.proofs.invariant.Parts.{StatesGrow, more, along_on, ready_part, extends_none}

@@ -11,20 +11,20 @@ use Rattle.tg_semantics.specs.Passing.{Rest}
 use Rattle.tg_semantics.specs.MachineEnds.{rest_run}
 use Rattle.tg_types.specs.Types.{Ty, none_type}
 use Rattle.tg_tree.specs.Tree.{Tx, Const, Address, Temp, FrameAddress, Binary, Load, LoadByte, Call, Service, After, Move, Stms, no_stms, stm}
-use Rattle.tg_tree.specs.Lists.{join_stms}
+use Rattle.tg_tree.specs.glue.Lists.{join_stms}
 use Rattle.tg_tree.proofs.ListLaws.{join_stms-none}
 use Rattle.tg_tree.specs.Actions.{World, Temps, set_temp, Go, Next, with_word}
 use Rattle.tg_translate.specs.declared.operands.Operand.{Operand}
 use Rattle.tg_translate.specs.declared.operands.Operand.TheVariants.{Number, Kept}
 use Rattle.tg_translate.specs.declared.wants.Want.TheVariants as want
-use Rattle.tg_translate.specs.States.{TranslationState, drawn, with_frame, one_temp}
-use Rattle.tg_translate.specs.Wants.{Made, value, value_of, followed}
-use Rattle.tg_translate.specs.Constructs.{Held, hold, keep, operand}
-use Rattle.tg_translate.specs.Translate.{expression}
-use Rattle.tg_translate_proof.specs.Tables.{Later}
-use Rattle.tg_translate_proof.specs.Worlds.{Holdings, Stands, GrowsTo, temporary, nowhere, IsOf}
-use Rattle.tg_translate_proof.specs.Situations.{Program, Part, Setting, Holds, Extends, value_runs, statements_run}
-use Rattle.tg_translate_proof.specs.Shown.{FollowsHere, Onward, IsWanted, IsNamed, IsVariables}
+use Rattle.tg_translate.specs.mirror.States.{TranslationState, drawn, with_frame, one_temp}
+use Rattle.tg_translate.specs.mirror.Wants.{Made, value, value_of, followed}
+use Rattle.tg_translate.specs.mirror.Constructs.{Held, hold, keep, operand}
+use Rattle.tg_translate.specs.mirror.Translate.{expression}
+use Rattle.tg_translate_proof.specs.glue.Tables.{Later}
+use Rattle.tg_translate_proof.specs.glue.Worlds.{Holdings, Stands, GrowsTo, temporary, nowhere, IsOf}
+use Rattle.tg_translate_proof.specs.glue.Situations.{Program, Part, Setting, Holds, Extends, value_runs, statements_run}
+use Rattle.tg_translate_proof.specs.glue.Shown.{FollowsHere, Onward, IsWanted, IsNamed, IsVariables}
 use Rattle.tg_translate_proof.proofs.state.TranslationStates.{later_none, behind_none, front_none}
 use Rattle.tg_translate_proof.proofs.invariant.Cases.{worked, set_here, holds_with_temp, grows_none}
 use Rattle.tg_translate_proof.proofs.invariant.Parts.{StatesGrow, more, extends_none}

@@ -7,10 +7,10 @@ use Rattle.tg_semantics.specs.Environments.{name_of}
 use Rattle.tg_types.specs.Scopes.{variable_at, bound, at_of}
 use Rattle.tg_types.specs.Has.{Says}
 use Rattle.tg_syntax.specs.declared.tokens.Ident.{Ident}
-use Rattle.tg_translate.specs.States.{TranslationState}
-use Rattle.tg_translate_proof.specs.Covered.{CoversName, CoversUse}
-use Rattle.tg_translate_proof.specs.Worlds.{cell, HoldsAt}
-use Rattle.tg_translate_proof.specs.Situations.{Program, Part, Setting, IsReady, IsNear, with_temps}
+use Rattle.tg_translate.specs.mirror.States.{TranslationState}
+use Rattle.tg_translate_proof.specs.glue.Covered.{CoversName, CoversUse}
+use Rattle.tg_translate_proof.specs.glue.Worlds.{cell, HoldsAt}
+use Rattle.tg_translate_proof.specs.glue.Situations.{Program, Part, Setting, IsReady, IsNear, with_temps}
 use Rattle.tg_translate_proof.proofs.state.StatesGrow.{place_grows, grows_by}
 use Rattle.tg_translate_proof.proofs.state.NamesInSight.{IsSeenVariable, is_seen, is_near}
 use Rattle.tg_translate_proof.proofs.expressions.LValueAddress.{Premises, SeenVariable}

@@ -20,17 +20,17 @@ use Rattle.tg_tree.specs.Actions.{World, Temps, set_temp, Go, Next, over}
 use Rattle.tg_translate.specs.declared.homes.Within.{Within}
 use Rattle.tg_translate.specs.declared.wants.Want.{Want}
 use Rattle.tg_translate.specs.declared.wants.Want.TheVariants as want
-use Rattle.tg_translate.specs.States.{TranslationState, drawn, Translates}
-use Rattle.tg_translate.specs.Wants.{Made, value_of, test_of, put_in, dropped, value_from, condition_from, arm_from, statement_from}
-use Rattle.tg_translate.specs.Translate.{expression}
-use Rattle.tg_correct.specs.Laws.{tree_work}
-use Rattle.tg_translate_proof.specs.Tables.{Later, IsMoment}
-use Rattle.tg_translate_proof.specs.Worlds.{Holdings, Stands, GrowsTo, Places, Scene, Key, IsOf}
-use Rattle.tg_translate_proof.specs.Situations as situations
-use Rattle.tg_translate_proof.specs.Situations.{Program, Part, Setting, Holds, IsReady, IsCovered, MayAssign, Extends, Along}
-use Rattle.tg_translate_proof.specs.Situations.{value_runs, test_runs, statement_runs}
-use Rattle.tg_translate_proof.specs.Shown.{Shown, SituationBy, IsWantable, IsWanted, left_over, is_set, evaluates, FollowsHere}
-use Rattle.tg_translate_proof.specs.Shown.{Onward, MadeFollows, IsNamed}
+use Rattle.tg_translate.specs.mirror.States.{TranslationState, drawn, Translates}
+use Rattle.tg_translate.specs.mirror.Wants.{Made, value_of, test_of, put_in, dropped, value_from, condition_from, arm_from, statement_from}
+use Rattle.tg_translate.specs.mirror.Translate.{expression}
+use Rattle.tg_correct.specs.laws.Laws.{tree_work}
+use Rattle.tg_translate_proof.specs.glue.Tables.{Later, IsMoment}
+use Rattle.tg_translate_proof.specs.glue.Worlds.{Holdings, Stands, GrowsTo, Places, Scene, Key, IsOf}
+use Rattle.tg_translate_proof.specs.glue.Situations as situations
+use Rattle.tg_translate_proof.specs.glue.Situations.{Program, Part, Setting, Holds, IsReady, IsCovered, MayAssign, Extends, Along}
+use Rattle.tg_translate_proof.specs.glue.Situations.{value_runs, test_runs, statement_runs}
+use Rattle.tg_translate_proof.specs.glue.Shown.{Shown, SituationBy, IsWantable, IsWanted, left_over, is_set, evaluates, FollowsHere}
+use Rattle.tg_translate_proof.specs.glue.Shown.{Onward, MadeFollows, IsNamed}
 use Rattle.tg_translate_proof.proofs.state.TranslationStates.{made_in, state_in, after_inv, later_none, later_on, later_value, moment_before, found_later}
 use Rattle.tg_translate_proof.proofs.expressions.BinaryLeft.{LeftSide}
 use Rattle.tg_translate_proof.proofs.invariant.Cases.{value_follows, condition_follows, arm_follows, dropped_follows, grows_none, grows_on}

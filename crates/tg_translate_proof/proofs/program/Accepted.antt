@@ -23,15 +23,15 @@ use Rattle.tg_types.proofs.Derivations.{checked_has_type}
 use Rattle.tg_types.proofs.NotesFound.{notes_are_found}
 use Rattle.tg_translate_laws.proofs.Counts.{same, times, times-append, same_self, same_not}
 use Rattle.tg_translate.specs.declared.wants.Want.TheVariants as want
-use Rattle.tg_translate.specs.States.{TranslationState, Translated}
-use Rattle.tg_translate.specs.Scopes.{Findings}
-use Rattle.tg_translate.specs.Wants.{Made}
-use Rattle.tg_translate.specs.Functions as functions
-use Rattle.tg_translate.specs.Translate.{expression}
-use Rattle.tg_translate_proof.specs.Tables.{Table}
+use Rattle.tg_translate.specs.mirror.States.{TranslationState, Translated}
+use Rattle.tg_translate.specs.mirror.Scopes.{Findings}
+use Rattle.tg_translate.specs.mirror.Wants.{Made}
+use Rattle.tg_translate.specs.mirror.Functions as functions
+use Rattle.tg_translate.specs.mirror.Translate.{expression}
+use Rattle.tg_translate_proof.specs.glue.Tables.{Table}
 use Rattle.tg_translate_proof.specs.Bounds.{bound_by, declared_at}
-use Rattle.tg_translate_proof.specs.Covered.{Covers}
-use Rattle.tg_translate_proof.specs.Laws.{findings_of}
+use Rattle.tg_translate_proof.specs.glue.Covered.{Covers}
+use Rattle.tg_translate_proof.specs.laws.Laws.{findings_of}
 use Rattle.tg_translate_proof.proofs.state.TranslationStates.{state_in, behind_none}
 use Rattle.tg_translate_proof.proofs.program.Program.{first_state}
 use Rattle.tg_translate_proof.proofs.invariant.Covered.{Declares, HasVariable, IsWeighed, AllFound, covers, first_here, first_stands}

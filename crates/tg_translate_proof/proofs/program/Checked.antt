@@ -22,26 +22,26 @@ use Rattle.tg_tree.specs.FrameSizes.{innermost}
 use Rattle.tg_tree.specs.Running.{function_of}
 use Rattle.tg_runtime.specs.declared.routines.Routine.{Routine}
 use Rattle.tg_runtime.specs.declared.routines.Routine.TheVariants as routine
-use Rattle.tg_runtime.specs.Labels.{label_of}
-use Rattle.tg_runtime.specs.Routines.{runtime}
+use Rattle.tg_runtime.specs.mirror.Labels.{label_of}
+use Rattle.tg_runtime.specs.mirror.Routines.{runtime}
 use Rattle.tg_runtime_proof.specs.Settings.{HasRuntime}
 use Rattle.tg_runtime_proof.proofs.Running.{with_runtime_behind}
 use Rattle.tg_translate.specs.declared.homes.Home.{Home}
 use Rattle.tg_translate.specs.declared.homes.Callee.{Callee}
 use Rattle.tg_translate.specs.declared.wants.Want.TheVariants as want
-use Rattle.tg_translate.specs.States.{TranslationState, Translated, drawn, after}
-use Rattle.tg_translate.specs.Wants.{Made}
-use Rattle.tg_translate.specs.Functions as functions
-use Rattle.tg_translate.specs.Functions.{with_body, gives_nothing, closing, program, program_of}
+use Rattle.tg_translate.specs.mirror.States.{TranslationState, Translated, drawn, after}
+use Rattle.tg_translate.specs.mirror.Wants.{Made}
+use Rattle.tg_translate.specs.mirror.Functions as functions
+use Rattle.tg_translate.specs.mirror.Functions.{with_body, gives_nothing, closing, program, program_of}
 use Rattle.tg_translate_laws.proofs.Counts.{same, times, same_self, below, below_yes}
 use Rattle.tg_translate_laws.proofs.Keeping.{about, Asks, Where, Ready, Yields, GoodMade}
 use Rattle.tg_translate_laws.proofs.Shaped.{has_shape, all_once}
 use Rattle.tg_translate_laws.proofs.Shaping.{checked_reaches}
 use Rattle.tg_translate_laws.proofs.Walking.{walked}
-use Rattle.tg_translate_proof.specs.Tables.{Table}
+use Rattle.tg_translate_proof.specs.glue.Tables.{Table}
 use Rattle.tg_translate_proof.specs.Bounds.{measures_of, bound_by, level_by, declared_at}
-use Rattle.tg_translate_proof.specs.Situations.{Program, Setting}
-use Rattle.tg_translate_proof.specs.Laws.{findings_of, own_trees, trees_of, measures_in, bound_in, level_in, MayRun}
+use Rattle.tg_translate_proof.specs.glue.Situations.{Program, Setting}
+use Rattle.tg_translate_proof.specs.laws.Laws.{findings_of, own_trees, trees_of, measures_in, bound_in, level_in, MayRun}
 use Rattle.tg_translate_proof.proofs.state.TranslationStates.{state_in, made_in}
 use Rattle.tg_translate_proof.proofs.program.Program.{first_state}
 use Rattle.tg_translate_proof.proofs.state.Tables.{IsTied, AreTied}

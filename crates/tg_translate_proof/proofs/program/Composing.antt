@@ -2,7 +2,7 @@
 use Rattle.std.proofs.Common.{◌≡◌, ℕ, ◌-◌, List, refl, sym, ap, ◌∙◌}
 use Rattle.tg_state.specs.State.{stack_top}
 use Rattle.tg_simulation.specs.Agreement.{Follows, Agrees}
-use Rattle.tg_simulation.specs.Laws.{NeverEndsFull, NeverStuck}
+use Rattle.tg_simulation.specs.laws.Laws.{NeverEndsFull, NeverStuck}
 use Rattle.tg_simulation.proofs.Agreeing.{following_agrees, following_fills}
 use Rattle.tg_simulation.proofs.Following.{follows_along}
 use Rattle.tg_semantics.specs.Passing.{evaluate_passing}
@@ -13,8 +13,8 @@ use Rattle.tg_types.proofs.NeverStuck.{never_stuck}
 use Rattle.tg_tree.specs.Units.{Trees}
 use Rattle.tg_tree.proofs.TreeRuns.{trees_stay_over}
 use Rattle.tg_tree.proofs.Linked.{linked_stays_over, linked_is_trees}
-use Rattle.tg_correct.specs.Laws.{tree_work, tree_besides}
-use Rattle.tg_translate_proof.specs.Laws.{LinkedTreesFollow, TranslateIsCorrect, MayRun, source_run, trees_run, with_links, trees_of, level_in}
+use Rattle.tg_correct.specs.laws.Laws.{tree_work, tree_besides}
+use Rattle.tg_translate_proof.specs.laws.Laws.{LinkedTreesFollow, TranslateIsCorrect, MayRun, source_run, trees_run, with_links, trees_of, level_in}
 
 module _ (p : CheckedProgram) (size : ℕ → ℕ) (heap stack : ℕ) (input : List ℕ) (may : MayRun p size heap stack input) where
   never_ends_full : NeverEndsFull (source_run p heap stack input)

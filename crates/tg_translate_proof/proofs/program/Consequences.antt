@@ -5,7 +5,7 @@ use Rattle.tg_state.specs.declared.ends.RunEnd.TheVariants.{StackFull}
 use Rattle.tg_simulation.specs.Bytes.{IsPrefix}
 use Rattle.tg_simulation.specs.Ran.{Ran, Ended}
 use Rattle.tg_types.specs.Programs.{CheckedProgram}
-use Rattle.tg_translate_proof.specs.Laws.{MayRun, TranslateIsCorrect, trees_run, EndsAlike, IsFullBefore, LinksOfCallsAreRight, SizesTellNothing}
+use Rattle.tg_translate_proof.specs.laws.Laws.{MayRun, TranslateIsCorrect, trees_run, EndsAlike, IsFullBefore, LinksOfCallsAreRight, SizesTellNothing}
 
 pub links_are_right : TranslateIsCorrect → LinksOfCallsAreRight
 links_are_right kept p size heap stack input may = (kept p size heap stack input may).links

@@ -18,7 +18,7 @@ use Rattle.tg_semantics.specs.Evaluation as evaluation
 use Rattle.tg_semantics.specs.Evaluation.{function_count, with_variable}
 use Rattle.tg_semantics.specs.Passing.{Rest, Passing, passing}
 use Rattle.tg_semantics.specs.MachineEnds.{rest_run}
-use Rattle.tg_semantics.specs.Laws.{behind}
+use Rattle.tg_semantics.specs.laws.Laws.{behind}
 use Rattle.tg_types.specs.Types.{Ty}
 use Rattle.tg_semantics.specs.Environments.{name_of}
 use Rattle.tg_types.specs.Scopes.{Scope, Signature, variable_at, binding, at_of, in_no_loop}
@@ -26,24 +26,24 @@ use Rattle.tg_types.specs.Groups.{with_functions}
 use Rattle.tg_types.specs.Has as has
 use Rattle.tg_types.specs.Has.{Has, HasDecs, HasBodies, Apart}
 use Rattle.tg_tree.specs.Tree.{Ts, Stms, no_stms, stm}
-use Rattle.tg_tree.specs.Lists.{join_stms}
+use Rattle.tg_tree.specs.glue.Lists.{join_stms}
 use Rattle.tg_tree.proofs.ListLaws.{join_stms-none, join_stms-assoc}
 use Rattle.tg_tree.specs.Actions.{World, Temps, Next}
 use Rattle.tg_translate.specs.declared.homes.Within.{Within}
 use Rattle.tg_translate.specs.declared.wants.Want.{Want}
 use Rattle.tg_translate.specs.declared.wants.Want.TheVariants as want
 use Rattle.tg_frame.specs.declared.accesses.Access.TheVariants.{InTemp, InFrame}
-use Rattle.tg_translate.specs.States.{TranslationState, drawn, Translates, one_temp, one_slot}
-use Rattle.tg_translate.specs.Wants.{Made, value_of, followed}
-use Rattle.tg_translate.specs.Functions.{declare_functions}
-use Rattle.tg_translate.specs.Translate.{expression, declarations, declaration_of, bodies}
-use Rattle.tg_correct.specs.Laws.{tree_work}
-use Rattle.tg_translate_proof.specs.Covered.{CoversDecs, CoversFunctions}
-use Rattle.tg_translate_proof.specs.Tables.{Later, HasFound}
-use Rattle.tg_translate_proof.specs.Worlds.{Holdings, GrowsTo, Key, temporary, variable, kept, Places}
-use Rattle.tg_translate_proof.specs.Situations as situations
-use Rattle.tg_translate_proof.specs.Situations.{Program, Part, Setting, Holds, IsReady, AreDone, Extends, statement_runs, statements_run}
-use Rattle.tg_translate_proof.specs.Shown.{Shown, FollowsHere, left_over}
+use Rattle.tg_translate.specs.mirror.States.{TranslationState, drawn, Translates, one_temp, one_slot}
+use Rattle.tg_translate.specs.mirror.Wants.{Made, value_of, followed}
+use Rattle.tg_translate.specs.mirror.Functions.{declare_functions}
+use Rattle.tg_translate.specs.mirror.Translate.{expression, declarations, declaration_of, bodies}
+use Rattle.tg_correct.specs.laws.Laws.{tree_work}
+use Rattle.tg_translate_proof.specs.glue.Covered.{CoversDecs, CoversFunctions}
+use Rattle.tg_translate_proof.specs.glue.Tables.{Later, HasFound}
+use Rattle.tg_translate_proof.specs.glue.Worlds.{Holdings, GrowsTo, Key, temporary, variable, kept, Places}
+use Rattle.tg_translate_proof.specs.glue.Situations as situations
+use Rattle.tg_translate_proof.specs.glue.Situations.{Program, Part, Setting, Holds, IsReady, AreDone, Extends, statement_runs, statements_run}
+use Rattle.tg_translate_proof.specs.glue.Shown.{Shown, FollowsHere, left_over}
 use Rattle.tg_translate_proof.proofs.state.TranslationStates.{made_in, state_in, after_inv, later_none, later_on, later_value, behind_none, front_none}
 use Rattle.tg_translate_proof.proofs.invariant.Cases.{grows_none, grows_on}
 use Rattle.tg_translate_proof.proofs.invariant.Parts.{StatesGrow, more, extends_none, extends_on}

@@ -16,12 +16,12 @@ use Rattle.tg_tree.specs.Actions.{World}
 use Rattle.tg_runtime_proof.specs.Memories.{IsWhole, IsStringAt}
 use Rattle.tg_runtime_proof.proofs.Memories.{offset_below, offset_above}
 use Rattle.tg_runtime_proof.proofs.Literals.{begin_is_whole, literal_is_string, text_of}
-use Rattle.tg_translate.specs.States.{TranslationState}
-use Rattle.tg_translate_proof.specs.Tables.{Table, HasFound}
-use Rattle.tg_translate_proof.specs.Worlds.{Holdings, Stored, unknown, word, part, Key, cell}
-use Rattle.tg_translate_proof.specs.Worlds.{temporary, Content, nowhere, free, Places, AllTemps, IsOf, HoldsAt}
-use Rattle.tg_translate_proof.specs.Worlds.{Invariant, IsText, Scene, IsScene}
-use Rattle.tg_translate_proof.specs.Situations.{Program, Setting, floor}
+use Rattle.tg_translate.specs.mirror.States.{TranslationState}
+use Rattle.tg_translate_proof.specs.glue.Tables.{Table, HasFound}
+use Rattle.tg_translate_proof.specs.glue.Worlds.{Holdings, Stored, unknown, word, part, Key, cell}
+use Rattle.tg_translate_proof.specs.glue.Worlds.{temporary, Content, nowhere, free, Places, AllTemps, IsOf, HoldsAt}
+use Rattle.tg_translate_proof.specs.glue.Worlds.{Invariant, IsText, Scene, IsScene}
+use Rattle.tg_translate_proof.specs.glue.Situations.{Program, Setting, floor}
 
 -- The slots of the first frame.
 

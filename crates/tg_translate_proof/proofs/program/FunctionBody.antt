@@ -18,7 +18,7 @@ use Rattle.tg_semantics.specs.Evaluation.{Job, run_function}
 use Rattle.tg_semantics.specs.Levels.{function_weight}
 use Rattle.tg_semantics.specs.Passing.{Rest, Passing, passing, ends}
 use Rattle.tg_semantics.specs.MachineEnds.{rest_run, as_source}
-use Rattle.tg_semantics.specs.Laws.{behind}
+use Rattle.tg_semantics.specs.laws.Laws.{behind}
 use Rattle.tg_semantics.proofs.Unfolding.{fuel_unfolds}
 use Rattle.tg_simulation.specs.Outcomes.{stuck}
 use Rattle.tg_types.specs.Types.{Ty, none_type}
@@ -36,18 +36,18 @@ use Rattle.tg_tree.specs.Links.{LinkedPoint}
 use Rattle.tg_tree.proofs.Linked.{linked_own}
 use Rattle.tg_runtime_proof.proofs.Calling.{placed_world, placed_temps}
 use Rattle.tg_translate.specs.declared.homes.Within.{Within}
-use Rattle.tg_translate.specs.States.{TranslationState, drawn}
-use Rattle.tg_translate.specs.Wants.{Made, done}
-use Rattle.tg_translate.specs.Functions.{asked, own_homes, frame_for, opened as opened_state, inside, closing, result_want, with_body, parameters}
-use Rattle.tg_translate.specs.Translate.{expression}
-use Rattle.tg_correct.specs.Laws.{tree_work}
-use Rattle.tg_translate_proof.specs.Covered.{with_level, Covers}
-use Rattle.tg_translate_proof.specs.Tables.{IsMoment, Later, HasFound}
-use Rattle.tg_translate_proof.specs.Worlds.{Holdings, Stands, Places, Key, cell, temporary, nowhere, fixed}
-use Rattle.tg_translate_proof.specs.Worlds.{AllTemps, GrowsTo, Scene, IsScene}
-use Rattle.tg_translate_proof.specs.Situations.{Program, Setting, Part, floor, with_temps, Extends, Holds, IsReady}
-use Rattle.tg_translate_proof.specs.Situations.{frames_of, frames_at, calling, heads, going, statement_runs}
-use Rattle.tg_translate_proof.specs.Shown.{FollowsHere, Shown, evaluates}
+use Rattle.tg_translate.specs.mirror.States.{TranslationState, drawn}
+use Rattle.tg_translate.specs.mirror.Wants.{Made, done}
+use Rattle.tg_translate.specs.mirror.Functions.{asked, own_homes, frame_for, opened as opened_state, inside, closing, result_want, with_body, parameters}
+use Rattle.tg_translate.specs.mirror.Translate.{expression}
+use Rattle.tg_correct.specs.laws.Laws.{tree_work}
+use Rattle.tg_translate_proof.specs.glue.Covered.{with_level, Covers}
+use Rattle.tg_translate_proof.specs.glue.Tables.{IsMoment, Later, HasFound}
+use Rattle.tg_translate_proof.specs.glue.Worlds.{Holdings, Stands, Places, Key, cell, temporary, nowhere, fixed}
+use Rattle.tg_translate_proof.specs.glue.Worlds.{AllTemps, GrowsTo, Scene, IsScene}
+use Rattle.tg_translate_proof.specs.glue.Situations.{Program, Setting, Part, floor, with_temps, Extends, Holds, IsReady}
+use Rattle.tg_translate_proof.specs.glue.Situations.{frames_of, frames_at, calling, heads, going, statement_runs}
+use Rattle.tg_translate_proof.specs.glue.Shown.{FollowsHere, Shown, evaluates}
 use Rattle.tg_translate_proof.proofs.state.TranslationStates.{after_inv, moment_before}
 use Rattle.tg_translate_proof.proofs.invariant.Parts.{StatesGrow}
 use Rattle.tg_translate_proof.proofs.state.OneKey.{put_place, put_here}

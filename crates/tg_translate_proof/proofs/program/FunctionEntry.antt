@@ -19,7 +19,7 @@ use Rattle.tg_semantics.specs.Evaluation as evaluation
 use Rattle.tg_semantics.specs.Levels.{levels_of}
 use Rattle.tg_semantics.specs.Passing.{Rest, Passing, passing}
 use Rattle.tg_semantics.specs.MachineEnds.{rest_run}
-use Rattle.tg_semantics.specs.Laws.{behind}
+use Rattle.tg_semantics.specs.laws.Laws.{behind}
 use Rattle.tg_types.specs.Types.{Ty}
 use Rattle.tg_semantics.specs.Environments.{name_of}
 use Rattle.tg_types.specs.Scopes.{Scope, Binding, variable_at, function_at, standard_one, at_of, binding}
@@ -29,20 +29,20 @@ use Rattle.tg_tree.specs.Memory.{Memory, Closed, lay, slot}
 use Rattle.tg_tree.specs.Actions.{World, Temps, set_temp}
 use Rattle.tg_runtime_proof.proofs.Calling.{placed_world, placed_temps}
 use Rattle.tg_translate.specs.declared.homes.Home.{Home}
-use Rattle.tg_translate.specs.States.{TranslationState}
-use Rattle.tg_translate.specs.Functions.{parameters}
-use Rattle.tg_translate_proof.specs.Tables.{Table, IsSuffix, IsMoment, Later, HasFound}
-use Rattle.tg_translate_proof.specs.Worlds.{Holdings, Stands, Places, Key, cell, temporary, Content, nowhere, free, variable, kept, fixed}
-use Rattle.tg_translate_proof.specs.Worlds.{HoldsAt, word_of, AllTemps, IsOf, Invariant, Scene}
-use Rattle.tg_translate_proof.specs.Situations as situations
-use Rattle.tg_translate_proof.specs.Situations.{Program, Setting, floor, with_temps, Along, Extends, key_of, IsNear}
-use Rattle.tg_translate_proof.specs.Shown.{FollowsHere}
+use Rattle.tg_translate.specs.mirror.States.{TranslationState}
+use Rattle.tg_translate.specs.mirror.Functions.{parameters}
+use Rattle.tg_translate_proof.specs.glue.Tables.{Table, IsSuffix, IsMoment, Later, HasFound}
+use Rattle.tg_translate_proof.specs.glue.Worlds.{Holdings, Stands, Places, Key, cell, temporary, Content, nowhere, free, variable, kept, fixed}
+use Rattle.tg_translate_proof.specs.glue.Worlds.{HoldsAt, word_of, AllTemps, IsOf, Invariant, Scene}
+use Rattle.tg_translate_proof.specs.glue.Situations as situations
+use Rattle.tg_translate_proof.specs.glue.Situations.{Program, Setting, floor, with_temps, Along, Extends, key_of, IsNear}
+use Rattle.tg_translate_proof.specs.glue.Shown.{FollowsHere}
 use Rattle.tg_translate_proof.proofs.state.TranslationStates.{behind_none, behind_on, front_none, moment_before, found_later}
 use Rattle.tg_translate_proof.proofs.invariant.Parts.{paid, more, along_on, extends_none, extends_on}
 use Rattle.tg_translate_proof.proofs.state.OneKey.{put_place, by_key, put_here, put_other, by_use, used_is, held_same, get_front, get_last}
 use Rattle.tg_translate_proof.proofs.state.OneKey.{relaid_none, moved}
 use Rattle.tg_translate_proof.proofs.expressions.CallArguments.{StandAll}
-use Rattle.tg_translate_proof.specs.Situations.{GroupsFit}
+use Rattle.tg_translate_proof.specs.glue.Situations.{GroupsFit}
 use Rattle.tg_translate_proof.proofs.state.NewFrames.{HasRoom, NewFrame, Opened, IsNext, a_slot, a_temp, next_is_no_variable, slot_variable, temp_variable}
 use Rattle.tg_translate_proof.proofs.state.NewFrames.{put_slot, lay_relaid, lay_above, lay_cells}
 

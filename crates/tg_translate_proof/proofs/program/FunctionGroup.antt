@@ -23,12 +23,12 @@ use Rattle.tg_tree.specs.Tree.{Ts, Function}
 use Rattle.tg_tree.specs.Running.{function_of}
 use Rattle.tg_translate.specs.declared.homes.Callee.{Callee}
 use Rattle.tg_translate.specs.declared.homes.Within.{Within}
-use Rattle.tg_translate.specs.States.{TranslationState, Frame, Translated, drawn, after}
-use Rattle.tg_translate.specs.Functions.{at_of, asked, frame_for, opened, with_body, finish, finished, body, body_in, declare_functions}
-use Rattle.tg_translate.specs.Translate.{expression, bodies}
-use Rattle.tg_translate_proof.specs.Covered.{Keeping, CoversFunctions}
-use Rattle.tg_translate_proof.specs.Tables.{Later, IsMoment, HasFound}
-use Rattle.tg_translate_proof.specs.Situations.{Program, Part, Setting, IsDone, AreDone}
+use Rattle.tg_translate.specs.mirror.States.{TranslationState, Frame, Translated, drawn, after}
+use Rattle.tg_translate.specs.mirror.Functions.{at_of, asked, frame_for, opened, with_body, finish, finished, body, body_in, declare_functions}
+use Rattle.tg_translate.specs.mirror.Translate.{expression, bodies}
+use Rattle.tg_translate_proof.specs.glue.Covered.{Keeping, CoversFunctions}
+use Rattle.tg_translate_proof.specs.glue.Tables.{Later, IsMoment, HasFound}
+use Rattle.tg_translate_proof.specs.glue.Situations.{Program, Part, Setting, IsDone, AreDone}
 use Rattle.tg_translate_proof.proofs.state.TranslationStates.{made_in, state_in, after_inv, behind_none, behind_on, front_none, later_none, later_on}
 use Rattle.tg_translate_proof.proofs.state.TranslationStates.{moment_before, found_later}
 use Rattle.tg_translate_proof.proofs.invariant.Parts.{StatesGrow}

@@ -10,15 +10,15 @@ use Rattle.tg_types.specs.Has.{Fits, GivesBack, the_same, nil_for}
 use Rattle.tg_tree.specs.Tree.{Tx, Ts}
 use Rattle.tg_tree.specs.Actions.{World, Temps, Go, Next, charged}
 use Rattle.tg_translate.specs.declared.wants.Want.TheVariants as want
-use Rattle.tg_translate.specs.States.{TranslationState, drawn}
-use Rattle.tg_translate.specs.Wants.{Made, value_of, dropped}
-use Rattle.tg_translate.specs.Functions.{closing, result_want}
-use Rattle.tg_translate.specs.Returning.{given_back}
-use Rattle.tg_correct.specs.Laws.{tree_work}
-use Rattle.tg_translate_proof.specs.Tables.{Later}
-use Rattle.tg_translate_proof.specs.Worlds.{Holdings, Stands, a_nil, a_nil_record, GrowsTo, temporary, nowhere}
-use Rattle.tg_translate_proof.specs.Situations.{Program, Part, Holds, Extends, statement_runs}
-use Rattle.tg_translate_proof.specs.Shown.{FollowsHere, MadeFollows, IsWantable}
+use Rattle.tg_translate.specs.mirror.States.{TranslationState, drawn}
+use Rattle.tg_translate.specs.mirror.Wants.{Made, value_of, dropped}
+use Rattle.tg_translate.specs.mirror.Functions.{closing, result_want}
+use Rattle.tg_translate.specs.mirror.Returning.{given_back}
+use Rattle.tg_correct.specs.laws.Laws.{tree_work}
+use Rattle.tg_translate_proof.specs.glue.Tables.{Later}
+use Rattle.tg_translate_proof.specs.glue.Worlds.{Holdings, Stands, a_nil, a_nil_record, GrowsTo, temporary, nowhere}
+use Rattle.tg_translate_proof.specs.glue.Situations.{Program, Part, Holds, Extends, statement_runs}
+use Rattle.tg_translate_proof.specs.glue.Shown.{FollowsHere, MadeFollows, IsWantable}
 use Rattle.tg_translate_proof.proofs.state.TranslationStates.{made_in, state_in, after_inv, later_none, later_value}
 use Rattle.tg_translate_proof.proofs.invariant.Cases.{value_follows, dropped_follows, worked}
 use Rattle.tg_translate_proof.proofs.program.ReturnedArms.{given_back_follows}

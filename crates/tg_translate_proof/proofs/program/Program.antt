@@ -33,25 +33,25 @@ use Rattle.tg_tree.specs.Links.{linked_run, run_linked_body}
 use Rattle.tg_tree.proofs.Linked.{linked_own}
 use Rattle.tg_runtime_proof.proofs.Literals.{text_of}
 use Rattle.tg_translate.specs.declared.wants.Want.TheVariants as want
-use Rattle.tg_translate.specs.States.{TranslationState, drawn}
-use Rattle.tg_translate.specs.Wants.{Made, dropped}
-use Rattle.tg_translate.specs.Functions as functions
-use Rattle.tg_translate.specs.Functions.{beginning, frame_for, with_body, gives_nothing}
-use Rattle.tg_translate.specs.Translate.{expression}
-use Rattle.tg_correct.specs.Laws.{tree_work, tree_besides}
-use Rattle.tg_translate_proof.specs.Tables.{IsMoment}
-use Rattle.tg_translate_proof.specs.Covered.{Covers}
-use Rattle.tg_translate_proof.specs.Worlds.{cell, temporary, kept, free}
-use Rattle.tg_translate_proof.specs.Situations as situations
-use Rattle.tg_translate_proof.specs.Situations.{Program, Part, Setting, Holds, IsReady, floor, statement_runs, nothing_declared, with_temps}
-use Rattle.tg_translate_proof.specs.Shown.{ExpressionFollows, Situation, FollowsHere, evaluates}
+use Rattle.tg_translate.specs.mirror.States.{TranslationState, drawn}
+use Rattle.tg_translate.specs.mirror.Wants.{Made, dropped}
+use Rattle.tg_translate.specs.mirror.Functions as functions
+use Rattle.tg_translate.specs.mirror.Functions.{beginning, frame_for, with_body, gives_nothing}
+use Rattle.tg_translate.specs.mirror.Translate.{expression}
+use Rattle.tg_correct.specs.laws.Laws.{tree_work, tree_besides}
+use Rattle.tg_translate_proof.specs.glue.Tables.{IsMoment}
+use Rattle.tg_translate_proof.specs.glue.Covered.{Covers}
+use Rattle.tg_translate_proof.specs.glue.Worlds.{cell, temporary, kept, free}
+use Rattle.tg_translate_proof.specs.glue.Situations as situations
+use Rattle.tg_translate_proof.specs.glue.Situations.{Program, Part, Setting, Holds, IsReady, floor, statement_runs, nothing_declared, with_temps}
+use Rattle.tg_translate_proof.specs.glue.Shown.{ExpressionFollows, Situation, FollowsHere, evaluates}
 use Rattle.tg_translate_proof.proofs.invariant.Cases.{dropped_follows}
 use Rattle.tg_translate_proof.proofs.state.StatesGrow.{expression_grows, frame_by, FrameStays}
 use Rattle.std.specs.Str.{bytes_eq}
 use Rattle.tg_semantics.specs.declared.standards.Standard.{Standard}
 use Rattle.tg_semantics.specs.Values.{standard, Entry}
 use Rattle.tg_semantics.specs.Environments.{standards, standards_of, standard_text, outermost_from}
-use Rattle.tg_translate_proof.specs.Situations.{GroupsFit}
+use Rattle.tg_translate_proof.specs.glue.Situations.{GroupsFit}
 use Rattle.tg_translate_proof.proofs.program.FirstActivation.{first_source, first_world, first_scene, first_places, first_invariant, first_literal}
 use Rattle.tg_translate_proof.proofs.program.FirstActivation.{first_is_scene, h0, statics_are, content_of, in_slots, no_levels, outermost_found}
 use Rattle.tg_translate_proof.proofs.invariant.Parts.{stop_follows}

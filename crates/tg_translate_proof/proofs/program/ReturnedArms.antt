@@ -22,9 +22,9 @@ use Rattle.tg_tree.proofs.Relating.{keep_value, keep_test, keep_run}
 use Rattle.tg_tree.proofs.Going.{one, OneWorld, OneTemps, KeepsRuns, keeps_one}
 use Rattle.tg_tree.proofs.Entering.{BodiesKeep, keep_call_in}
 use Rattle.tg_tree.proofs.Linked.{Like, like, keep_linked_step, linked_own}
-use Rattle.tg_translate.specs.Returning.{returned, returned_behind, returned_from, returned_last, all_returned_from, in_turn}
-use Rattle.tg_translate.specs.Returning.{given_back, value_has_loop}
-use Rattle.tg_translate_proof.specs.Situations.{Program, Part, floor, calling, going, heads, frames_at, value_runs, statement_runs}
+use Rattle.tg_translate.specs.mirror.Returning.{returned, returned_behind, returned_from, returned_last, all_returned_from, in_turn}
+use Rattle.tg_translate.specs.mirror.Returning.{given_back, value_has_loop}
+use Rattle.tg_translate_proof.specs.glue.Situations.{Program, Part, floor, calling, going, heads, frames_at, value_runs, statement_runs}
 
 -- Runs over calls and loops of a program, within frames, keep a relation that the steps keep.
 module _ (P : Program) (R : Related) (keeps : Keeps R OneWorld OneTemps) where

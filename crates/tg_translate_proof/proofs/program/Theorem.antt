@@ -12,17 +12,17 @@ use Rattle.tg_types.specs.Derivations.{Derivation}
 use Rattle.tg_types.proofs.Derivations.{checked_has_type}
 use Rattle.tg_tree.specs.Tree.{Ts, Function, Literal}
 use Rattle.tg_tree.specs.Running.{function_of}
-use Rattle.tg_runtime.specs.Routines.{runtime}
+use Rattle.tg_runtime.specs.mirror.Routines.{runtime}
 use Rattle.tg_translate_laws.specs.Strings.{strings}
 use Rattle.tg_translate_laws.proofs.Counts.{times}
 use Rattle.tg_translate_laws.proofs.Measured as measured
 use Rattle.tg_translate.specs.declared.wants.Want.TheVariants as want
-use Rattle.tg_translate.specs.Functions as functions
-use Rattle.tg_translate_proof.specs.Tables.{IsMoment}
+use Rattle.tg_translate.specs.mirror.Functions as functions
+use Rattle.tg_translate_proof.specs.glue.Tables.{IsMoment}
 use Rattle.tg_translate_proof.specs.Bounds.{bound_by, measures_of}
-use Rattle.tg_translate_proof.specs.Situations.{Program}
-use Rattle.tg_translate_proof.specs.Shown.{ExpressionFollows}
-use Rattle.tg_translate_proof.specs.Laws.{findings_of, own_trees, trees_of, bound_in, MayRun, LinkedTreesFollow, TranslateIsCorrect}
+use Rattle.tg_translate_proof.specs.glue.Situations.{Program}
+use Rattle.tg_translate_proof.specs.glue.Shown.{ExpressionFollows}
+use Rattle.tg_translate_proof.specs.laws.Laws.{findings_of, own_trees, trees_of, bound_in, MayRun, LinkedTreesFollow, TranslateIsCorrect}
 use Rattle.tg_translate_proof.proofs.state.TranslationStates.{behind_none}
 use Rattle.tg_translate_proof.proofs.program.Program.{IsBegun, first_state, program_follows}
 use Rattle.tg_translate_proof.proofs.state.StatesGrow.{expression_grows, FrameStays}

@@ -31,15 +31,17 @@ use Rattle.tg_tree.specs.Actions.{World, Temps, set_temp, Go, Next, with_memory}
 use Rattle.tg_translate.specs.declared.homes.Home.{Home}
 use Rattle.tg_translate.specs.declared.wants.Want.{Want}
 use Rattle.tg_translate.specs.declared.wants.Want.TheVariants as want
-use Rattle.tg_translate.specs.States.{TranslationState, drawn, Translates, after, one_temp, one_slot}
-use Rattle.tg_translate.specs.Wants.{Made, value_of, put_in}
-use Rattle.tg_translate.specs.Constructs.{slot_address}
-use Rattle.tg_translate.specs.Translate.{expression, declaration_of}
-use Rattle.tg_translate_proof.specs.Tables.{Later, IsMoment, IsSuffix}
-use Rattle.tg_translate_proof.specs.Worlds.{Holdings, unknown, Stands, GrowsTo, Key, cell, temporary, Content, nowhere, free, variable, kept, fixed, Places, IsOf, HoldsAt, Invariant}
-use Rattle.tg_translate_proof.specs.Situations as situations
-use Rattle.tg_translate_proof.specs.Situations.{Program, Part, Setting, Holds, IsReady, IsCovered, MayAssign, Extends, with_temps, floor, key_of, statement_runs, value_runs}
-use Rattle.tg_translate_proof.specs.Shown.{Shown, FollowsHere, left_over, evaluates}
+use Rattle.tg_translate.specs.mirror.States.{TranslationState, drawn, Translates, after, one_temp, one_slot}
+use Rattle.tg_translate.specs.mirror.Wants.{Made, value_of, put_in}
+use Rattle.tg_translate.specs.mirror.Constructs.{slot_address}
+use Rattle.tg_translate.specs.mirror.Translate.{expression, declaration_of}
+use Rattle.tg_translate_proof.specs.glue.Tables.{Later, IsMoment, IsSuffix}
+use Rattle.tg_translate_proof.specs.glue.Worlds.{Holdings, unknown, Stands, GrowsTo, Key, cell, temporary, Content, nowhere, free, variable, kept, fixed}
+use Rattle.tg_translate_proof.specs.glue.Worlds.{Places, IsOf, HoldsAt, Invariant}
+use Rattle.tg_translate_proof.specs.glue.Situations as situations
+use Rattle.tg_translate_proof.specs.glue.Situations.{Program, Part, Setting, Holds, IsReady, IsCovered, MayAssign, Extends, with_temps, floor, key_of}
+use Rattle.tg_translate_proof.specs.glue.Situations.{statement_runs, value_runs}
+use Rattle.tg_translate_proof.specs.glue.Shown.{Shown, FollowsHere, left_over, evaluates}
 use Rattle.tg_translate_proof.proofs.state.TranslationStates.{made_in, state_in, after_inv, later_none, later_on, later_value, behind_none, behind_on, front_none, found_later, moment_before}
 use Rattle.tg_translate_proof.proofs.invariant.Cases.{worked, grows_none, grows_on}
 use Rattle.tg_translate_proof.proofs.invariant.Parts.{StatesGrow, more, paid, along_on, ready_part, extends_none, extends_on}
@@ -116,7 +118,7 @@ module _ (P : Program) (set : Setting P) where
       let mu : IsMoment P.table P.code u = moment_before P.table P.code u τ m l2 in
       let behind_ : IsSuffix P.table.homes s.homes = behind_on mu.homes l1.homes in
       let here : looked_up at s.homes ≡ Some home =
-          ap (λ o. looked_up at o) first ∙ ap (λ b. if b then Some home else looked_up at homes) (eq-eqb at at refl) in
+      ap (λ o. looked_up at o) first ∙ ap (λ b. if b then Some home else looked_up at homes) (eq-eqb at at refl) in
       let tabled : looked_up at P.table.homes ≡ Some home = set.homes_once at home behind_.more s.homes behind_.whole_is here in
       ((found_later P set s u ((name_of x, variable_at at int_type false) ∷ []) l1 mu (here ∙ sym tabled, tt)).0, tabled)
 

@@ -16,9 +16,9 @@ use Rattle.tg_tree.specs.Actions.{World}
 use Rattle.tg_tree.specs.Running.{function_of}
 use Rattle.tg_tree.specs.Links.{first_is}
 use Rattle.tg_runtime_proof.proofs.Calling.{placed_world}
-use Rattle.tg_translate.specs.Functions.{own_homes}
-use Rattle.tg_translate_proof.specs.Worlds.{Holdings}
-use Rattle.tg_translate_proof.specs.Situations.{frames_of}
+use Rattle.tg_translate.specs.mirror.Functions.{own_homes}
+use Rattle.tg_translate_proof.specs.glue.Worlds.{Holdings}
+use Rattle.tg_translate_proof.specs.glue.Situations.{frames_of}
 use Rattle.tg_translate_proof.proofs.program.FunctionEntry.{IsGiven, none_given, one_given}
 
 -- Lists of frames.

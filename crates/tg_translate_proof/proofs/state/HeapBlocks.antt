@@ -11,10 +11,12 @@ use Rattle.tg_types.specs.Types.{Ty, Shape}
 use Rattle.tg_tree.specs.Memory.{Memory, Closed, load}
 use Rattle.tg_tree.specs.Actions.{World, Temps}
 use Rattle.tg_runtime_proof.specs.Memories.{IsMemory}
-use Rattle.tg_runtime_proof.specs.Serving.{with_block}
+use Rattle.tg_runtime_proof.specs.laws.Serving.{with_block}
 use Rattle.tg_runtime_proof.proofs.Memories.{blocked, block_apart, block_there, blocked_whole}
-use Rattle.tg_translate_proof.specs.Worlds as worlds
-use Rattle.tg_translate_proof.specs.Worlds.{Holdings, Stored, unknown, word, part, Made, GrowsTo, IsLaid, laid_record, laid_array, Stands, Invariant, Places, AllTemps, Key, cell, temporary, Content, nowhere, free, variable, kept, fixed, HoldsAt, HoldsVariable, word_of}
+use Rattle.tg_translate_proof.specs.glue.Worlds as worlds
+use Rattle.tg_translate_proof.specs.glue.Worlds.{Holdings, Stored, unknown, word, part, Made, GrowsTo, IsLaid, laid_record, laid_array, Stands, Invariant}
+use Rattle.tg_translate_proof.specs.glue.Worlds.{Places, AllTemps, Key, cell, temporary, Content, nowhere, free, variable, kept, fixed, HoldsAt, HoldsVariable}
+use Rattle.tg_translate_proof.specs.glue.Worlds.{word_of}
 use Rattle.tg_translate_proof.proofs.state.ValueWords.{stands_grows}
 
 -- What a block that is made relies on: a part is one of an object that there is, and an object begins in the heap that is

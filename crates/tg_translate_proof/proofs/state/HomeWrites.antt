@@ -11,11 +11,11 @@ use Rattle.tg_tree.specs.Actions.{World, Temps, set_temp}
 use Rattle.tg_runtime_proof.specs.Memories.{IsWhole}
 use Rattle.tg_runtime_proof.proofs.Memories.{spot_above, load_by}
 use Rattle.tg_runtime_proof.proofs.Stores.{IsStored, can_lay}
-use Rattle.tg_translate_proof.specs.Worlds.{Holdings, unknown, Stands, Key, cell, temporary, Content, nowhere, free, variable, kept, fixed, Places, AllTemps}
-use Rattle.tg_translate_proof.specs.Worlds.{word_of, HoldsVariable, HoldsAt, IsOf, Invariant, Scene, IsScene}
-use Rattle.tg_translate_proof.specs.Situations as situations
-use Rattle.tg_translate_proof.specs.Situations.{Program, Part, Setting, Holds, IsReady, with_temps, floor}
-use Rattle.tg_translate_proof.specs.Tables.{Later}
+use Rattle.tg_translate_proof.specs.glue.Worlds.{Holdings, unknown, Stands, Key, cell, temporary, Content, nowhere, free, variable, kept, fixed, Places}
+use Rattle.tg_translate_proof.specs.glue.Worlds.{AllTemps, word_of, HoldsVariable, HoldsAt, IsOf, Invariant, Scene, IsScene}
+use Rattle.tg_translate_proof.specs.glue.Situations as situations
+use Rattle.tg_translate_proof.specs.glue.Situations.{Program, Part, Setting, Holds, IsReady, with_temps, floor}
+use Rattle.tg_translate_proof.specs.glue.Tables.{Later}
 use Rattle.tg_translate_proof.proofs.invariant.Cases.{set_here, two}
 use Rattle.tg_translate_proof.proofs.state.Keys.{put_place, put_here, IsPut, put_is, same_is, back_is, Changed, changed_keeps, is_old, held_word, own_temps, of_is_used}
 use Rattle.tg_translate_proof.proofs.state.Keys.{get_front, get_last, get_set, get_other, set_length, lengths_grow}

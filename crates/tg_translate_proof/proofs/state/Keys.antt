@@ -11,9 +11,10 @@ use Rattle.tg_types.specs.Types.{Ty, Shape}
 use Rattle.tg_tree.specs.Memory.{Memory, Closed, load}
 use Rattle.tg_tree.specs.Actions.{World, Temps, set_temp}
 use Rattle.tg_runtime_proof.specs.Memories.{IsWhole, IsMemory}
-use Rattle.tg_translate_proof.specs.Worlds.{Holdings, unknown, word, part, Made, Stands, IsLaid, laid_record, laid_array, Key, cell, temporary, Content}
-use Rattle.tg_translate_proof.specs.Worlds.{nowhere, free, variable, kept, fixed, Places, AllTemps, word_of, HoldsVariable, HoldsAt, IsOf, Invariant, Scene, IsScene}
-use Rattle.tg_translate_proof.specs.Situations.{with_temps}
+use Rattle.tg_translate_proof.specs.glue.Worlds.{Holdings, unknown, word, part, Made, Stands, IsLaid, laid_record, laid_array, Key, cell, temporary, Content}
+use Rattle.tg_translate_proof.specs.glue.Worlds.{nowhere, free, variable, kept, fixed, Places, AllTemps, word_of, HoldsVariable, HoldsAt, IsOf, Invariant}
+use Rattle.tg_translate_proof.specs.glue.Worlds.{Scene, IsScene}
+use Rattle.tg_translate_proof.specs.glue.Situations.{with_temps}
 use Rattle.tg_translate_proof.proofs.invariant.Cases.{set_here, two}
 use Rattle.tg_translate_proof.proofs.expressions.BinarySides.{both_true}
 

@@ -26,12 +26,12 @@ use Rattle.tg_types.specs.Scopes.{at_of, binding, standard_of, entry, standard_b
 use Rattle.tg_types.specs.Groups.{with_functions}
 use Rattle.tg_types.specs.Has.{Apart, HasValues}
 use Rattle.tg_translate.specs.declared.homes.Home.{Home}
-use Rattle.tg_translate.specs.States.{TranslationState}
-use Rattle.tg_translate_proof.specs.Tables.{HasFound}
-use Rattle.tg_translate_proof.specs.Covered.{Keeping, LinksLead, CoversUse, CoversFunctions}
-use Rattle.tg_translate_proof.specs.Worlds.{Places, Scene, IsOf}
-use Rattle.tg_translate_proof.specs.Situations as situations
-use Rattle.tg_translate_proof.specs.Situations.{Program, Setting, AllWeigh, GroupsFit, Along, IsDone, AreDone, IsNear, key_of}
+use Rattle.tg_translate.specs.mirror.States.{TranslationState}
+use Rattle.tg_translate_proof.specs.glue.Tables.{HasFound}
+use Rattle.tg_translate_proof.specs.glue.Covered.{Keeping, LinksLead, CoversUse, CoversFunctions}
+use Rattle.tg_translate_proof.specs.glue.Worlds.{Places, Scene, IsOf}
+use Rattle.tg_translate_proof.specs.glue.Situations as situations
+use Rattle.tg_translate_proof.specs.glue.Situations.{Program, Setting, AllWeigh, GroupsFit, Along, IsDone, AreDone, IsNear, key_of}
 
 same_first : {A : Type 0} (y : ℕ) (a : A) (rest : Option A) → (if y == y then Some a else rest) ≡ Some a
 same_first y a rest = ap (λ t. if t then Some a else rest) (eq-eqb y y refl)

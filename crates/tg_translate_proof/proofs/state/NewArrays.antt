@@ -13,15 +13,16 @@ use Rattle.tg_types.specs.Types.{Ty, array_shape, none_type}
 use Rattle.tg_tree.specs.Memory.{Memory, load, string_block}
 use Rattle.tg_tree.specs.Actions.{World, Temps}
 use Rattle.tg_runtime_proof.specs.Memories.{array_block, elements_block}
-use Rattle.tg_runtime_proof.specs.Serving.{with_block}
+use Rattle.tg_runtime_proof.specs.laws.Serving.{with_block}
 use Rattle.tg_runtime_proof.proofs.Arrays.{array_length}
 use Rattle.tg_runtime_proof.proofs.Bytes.{word_bytes_are}
 use Rattle.tg_runtime_proof.proofs.Made.{array_made, first_word}
 use Rattle.tg_runtime_proof.proofs.Strings.{word_bytes_small, block_length}
 use Rattle.tg_runtime_proof.proofs.Memories.{blocked, block_there}
-use Rattle.tg_translate_proof.specs.Worlds as worlds
-use Rattle.tg_translate_proof.specs.Worlds.{Holdings, Stored, unknown, word, part, Made, array_of, GrowsTo, IsLaid, laid_array, Stands, an_int, a_string, a_nil, a_nil_record, a_record, an_array, no_value, Invariant, AllTemps}
-use Rattle.tg_translate_proof.specs.Situations.{Program, Part, Setting, Holds, floor, with_temps}
+use Rattle.tg_translate_proof.specs.glue.Worlds as worlds
+use Rattle.tg_translate_proof.specs.glue.Worlds.{Holdings, Stored, unknown, word, part, Made, array_of, GrowsTo, IsLaid, laid_array, Stands, an_int, a_string}
+use Rattle.tg_translate_proof.specs.glue.Worlds.{a_nil, a_nil_record, a_record, an_array, no_value, Invariant, AllTemps}
+use Rattle.tg_translate_proof.specs.glue.Situations.{Program, Part, Setting, Holds, floor, with_temps}
 use Rattle.tg_translate_proof.proofs.state.HeapBlocks.{AreOwned, Fills, with_objects, with_object, object_grows, objects_more, load_new, in_block, get_last}
 use Rattle.tg_translate_proof.proofs.state.ValueWords.{stands_grows, text_grows}
 

@@ -10,9 +10,9 @@ use Rattle.tg_types.specs.Types.{Ty}
 use Rattle.tg_tree.specs.Memory.{Memory, Cell, Closed, Unset, Has, load, put, slot, lay}
 use Rattle.tg_tree.specs.Actions.{World, Temps, set_temp}
 use Rattle.tg_runtime_proof.proofs.Memories.{put_apart, put_there, spot_above}
-use Rattle.tg_translate_proof.specs.Worlds.{Holdings, Stands, Places, Key, cell, temporary, Content, nowhere, free, variable, kept, fixed}
-use Rattle.tg_translate_proof.specs.Worlds.{word_of, AllTemps, Invariant}
-use Rattle.tg_translate_proof.specs.Situations.{Program, Setting, floor, with_temps}
+use Rattle.tg_translate_proof.specs.glue.Worlds.{Holdings, Stands, Places, Key, cell, temporary, Content, nowhere, free, variable, kept, fixed}
+use Rattle.tg_translate_proof.specs.glue.Worlds.{word_of, AllTemps, Invariant}
+use Rattle.tg_translate_proof.specs.glue.Situations.{Program, Setting, floor, with_temps}
 use Rattle.tg_translate_proof.proofs.invariant.Cases.{set_here}
 use Rattle.tg_translate_proof.proofs.state.OneKey.{put_place, by_key, put_other}
 use Rattle.tg_translate_proof.proofs.state.OneKey.{cell_key_apart, depth_key_apart, index_key_apart, kind_apart}

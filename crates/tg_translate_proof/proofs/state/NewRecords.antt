@@ -11,13 +11,13 @@ use Rattle.tg_semantics.specs.Values.{Value, Object, fields, SourceWorld, add_ob
 use Rattle.tg_types.specs.Types.{Ty, record_shape}
 use Rattle.tg_tree.specs.Memory.{Memory, load}
 use Rattle.tg_tree.specs.Actions.{World, Temps}
-use Rattle.tg_runtime_proof.specs.Serving.{with_block}
+use Rattle.tg_runtime_proof.specs.laws.Serving.{with_block}
 use Rattle.tg_runtime_proof.proofs.Bytes.{word_bytes, joined_is, word_past}
 use Rattle.tg_runtime_proof.proofs.Strings.{word_bytes_small}
 use Rattle.tg_runtime_proof.proofs.Memories.{blocked}
-use Rattle.tg_translate_proof.specs.Worlds as worlds
-use Rattle.tg_translate_proof.specs.Worlds.{Holdings, Stored, unknown, word, part, record_of, GrowsTo, IsLaid, laid_record, Stands, AllTemps}
-use Rattle.tg_translate_proof.specs.Situations.{Program, Part, Setting, Holds, floor, with_temps}
+use Rattle.tg_translate_proof.specs.glue.Worlds as worlds
+use Rattle.tg_translate_proof.specs.glue.Worlds.{Holdings, Stored, unknown, word, part, record_of, GrowsTo, IsLaid, laid_record, Stands, AllTemps}
+use Rattle.tg_translate_proof.specs.glue.Situations.{Program, Part, Setting, Holds, floor, with_temps}
 use Rattle.tg_translate_proof.proofs.state.HeapBlocks.{AreOwned, Fills, with_objects, with_object, object_grows, load_new, in_block, get_last}
 use Rattle.tg_translate_proof.proofs.state.NewArrays.{HasObject}
 use Rattle.tg_translate_proof.proofs.state.ValueWords.{stands_grows, text_grows}

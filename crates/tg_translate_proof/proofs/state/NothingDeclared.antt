@@ -16,14 +16,14 @@ use Rattle.tg_translate.specs.declared.held.HeldAddress.{HeldAddress}
 use Rattle.tg_translate.specs.declared.held.HeldAddress.TheVariants.{Beside, At}
 use Rattle.tg_translate.specs.declared.wants.Want.{Want}
 use Rattle.tg_translate.specs.declared.wants.Want.TheVariants as want
-use Rattle.tg_translate.specs.States.{TranslationState, Translates, Translated, drawn, after, give, with_frame, one_temp, local}
-use Rattle.tg_translate.specs.Wants.{Made, value, done, test, value_of, test_of, dropped, arms, as_statement, behind, behind_some, value_behind}
-use Rattle.tg_translate.specs.Constructs.{Storage, in_temp, at_address, HeldAll, hold, hold_next, assign, hold_base, hold_address, hold_place}
-use Rattle.tg_translate.specs.Constructs.{field_place, element_place, make_record, operation, quotient}
-use Rattle.tg_translate.specs.Constructs.{checked_quotient, count, minus_one, product}
-use Rattle.tg_translate.specs.Scopes.{call, variable_place, literal}
-use Rattle.tg_translate.specs.Functions.{closing}
-use Rattle.tg_translate.specs.Translate.{declarations}
+use Rattle.tg_translate.specs.mirror.States.{TranslationState, Translates, Translated, drawn, after, give, with_frame, one_temp, local}
+use Rattle.tg_translate.specs.mirror.Wants.{Made, value, done, test, value_of, test_of, dropped, arms, as_statement, behind, behind_some, value_behind}
+use Rattle.tg_translate.specs.mirror.Constructs.{Storage, in_temp, at_address, HeldAll, hold, hold_next, assign, hold_base, hold_address, hold_place}
+use Rattle.tg_translate.specs.mirror.Constructs.{field_place, element_place, make_record, operation, quotient}
+use Rattle.tg_translate.specs.mirror.Constructs.{checked_quotient, count, minus_one, product}
+use Rattle.tg_translate.specs.mirror.Scopes.{call, variable_place, literal}
+use Rattle.tg_translate.specs.mirror.Functions.{closing}
+use Rattle.tg_translate.specs.mirror.Translate.{declarations}
 use Rattle.tg_translate_proof.proofs.state.TranslationStates.{state_in}
 use Rattle.tg_translate_proof.proofs.state.StatesGrow.{Growing, then_grows, nothing_grows, fresh_grows, home_grows, literal_grows}
 

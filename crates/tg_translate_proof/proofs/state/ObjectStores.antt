@@ -13,8 +13,8 @@ use Rattle.tg_tree.specs.Actions.{World}
 use Rattle.tg_runtime_proof.specs.Memories.{IsWhole}
 use Rattle.tg_runtime_proof.proofs.Memories.{store_heap, heap_set}
 use Rattle.tg_runtime_proof.proofs.Stores.{IsStored, can_store}
-use Rattle.tg_translate_proof.specs.Worlds.{Holdings, unknown, word, part, Made, record_of, array_of, Stands, IsLaid, laid_record, laid_array, Key, cell}
-use Rattle.tg_translate_proof.specs.Worlds.{temporary, Content, nowhere, Places, AllTemps, word_of, HoldsAt, Invariant}
+use Rattle.tg_translate_proof.specs.glue.Worlds.{Holdings, unknown, word, part, Made, record_of, array_of, Stands, IsLaid, laid_record, laid_array, Key, cell}
+use Rattle.tg_translate_proof.specs.glue.Worlds.{temporary, Content, nowhere, Places, AllTemps, word_of, HoldsAt, Invariant}
 use Rattle.tg_translate_proof.proofs.state.Keys.{at_other, laid_on, get_set, get_other, set_length, some_same}
 use Rattle.std.proofs.lemmas.Bool.{cases_eq}
 

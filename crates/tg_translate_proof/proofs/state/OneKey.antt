@@ -11,10 +11,10 @@ use Rattle.tg_tree.specs.Memory.{Memory, Cell, load, put}
 use Rattle.tg_tree.specs.Actions.{World}
 use Rattle.tg_runtime_proof.specs.Memories.{IsMemory}
 use Rattle.tg_runtime_proof.proofs.Memories.{put_apart}
-use Rattle.tg_translate_proof.specs.Worlds as w
-use Rattle.tg_translate_proof.specs.Worlds.{Holdings, Stands, Places, Key, cell, temporary, Content, nowhere, free, variable, kept, fixed}
-use Rattle.tg_translate_proof.specs.Worlds.{HoldsAt, HoldsVariable, word_of, AllTemps, IsOf}
-use Rattle.tg_translate_proof.specs.Worlds.{Invariant, IsLaid, laid_record, laid_array, unknown}
+use Rattle.tg_translate_proof.specs.glue.Worlds as w
+use Rattle.tg_translate_proof.specs.glue.Worlds.{Holdings, Stands, Places, Key, cell, temporary, Content, nowhere, free, variable, kept, fixed}
+use Rattle.tg_translate_proof.specs.glue.Worlds.{HoldsAt, HoldsVariable, word_of, AllTemps, IsOf}
+use Rattle.tg_translate_proof.specs.glue.Worlds.{Invariant, IsLaid, laid_record, laid_array, unknown}
 
 -- Keys.
 

@@ -13,7 +13,7 @@ use Rattle.tg_syntax.specs.Tree.{no_functions, function}
 use Rattle.tg_frame.specs.declared.accesses.Access.{Access}
 use Rattle.tg_tree.specs.Tree as tree
 use Rattle.tg_tree.specs.Tree.{Tx, Const, Temp, FrameAddress, Txs, no_txs, tx, Cond, Ts, Stms, no_stms, stm}
-use Rattle.tg_tree.specs.Lists.{join_txs}
+use Rattle.tg_tree.specs.glue.Lists.{join_txs}
 use Rattle.tg_tree.specs.declared.operators.Bin.TheVariants as bin
 use Rattle.tg_tree.specs.Memory.{string_text}
 use Rattle.tg_types.specs.declared.notes.Means.{Means}
@@ -26,22 +26,22 @@ use Rattle.tg_translate.specs.declared.held.HeldAddress.{HeldAddress}
 use Rattle.tg_translate.specs.declared.held.HeldAddress.TheVariants.{Beside, At}
 use Rattle.tg_translate.specs.declared.wants.Want.{Want}
 use Rattle.tg_translate.specs.declared.wants.Want.TheVariants as want
-use Rattle.tg_translate.specs.States.{TranslationState, Translates, Translated, drawn, after, give, Frame, with_frame, one_temp, local}
-use Rattle.tg_translate.specs.Wants.{Made, value, done, test, value_of, test_of, dropped}
-use Rattle.tg_translate.specs.Wants.{arms, as_statement, deliver, behind, behind_some, value_behind, followed}
-use Rattle.tg_translate.specs.Constructs.{Storage, in_temp, at_address, HeldAll, none_held, hold, hold_next, assign, hold_base, hold_address, hold_place}
-use Rattle.tg_translate.specs.Constructs.{own_place, read, want_for, read_held, place_held, field_place, element_place, make_record, operation, quotient}
-use Rattle.tg_translate.specs.Constructs.{checked_quotient, count, minus_one, in_body, in_test, product}
-use Rattle.tg_translate.specs.Choices.{left_want, chosen}
-use Rattle.tg_translate.specs.Scopes.{Findings, field_number, compares_strings, call, variable_place, declare_variable, literal}
-use Rattle.tg_translate.specs.Purity.{assigns_nothing, inits_assign_nothing}
-use Rattle.tg_translate.specs.Updates.{begins_with}
-use Rattle.tg_translate.specs.Functions.{at_of, asked, parameters, own_homes, frame_for, declare_functions, with_body, finish, opened, inside, result_want}
-use Rattle.tg_translate.specs.Functions.{closing, body, body_in}
-use Rattle.tg_translate.specs.Translate.{connective, with_left, chosen_arm, choice, is_conjunction, assignment, assigned, updated, declaration_of}
-use Rattle.tg_translate.specs.Translate.{expression, behind_read, locate, values, fields, sequence, declarations, bodies}
-use Rattle.tg_translate_proof.specs.Tables.{IsSuffix, Later}
-use Rattle.tg_translate_proof.specs.Situations.{Program}
+use Rattle.tg_translate.specs.mirror.States.{TranslationState, Translates, Translated, drawn, after, give, Frame, with_frame, one_temp, local}
+use Rattle.tg_translate.specs.mirror.Wants.{Made, value, done, test, value_of, test_of, dropped}
+use Rattle.tg_translate.specs.mirror.Wants.{arms, as_statement, deliver, behind, behind_some, value_behind, followed}
+use Rattle.tg_translate.specs.mirror.Constructs.{Storage, in_temp, at_address, HeldAll, none_held, hold, hold_next, assign, hold_base, hold_address, hold_place}
+use Rattle.tg_translate.specs.mirror.Constructs.{own_place, read, want_for, read_held, place_held, field_place, element_place, make_record, operation, quotient}
+use Rattle.tg_translate.specs.mirror.Constructs.{checked_quotient, count, minus_one, in_body, in_test, product}
+use Rattle.tg_translate.specs.mirror.Choices.{left_want, chosen}
+use Rattle.tg_translate.specs.mirror.Scopes.{Findings, field_number, compares_strings, call, variable_place, declare_variable, literal}
+use Rattle.tg_translate.specs.mirror.Purity.{assigns_nothing, inits_assign_nothing}
+use Rattle.tg_translate.specs.mirror.Updates.{begins_with}
+use Rattle.tg_translate.specs.mirror.Functions.{at_of, asked, parameters, own_homes, frame_for, declare_functions, with_body, finish, opened, inside}
+use Rattle.tg_translate.specs.mirror.Functions.{result_want, closing, body, body_in}
+use Rattle.tg_translate.specs.mirror.Translate.{connective, with_left, chosen_arm, choice, is_conjunction, assignment, assigned, updated, declaration_of}
+use Rattle.tg_translate.specs.mirror.Translate.{expression, behind_read, locate, values, fields, sequence, declarations, bodies}
+use Rattle.tg_translate_proof.specs.glue.Tables.{IsSuffix, Later}
+use Rattle.tg_translate_proof.specs.glue.Situations.{Program}
 use Rattle.tg_translate_proof.proofs.state.TranslationStates.{state_in, behind_none, behind_on, front_none, later_none, later_on}
 use Rattle.tg_translate_proof.proofs.invariant.Parts.{StatesGrow}
 

@@ -19,12 +19,12 @@ use Rattle.tg_tree.specs.Memory.{Memory, load, slot}
 use Rattle.tg_tree.specs.FlatValue.{flat_value, or_wrong, onward}
 use Rattle.tg_tree.specs.Actions.{World, Temps, Go, charged, with_given}
 use Rattle.tg_tree.proofs.FlatValues.{flat_runs, word_spends}
-use Rattle.tg_translate.specs.Constructs.{link_of, own_link, frame_out}
-use Rattle.tg_correct.specs.Laws.{tree_work}
-use Rattle.tg_translate_proof.specs.Covered.{LinksLead}
-use Rattle.tg_translate_proof.specs.Worlds.{Holdings, IsScene, HoldsAt, cell, temporary, fixed, AllTemps, word_of, Key}
-use Rattle.tg_translate_proof.specs.Situations.{Program, Part, Holds, with_temps, floor, value_runs, calling, heads, frames_at}
-use Rattle.tg_translate_proof.specs.Shown.{FollowsHere}
+use Rattle.tg_translate.specs.mirror.Constructs.{link_of, own_link, frame_out}
+use Rattle.tg_correct.specs.laws.Laws.{tree_work}
+use Rattle.tg_translate_proof.specs.glue.Covered.{LinksLead}
+use Rattle.tg_translate_proof.specs.glue.Worlds.{Holdings, IsScene, HoldsAt, cell, temporary, fixed, AllTemps, word_of, Key}
+use Rattle.tg_translate_proof.specs.glue.Situations.{Program, Part, Holds, with_temps, floor, value_runs, calling, heads, frames_at}
+use Rattle.tg_translate_proof.specs.glue.Shown.{FollowsHere}
 use Rattle.tg_translate_proof.proofs.invariant.Parts.{more}
 use Rattle.tg_simulation.proofs.Following.{follows_working}
 

@@ -9,24 +9,24 @@ use Rattle.tg_syntax.specs.Tree.{Exp, Nil, Break, Int, Text, Read, Call, Neg, Bi
 use Rattle.tg_syntax.specs.Tree.{Field, Index, Exps, no_exps, exp, Inits, no_inits, init, Decs, no_decs, types, variable, functions, FunDecs}
 use Rattle.tg_syntax.specs.Tree.{no_functions, function}
 use Rattle.tg_tree.specs.Tree.{Tx, Txs, no_txs, tx, Cond, Stms, no_stms}
-use Rattle.tg_tree.specs.Lists.{join_txs}
+use Rattle.tg_tree.specs.glue.Lists.{join_txs}
 use Rattle.tg_translate.specs.declared.homes.Within.{Within}
 use Rattle.tg_translate.specs.declared.wants.Want.{Want}
 use Rattle.tg_translate.specs.declared.wants.Want.TheVariants as want
-use Rattle.tg_translate.specs.States.{TranslationState, Translates, Translated, drawn, after}
-use Rattle.tg_translate.specs.Wants.{Made, value, done, test_of, dropped, behind, followed}
-use Rattle.tg_translate.specs.Constructs.{Storage, HeldAll, none_held, read, in_body, in_test}
-use Rattle.tg_translate.specs.Choices.{left_want}
-use Rattle.tg_translate.specs.Scopes.{Findings, field_number}
-use Rattle.tg_translate.specs.Purity.{assigns_nothing, inits_assign_nothing}
-use Rattle.tg_translate.specs.Updates.{begins_with, is_same_place, is_same_index}
-use Rattle.tg_translate.specs.Functions.{at_of, asked, parameters, own_homes, frame_for, declare_functions, opened, inside, result_want}
-use Rattle.tg_translate.specs.Functions.{body_in}
-use Rattle.tg_translate.specs.Translate.{choice, is_conjunction, assignment}
-use Rattle.tg_translate.specs.Translate.{expression, behind_read, locate, values, fields, sequence, declarations, bodies}
+use Rattle.tg_translate.specs.mirror.States.{TranslationState, Translates, Translated, drawn, after}
+use Rattle.tg_translate.specs.mirror.Wants.{Made, value, done, test_of, dropped, behind, followed}
+use Rattle.tg_translate.specs.mirror.Constructs.{Storage, HeldAll, none_held, read, in_body, in_test}
+use Rattle.tg_translate.specs.mirror.Choices.{left_want}
+use Rattle.tg_translate.specs.mirror.Scopes.{Findings, field_number}
+use Rattle.tg_translate.specs.mirror.Purity.{assigns_nothing, inits_assign_nothing}
+use Rattle.tg_translate.specs.mirror.Updates.{begins_with, is_same_place, is_same_index}
+use Rattle.tg_translate.specs.mirror.Functions.{at_of, asked, parameters, own_homes, frame_for, declare_functions, opened, inside, result_want}
+use Rattle.tg_translate.specs.mirror.Functions.{body_in}
+use Rattle.tg_translate.specs.mirror.Translate.{choice, is_conjunction, assignment}
+use Rattle.tg_translate.specs.mirror.Translate.{expression, behind_read, locate, values, fields, sequence, declarations, bodies}
 use Rattle.tg_translate_laws.proofs.Counts.{same}
 use Rattle.tg_translate_laws.proofs.Updating.{same_is_quiet}
-use Rattle.tg_translate_proof.specs.Tables.{Table}
+use Rattle.tg_translate_proof.specs.glue.Tables.{Table}
 use Rattle.tg_translate_proof.proofs.state.TranslationStates.{state_in}
 use Rattle.tg_translate_proof.proofs.state.NothingDeclared.{stays, then_quiet, value_quiet, behind_quiet, hold_next_quiet}
 use Rattle.tg_translate_proof.proofs.state.NothingDeclared.{field_quiet, element_quiet, record_quiet, count_quiet}
@@ -38,7 +38,7 @@ use Rattle.tg_translate_proof.proofs.state.Tables.{Shows, ShowsBodies, state_by,
 use Rattle.tg_translate_proof.proofs.state.Tables.{own_many, group_shows, bodies_then, bodies_none}
 use Rattle.tg_translate_proof.proofs.state.Tables.{connective_shows, value_shows, with_left_shows, assigned_shows, declaration_shows}
 use Rattle.tg_translate_proof.proofs.state.Tables.{chosen_shows, updated_shows}
-use Rattle.tg_translate.specs.Translate.{is_zero}
+use Rattle.tg_translate.specs.mirror.Translate.{is_zero}
 
 module _ (table : Table) (weight : (at : ℕ) → ℕ) (findings : Findings) where
   abbrev Fits : (level : ℕ) → Levels → Exp → Type 0

@@ -25,17 +25,17 @@ use Rattle.tg_translate.specs.declared.homes.Home.{Home}
 use Rattle.tg_translate.specs.declared.homes.Callee.{Callee}
 use Rattle.tg_translate.specs.declared.wants.Want.{Want}
 use Rattle.tg_translate.specs.declared.wants.Want.TheVariants as want
-use Rattle.tg_translate.specs.States.{TranslationState, Translates, Translated, drawn, after, give}
-use Rattle.tg_translate.specs.Wants.{Made, value_of, test_of, arms, deliver, behind}
-use Rattle.tg_translate.specs.Constructs.{Storage, own_place, want_for, read_held, place_held, operation}
-use Rattle.tg_translate.specs.Choices.{chosen}
-use Rattle.tg_translate.specs.Scopes.{compares_strings, declare_variable}
-use Rattle.tg_translate.specs.Functions.{at_of, asked, parameters, own_homes, frame_for, declare_functions, with_body, finish, opened}
-use Rattle.tg_translate.specs.Functions.{body}
-use Rattle.tg_translate.specs.Translate.{connective, with_left, chosen_arm, assigned, updated, declaration_of}
-use Rattle.tg_translate.specs.Translate.{declarations}
+use Rattle.tg_translate.specs.mirror.States.{TranslationState, Translates, Translated, drawn, after, give}
+use Rattle.tg_translate.specs.mirror.Wants.{Made, value_of, test_of, arms, deliver, behind}
+use Rattle.tg_translate.specs.mirror.Constructs.{Storage, own_place, want_for, read_held, place_held, operation}
+use Rattle.tg_translate.specs.mirror.Choices.{chosen}
+use Rattle.tg_translate.specs.mirror.Scopes.{compares_strings, declare_variable}
+use Rattle.tg_translate.specs.mirror.Functions.{at_of, asked, parameters, own_homes, frame_for, declare_functions, with_body, finish, opened}
+use Rattle.tg_translate.specs.mirror.Functions.{body}
+use Rattle.tg_translate.specs.mirror.Translate.{connective, with_left, chosen_arm, assigned, updated, declaration_of}
+use Rattle.tg_translate.specs.mirror.Translate.{declarations}
 use Rattle.tg_translate_laws.proofs.Counts.{same, times}
-use Rattle.tg_translate_proof.specs.Tables.{Table, IsSuffix}
+use Rattle.tg_translate_proof.specs.glue.Tables.{Table, IsSuffix}
 use Rattle.tg_translate_proof.proofs.state.TranslationStates.{state_in, behind_none, behind_on}
 use Rattle.tg_translate_proof.proofs.state.StatesGrow.{Growing, then_grows, homes_grow, callee_grows}
 use Rattle.tg_translate_proof.proofs.state.StatesGrow.{done_grows, one_behind, parameters_behind, nothing_grows, functions_declared_grow}

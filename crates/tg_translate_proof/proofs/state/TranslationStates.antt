@@ -11,10 +11,10 @@ use Rattle.tg_types.specs.Scopes.{Binding, variable_at, function_at, standard_on
 use Rattle.tg_tree.specs.Tree.{Tx, Ts, Function, Code}
 use Rattle.tg_translate.specs.declared.homes.Home.{Home}
 use Rattle.tg_translate.specs.declared.homes.Callee.{Callee}
-use Rattle.tg_translate.specs.States.{TranslationState, Translated, drawn, Translates, after}
-use Rattle.tg_translate.specs.Wants.{Made, value, done, test, value_of}
-use Rattle.tg_translate_proof.specs.Tables.{Table, IsSuffix, IsMoment, Later, HasFound}
-use Rattle.tg_translate_proof.specs.Situations.{Program, Setting}
+use Rattle.tg_translate.specs.mirror.States.{TranslationState, Translated, drawn, Translates, after}
+use Rattle.tg_translate.specs.mirror.Wants.{Made, value, done, test, value_of}
+use Rattle.tg_translate_proof.specs.glue.Tables.{Table, IsSuffix, IsMoment, Later, HasFound}
+use Rattle.tg_translate_proof.specs.glue.Situations.{Program, Setting}
 
 -- Translations, one after another.
 

@@ -11,9 +11,10 @@ use Rattle.tg_types.specs.Has.{Fits, HasValues}
 use Rattle.tg_tree.specs.Memory.{string_block}
 use Rattle.tg_translate.specs.declared.wants.Want.{Want}
 use Rattle.tg_translate.specs.declared.wants.Want.TheVariants as want
-use Rattle.tg_translate_proof.specs.Worlds.{Holdings, GrowsTo, IsText, Stands, an_int, a_string, a_nil, a_nil_record, a_record, an_array, no_value, unknown, word}
-use Rattle.tg_translate_proof.specs.Worlds as worlds
-use Rattle.tg_translate_proof.specs.Shown.{IsWanted, IsTold, is_set}
+use Rattle.tg_translate_proof.specs.glue.Worlds.{Holdings, GrowsTo, IsText, Stands, an_int, a_string, a_nil, a_nil_record, a_record, an_array, no_value}
+use Rattle.tg_translate_proof.specs.glue.Worlds.{unknown, word}
+use Rattle.tg_translate_proof.specs.glue.Worlds as worlds
+use Rattle.tg_translate_proof.specs.glue.Shown.{IsWanted, IsTold, is_set}
 
 is_known : (n : ℕ) → worlds.word n ≢ unknown
 is_known n e = cc

@@ -1,6 +1,6 @@
 use Rattle.std.proofs.lemmas.Result.{err_from_is_err_and}
 use Rattle.tg_asm.specs.Images.{made_of}
-use Rattle.tg_asm.specs.Layouts.{layout_of}
+use Rattle.tg_asm.specs.glue.Layouts.{layout_of}
 use Rattle.tg_asm.proofs.Ends.{few_words, few_bytes, second_over, whole, no_main}
 use Rattle.tg_asm.proofs.assembling.assemble.Goals as goal
 

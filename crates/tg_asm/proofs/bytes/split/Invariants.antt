@@ -1,5 +1,5 @@
 use Rattle.std.proofs.Common.{length, ◌-◌}
-use Rattle.tg_asm.specs.Classes.{in_class}
+use Rattle.tg_asm.specs.glue.Classes.{in_class}
 use Rattle.tg_asm.proofs.Splits.{Split}
 use Rattle.tg_asm.proofs.bytes.split.Given as goal
 

@@ -1,5 +1,5 @@
 use Rattle.std.proofs.Common.{sym, ap, map}
-use Rattle.tg_asm.specs.Cuts.{operand_of, gap_of}
+use Rattle.tg_asm.specs.glue.Cuts.{operand_of, gap_of}
 use Rattle.tg_asm.proofs.CutLoops.{operands_begin, operands_shorter, operands_pushed, operand_pushed}
 use Rattle.tg_asm.proofs.cuts.operands.Goals as goal
 

@@ -1,5 +1,5 @@
 use Rattle.std.proofs.Common.{map}
-use Rattle.tg_asm.specs.Cuts.{gap_of, operand_of}
+use Rattle.tg_asm.specs.glue.Cuts.{gap_of, operand_of}
 use Rattle.tg_asm.proofs.CutLoops.{InOperands, room}
 use Rattle.tg_asm.proofs.cuts.operands.Given as goal
 

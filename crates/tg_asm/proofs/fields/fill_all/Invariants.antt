@@ -1,4 +1,4 @@
-use Rattle.tg_asm.specs.Registers.{fields_of}
+use Rattle.tg_asm.specs.glue.Registers.{fields_of}
 use Rattle.tg_asm.proofs.Filling.{Filled}
 use Rattle.tg_asm.proofs.fields.fill_all.Given as goal
 

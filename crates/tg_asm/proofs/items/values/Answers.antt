@@ -1,7 +1,7 @@
 use Rattle.std.proofs.Common.{◌<◌, ◌∙◌, length, map, ap, arith}
 use Rattle.tg_asm_text.specs.Items as items
-use Rattle.tg_asm.specs.Cuts.{operand_of}
-use Rattle.tg_asm.specs.Means.{all_values, bytes_of, datum_stored}
+use Rattle.tg_asm.specs.glue.Cuts.{operand_of}
+use Rattle.tg_asm.specs.glue.Means.{all_values, bytes_of, datum_stored}
 use Rattle.tg_asm.proofs.DataLoops.{values_made}
 use Rattle.tg_asm.proofs.items.values.Goals as goal
 

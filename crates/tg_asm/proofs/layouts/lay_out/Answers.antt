@@ -1,5 +1,5 @@
 use Rattle.std.proofs.Common.{refl, sym}
-use Rattle.tg_asm.specs.Layouts.{laid_of, lined_labels}
+use Rattle.tg_asm.specs.glue.Layouts.{laid_of, lined_labels}
 use Rattle.tg_asm.proofs.LinePass.{laid_out}
 use Rattle.tg_asm.proofs.Orders.{unlined_of}
 use Rattle.tg_asm.proofs.layouts.lay_out.Goals as goal

@@ -1,5 +1,5 @@
 use Rattle.std.proofs.Common.{length}
-use Rattle.tg_asm.specs.Layouts.{layout_of}
+use Rattle.tg_asm.specs.glue.Layouts.{layout_of}
 use Rattle.tg_asm.specs.Images.{made_of}
 use Rattle.tg_asm.proofs.MakingPass.{InMaking}
 use Rattle.tg_asm.proofs.making.make.Given as goal

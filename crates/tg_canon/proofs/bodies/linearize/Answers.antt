@@ -1,7 +1,7 @@
 use Rattle.std.proofs.Common.{arith}
-use Rattle.tg_tree.specs.Plain.{plain_ts}
-use Rattle.tg_canon.specs.Canon as canon
-use Rattle.tg_canon.specs.Canon.{statements_of}
+use Rattle.tg_tree.specs.glue.Plain.{plain_ts}
+use Rattle.tg_canon.specs.mirror.Canon as canon
+use Rattle.tg_canon.specs.mirror.Canon.{statements_of}
 use Rattle.tg_canon.proofs.Growing.{body_grows}
 use Rattle.tg_canon.proofs.Steps.{ends}
 use Rattle.tg_canon.proofs.bodies.linearize.Goals as goal

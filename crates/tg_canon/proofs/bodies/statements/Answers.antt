@@ -1,6 +1,6 @@
 use Rattle.std.proofs.Common.{sym, ap, ◌∙◌}
-use Rattle.tg_tree.specs.Plain.{plain_ts}
-use Rattle.tg_canon.specs.Canon.{statements_of}
+use Rattle.tg_tree.specs.glue.Plain.{plain_ts}
+use Rattle.tg_canon.specs.mirror.Canon.{statements_of}
 use Rattle.tg_canon.proofs.Nothings.{statements_of-Seq}
 use Rattle.tg_canon.proofs.bodies.statements.Goals as goal
 

@@ -1,4 +1,4 @@
-use Rattle.tg_canon.specs.Views.{plain_part}
+use Rattle.tg_canon.specs.glue.Views.{plain_part}
 use Rattle.tg_canon.proofs.Others.{other_gives}
 use Rattle.tg_canon.proofs.hoisted.hold_for.Goals as goal
 

@@ -1,6 +1,6 @@
 use Rattle.std.proofs.Common.{sym, ap, ◌∙◌}
-use Rattle.tg_tree.specs.Plain.{plain_ts}
-use Rattle.tg_canon.specs.Canon.{is_nothing}
+use Rattle.tg_tree.specs.glue.Plain.{plain_ts}
+use Rattle.tg_canon.specs.mirror.Canon.{is_nothing}
 use Rattle.tg_canon.proofs.Nothings.{is_nothing-Seq}
 use Rattle.tg_canon.proofs.parts.is_nothing.Goals as goal
 

@@ -1,8 +1,8 @@
 use Rattle.std.proofs.Common.{not, sym, ◌∙◌}
-use Rattle.tg_tree.specs.Plain.{plain_tx, plain_cond, plain_ts}
-use Rattle.tg_tree.specs.Lists.{txs_of, stms_of}
-use Rattle.tg_canon.specs.Canon.{deeper, inside}
-use Rattle.tg_canon.specs.Breaking.{leads}
+use Rattle.tg_tree.specs.glue.Plain.{plain_tx, plain_cond, plain_ts}
+use Rattle.tg_tree.specs.glue.Lists.{txs_of, stms_of}
+use Rattle.tg_canon.specs.mirror.Canon.{deeper, inside}
+use Rattle.tg_canon.specs.glue.Breaking.{leads}
 use Rattle.tg_canon.proofs.Arms.{constant_lifts, address_lifts, temporary_lifts, frame_lifts, binary_lifts, load_lifts, byte_lifts, call_lifts}
 use Rattle.tg_canon.proofs.Arms.{service_lifts, after_lifts, word_lifts, operands_lift, compare_tests, not_tests, both_tests, either_tests}
 use Rattle.tg_canon.proofs.Arms.{compare_leaves, not_leaves, move_goes, store_goes, store_byte_goes, do_goes, if_goes, if_goes_by_parts, loop_goes}

@@ -1,6 +1,6 @@
 use Rattle.std.proofs.Common.{length, ◌+◌, ◌*◌}
-use Rattle.tg_canon.specs.Breaking.{leads}
-use Rattle.tg_canon.specs.Views.{plain_parts, plain_arguments}
+use Rattle.tg_canon.specs.glue.Breaking.{leads}
+use Rattle.tg_canon.specs.glue.Views.{plain_parts, plain_arguments}
 use Rattle.tg_canon.proofs.Walks.{StatementsWalked, ArgumentsWalked}
 use Rattle.tg_canon.proofs.pass.+canon.Given as goal
 

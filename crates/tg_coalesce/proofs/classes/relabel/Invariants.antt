@@ -1,5 +1,5 @@
 use Rattle.std.proofs.Common.{◌≡◌, take}
-use Rattle.tg_coalesce.specs.Lists.{set_at_all}
+use Rattle.tg_coalesce.specs.glue.Lists.{set_at_all}
 use Rattle.tg_coalesce.proofs.classes.relabel.Given as goal
 
 abbrev pub invariant-loop-member : goal.invariant-loop-member

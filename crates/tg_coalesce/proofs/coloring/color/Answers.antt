@@ -4,8 +4,8 @@ use Rattle.std.proofs.lemmas.List.Elements.{All-weaker}
 use Rattle.tg_graph.specs.Interference.{colours}
 use Rattle.tg_irc.specs.declared.rounds.Round.{Round}
 use Rattle.tg_irc.specs.Rounds.{IsRound}
-use Rattle.tg_coalesce.specs.Advancing.{IsGiven}
-use Rattle.tg_coalesce.specs.Standing.{IsOrderly, IsRunOf, answer_of, graph_of}
+use Rattle.tg_coalesce.specs.glue.Advancing.{IsGiven}
+use Rattle.tg_coalesce.specs.glue.Standing.{IsOrderly, IsRunOf, answer_of, graph_of}
 use Rattle.tg_irc.specs.States.{problem}
 use Rattle.tg_coalesce.proofs.AdvancingDone.{done_is_round}
 use Rattle.tg_coalesce.proofs.Starting.{start_orderly}

@@ -1,5 +1,5 @@
 use Rattle.std.proofs.Common.{◌≡◌, ℕ, List, [], replicate}
-use Rattle.tg_coalesce.specs.Lists.{numbers_in}
+use Rattle.tg_coalesce.specs.glue.Lists.{numbers_in}
 use Rattle.tg_coalesce.proofs.lists.empty_lists.Given as goal
 
 abbrev pub invariant-loop : goal.invariant-loop

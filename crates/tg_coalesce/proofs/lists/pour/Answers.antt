@@ -1,5 +1,5 @@
 use Rattle.std.proofs.Common.{[], ◌∙◌}
-use Rattle.tg_coalesce.specs.Lists.{numbers_in}
+use Rattle.tg_coalesce.specs.glue.Lists.{numbers_in}
 use Rattle.tg_graph.proofs.Vectors.{at_err, lists_back}
 use Rattle.tg_coalesce.proofs.Vectors.{items_of}
 use Rattle.tg_coalesce.proofs.lists.pour.Goals as goal

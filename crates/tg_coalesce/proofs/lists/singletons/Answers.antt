@@ -1,6 +1,6 @@
 use Rattle.std.proofs.Common.{◌≡◌, ◌∙◌, ap, arith}
-use Rattle.tg_coalesce.specs.Lists.{numbers_in}
-use Rattle.tg_coalesce.specs.Lists.{singletons}
+use Rattle.tg_coalesce.specs.glue.Lists.{numbers_in}
+use Rattle.tg_coalesce.specs.glue.Lists.{singletons}
 use Rattle.tg_coalesce.proofs.Vectors.{singletons_pushed}
 use Rattle.tg_coalesce.proofs.lists.singletons.Goals as goal
 

@@ -1,6 +1,6 @@
 use Rattle.std.proofs.Common.{◌≡◌}
-use Rattle.tg_coalesce.specs.Lists.{numbers_in}
-use Rattle.tg_coalesce.specs.Lists as lists_by
+use Rattle.tg_coalesce.specs.glue.Lists.{numbers_in}
+use Rattle.tg_coalesce.specs.glue.Lists as lists_by
 use Rattle.tg_coalesce.proofs.lists.singletons.Given as goal
 
 abbrev pub invariant-loop-number : goal.invariant-loop-number

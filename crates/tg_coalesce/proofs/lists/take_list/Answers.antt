@@ -1,5 +1,5 @@
 use Rattle.std.proofs.Common.{ℕ, List, set, ap, ◌∙◌}
-use Rattle.tg_coalesce.specs.Lists.{numbers_in}
+use Rattle.tg_coalesce.specs.glue.Lists.{numbers_in}
 use Rattle.tg_graph.proofs.Vectors.{lists_set}
 use Rattle.tg_coalesce.proofs.Vectors.{items_of}
 use Rattle.tg_coalesce.proofs.lists.take_list.Goals as goal

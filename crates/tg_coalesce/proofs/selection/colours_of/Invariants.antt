@@ -1,5 +1,5 @@
 use Rattle.std.proofs.Common.{◌≡◌, map, take}
-use Rattle.tg_coalesce.specs.Selecting.{colour_at}
+use Rattle.tg_coalesce.specs.mirror.Selecting.{colour_at}
 use Rattle.tg_coalesce.proofs.selection.colours_of.Given as goal
 
 abbrev pub invariant-loop-alias : goal.invariant-loop-alias

@@ -1,6 +1,6 @@
 use Rattle.std.proofs.Common.{◌≡◌, ℕ, List, Option, [], ◌∷◌, ◌++◌, ◌∙◌, sym, ap, arith}
 use Rattle.std.proofs.lemmas.List.FromFn.{map-range_with_len_more}
-use Rattle.tg_coalesce.specs.Selecting.{own_colour, precoloured}
+use Rattle.tg_coalesce.specs.mirror.Selecting.{own_colour, precoloured}
 use Rattle.tg_coalesce.proofs.selection.precoloured.Goals as goal
 
 pub loop-node-preserved : goal.loop-node-preserved

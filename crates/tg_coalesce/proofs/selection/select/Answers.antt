@@ -3,7 +3,7 @@ use Rattle.std.specs.Prelude.{fold}
 use Rattle.std.proofs.lemmas.List.{get_or-reverse, length-reverse, take_all}
 use Rattle.std.proofs.lemmas.List.FromFn.{length-map-range_with_len}
 use Rattle.std.proofs.lemmas.List.Sums.{fold_more}
-use Rattle.tg_coalesce.specs.Selecting.{AreColours, Picks, own_colour, popped, precoloured, selected}
+use Rattle.tg_coalesce.specs.mirror.Selecting.{AreColours, Picks, own_colour, popped, precoloured, selected}
 use Rattle.tg_coalesce.proofs.Selecting.{precoloured_colours}
 use Rattle.tg_coalesce.proofs.selection.select.Goals as goal
 

@@ -1,6 +1,6 @@
 use Rattle.std.proofs.Common.{◌≡◌, [], length, reverse, take}
 use Rattle.std.specs.Prelude.{fold}
-use Rattle.tg_coalesce.specs.Selecting.{popped, precoloured}
+use Rattle.tg_coalesce.specs.mirror.Selecting.{popped, precoloured}
 use Rattle.tg_coalesce.proofs.selection.select.Given as goal
 
 abbrev pub invariant-loop-place : goal.invariant-loop-place

@@ -1,5 +1,5 @@
 use Rattle.std.proofs.Common.{◌≡◌}
-use Rattle.tg_coalesce.specs.Tables.{ends_counted}
+use Rattle.tg_coalesce.specs.glue.Tables.{ends_counted}
 use Rattle.tg_coalesce.proofs.tables.count_ends.Given as goal
 
 abbrev pub invariant-loop-one : goal.invariant-loop-one

@@ -1,7 +1,7 @@
 use Rattle.std.proofs.Common.{◌∙◌, length, sym, ap, arith}
 use Rattle.tg_graph.proofs.Vectors.{lists_sized}
-use Rattle.tg_coalesce.specs.Lists.{pushed}
-use Rattle.tg_coalesce.specs.Tables.{move_at, ends_listed}
+use Rattle.tg_coalesce.specs.glue.Lists.{pushed}
+use Rattle.tg_coalesce.specs.glue.Tables.{move_at, ends_listed}
 use Rattle.tg_coalesce.proofs.Listing.{length_pushed}
 use Rattle.tg_coalesce.proofs.Tabling.{end_of, length_listed, listed_more}
 use Rattle.tg_coalesce.proofs.Vectors.{items_of}

@@ -1,6 +1,6 @@
 use Rattle.std.proofs.Common.{◌≡◌}
-use Rattle.tg_coalesce.specs.Lists.{numbers_in}
-use Rattle.tg_coalesce.specs.Tables.{ends_listed}
+use Rattle.tg_coalesce.specs.glue.Lists.{numbers_in}
+use Rattle.tg_coalesce.specs.glue.Tables.{ends_listed}
 use Rattle.tg_coalesce.proofs.tables.list_ends.Given as goal
 
 abbrev pub invariant-loop-index : goal.invariant-loop-index

@@ -1,9 +1,9 @@
 use Rattle.std.proofs.Common.{List, [], sym, subst}
-use Rattle.tg_tree.specs.Lists.{code_of}
+use Rattle.tg_tree.specs.glue.Lists.{code_of}
 use Rattle.tg_tree.specs.Named.{named_flat, HasItsTemps}
 use Rattle.tg_tree.specs.Shapes.{IsWellMarked}
 use Rattle.tg_tree.specs.Tree.{Function, Linear}
-use Rattle.tg_tree.specs.Plain.{plain_function, plain_ts}
+use Rattle.tg_tree.specs.glue.Plain.{plain_function, plain_ts}
 use Rattle.tg_compile.proofs.Chain.{chooses}
 use Rattle.tg_compile.proofs.bodies.choose.Goals as goal
 

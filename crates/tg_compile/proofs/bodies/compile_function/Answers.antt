@@ -1,7 +1,7 @@
 use Rattle.std.proofs.Common.{ℕ, List, sym, subst, arith}
 use Rattle.std.specs.Prelude.{IsTrue}
 use Rattle.std.specs.List.{list_all}
-use Rattle.tg_tree.specs.Plain.{plain_fragment}
+use Rattle.tg_tree.specs.glue.Plain.{plain_fragment}
 use Rattle.tg_instr.specs.Codes.{has_slots_below, names_registers}
 use Rattle.tg_instr.specs.declared.instr.Instr.{Instr}
 use Rattle.tg_regalloc.specs.Conditions.{is_fixed}

@@ -1,10 +1,10 @@
 use Rattle.std.proofs.Common.{◌≤◌, List, length, refl, sym, ap, subst}
 use Rattle.std.specs.List.{sum_by}
 use Rattle.tg_state.specs.State.{most_bytes, padded}
-use Rattle.tg_syntax.specs.Plain.{plain}
+use Rattle.tg_syntax.specs.glue.Plain.{plain}
 use Rattle.tg_tree.specs.Tree.{Ts, Function, Code, Literal}
 use Rattle.tg_emit_laws.specs.Programs.{bytes_of}
-use Rattle.tg_compile.specs.Passes.{CompileApart}
+use Rattle.tg_compile.specs.glue.Passes.{CompileApart}
 use Rattle.tg_compile.proofs.Chain.{tree_of, compiles_whole}
 use Rattle.tg_compile.proofs.Linking.{links, bytes_are}
 use Rattle.tg_compile.proofs.programs.compile_checked.Goals as goal

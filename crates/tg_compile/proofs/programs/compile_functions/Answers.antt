@@ -4,10 +4,10 @@ use Rattle.std.proofs.IntoIterSteps.{All-taken}
 use Rattle.std.proofs.lemmas.Iterator.Adapters.{YieldsList-from_vec}
 use Rattle.std.proofs.lemmas.Iterator.Consumers.{YieldsList-turn}
 use Rattle.tg_tree.specs.declared.fragments.Fragment.{Fragment}
-use Rattle.tg_tree.specs.Plain.{plain_fragment}
+use Rattle.tg_tree.specs.glue.Plain.{plain_fragment}
 use Rattle.tg_irc.specs.Policies.{Rule}
 use Rattle.tg_code_bounds.specs.Allocating.{IsAllocationOf}
-use Rattle.tg_compile.specs.Passes.{CompileApart, IsWellFormed}
+use Rattle.tg_compile.specs.glue.Passes.{CompileApart, IsWellFormed}
 use Rattle.tg_compile.proofs.Chain.{compile_one_more}
 use Rattle.tg_compile.proofs.WellFormed.{one_is}
 use Rattle.tg_compile.proofs.programs.compile_functions.Goals as goal

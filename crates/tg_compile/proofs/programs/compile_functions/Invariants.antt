@@ -1,7 +1,7 @@
 use Rattle.std.proofs.Common.{◌≡◌}
 use Rattle.std.specs.Prelude.{map}
-use Rattle.tg_tree.specs.Plain.{plain_fragment}
-use Rattle.tg_compile.specs.Passes.{CompileApart}
+use Rattle.tg_tree.specs.glue.Plain.{plain_fragment}
+use Rattle.tg_compile.specs.glue.Passes.{CompileApart}
 use Rattle.tg_compile.proofs.programs.compile_functions.Given as goal
 
 abbrev pub invariant-loop-one : goal.invariant-loop-one

@@ -1,11 +1,11 @@
 use Rattle.std.proofs.Common.{◌≡◌, sym, ap, subst}
 use Rattle.std.specs.Prelude.{List, All}
-use Rattle.tg_syntax.specs.Plain.{plain}
+use Rattle.tg_syntax.specs.glue.Plain.{plain}
 use Rattle.tg_tree.specs.Tree.{Ts, Function, Code}
 use Rattle.tg_tree.specs.Named.{IsLinked}
-use Rattle.tg_translate_laws.specs.Laws.{names}
+use Rattle.tg_translate_laws.specs.laws.Laws.{names}
 use Rattle.tg_compile.specs.Compiling.{findings_of, fragments_of}
-use Rattle.tg_compile.specs.Passes.{IsWellFormed}
+use Rattle.tg_compile.specs.glue.Passes.{IsWellFormed}
 use Rattle.tg_compile.proofs.Chain.{tree_of, translated_whole}
 use Rattle.tg_compile.proofs.programs.fragments.Goals as goal
 

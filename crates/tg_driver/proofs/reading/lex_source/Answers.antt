@@ -1,5 +1,5 @@
 use Rattle.std.proofs.Common.{rules}
-use Rattle.tg_driver.specs.Readings.{IsLexFaultOf}
+use Rattle.tg_driver.specs.glue.Readings.{IsLexFaultOf}
 use Rattle.tg_driver.proofs.reading.lex_source.Goals as goal
 
 pub returns-in-Err : goal.returns-in-Err

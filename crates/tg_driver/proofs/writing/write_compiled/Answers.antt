@@ -1,5 +1,5 @@
 use Rattle.tg_driver.specs.Calls.{stream_of}
-use Rattle.tg_driver.specs.Texts.{wanted_text}
+use Rattle.tg_driver.specs.glue.Texts.{wanted_text}
 use Rattle.tg_driver.proofs.AnswerLemmas.{taken_text, started_stays}
 use Rattle.tg_driver.proofs.writing.write_compiled.Goals as goal
 

@@ -1,6 +1,6 @@
 use Rattle.std.proofs.Common.{refl}
 use Rattle.tg_driver.specs.Calls.{stream_of}
-use Rattle.tg_driver.specs.Texts.{wanted_text, writes_of}
+use Rattle.tg_driver.specs.glue.Texts.{wanted_text, writes_of}
 use Rattle.tg_driver.proofs.AnswerLemmas.{written_of_refused, refused_stays, writes_text}
 use Rattle.tg_driver.proofs.Typings.{writes_wanted}
 use Rattle.tg_driver.proofs.writing.write_source.Goals as goal

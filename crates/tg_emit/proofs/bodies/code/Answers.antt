@@ -1,7 +1,7 @@
 use Rattle.std.proofs.Common.{◌++◌, ap, ◌∙◌, subst}
 use Rattle.std.proofs.lemmas.List.Elements.{All-more}
-use Rattle.tg_emit.specs.Lines.{instruction_lines}
 use Rattle.tg_emit.specs.Ranges.{InstructionFits}
+use Rattle.tg_emit.specs.mirror.Lines.{instruction_lines}
 use Rattle.tg_emit.proofs.Appending.{code_one_more}
 use Rattle.tg_emit.proofs.bodies.code.Goals as goal
 

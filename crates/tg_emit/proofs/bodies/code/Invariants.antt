@@ -1,7 +1,7 @@
 use Rattle.std.proofs.Common.{take, ◌≡◌, ◌++◌}
 use Rattle.std.specs.List.{All}
-use Rattle.tg_emit.specs.Lines.{code_lines}
 use Rattle.tg_emit.specs.Ranges.{InstructionFits}
+use Rattle.tg_emit.specs.mirror.Lines.{code_lines}
 use Rattle.tg_emit.proofs.bodies.code.Given as goal
 
 abbrev pub invariant-loop-place : goal.invariant-loop-place

@@ -1,7 +1,7 @@
 use Rattle.std.proofs.Common.{◌++◌, [], ap, ◌∙◌, subst}
 use Rattle.std.proofs.lemmas.List.Elements.{All-more}
-use Rattle.tg_emit.specs.Lines.{functions_lines, function_lines}
 use Rattle.tg_emit.specs.Ranges.{FunctionFits}
+use Rattle.tg_emit.specs.mirror.Lines.{functions_lines, function_lines}
 use Rattle.tg_emit.proofs.Appending.{one_more, functions_more}
 use Rattle.tg_emit.proofs.emitting.bodies.Goals as goal
 

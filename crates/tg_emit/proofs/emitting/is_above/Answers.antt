@@ -1,6 +1,6 @@
 use Rattle.std.proofs.Common.{◌+◌, ◌<◌, arith}
 use Rattle.std.proofs.lemmas.Bool.Decides.{nat_tests}
-use Rattle.tg_emit.specs.Lines.{words}
+use Rattle.tg_emit.specs.mirror.Lines.{words}
 use Rattle.tg_emit.proofs.Appending.{words_at, words_below}
 use Rattle.tg_emit.proofs.emitting.is_above.Goals as goal
 

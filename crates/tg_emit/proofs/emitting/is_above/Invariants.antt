@@ -1,5 +1,5 @@
 use Rattle.std.proofs.Common.{take, ◌≡◌, ◌+◌}
-use Rattle.tg_emit.specs.Lines.{words}
+use Rattle.tg_emit.specs.mirror.Lines.{words}
 use Rattle.tg_emit.proofs.emitting.is_above.Given as goal
 
 abbrev pub invariant-loop-line : goal.invariant-loop-line

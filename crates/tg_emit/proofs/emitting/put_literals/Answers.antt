@@ -1,7 +1,7 @@
 use Rattle.std.proofs.Common.{◌++◌, ap, ◌∙◌, subst}
 use Rattle.std.proofs.lemmas.List.Elements.{All-more}
-use Rattle.tg_emit.specs.Lines.{literals_lines, literal_lines}
 use Rattle.tg_emit.specs.Ranges.{LiteralFits}
+use Rattle.tg_emit.specs.mirror.Lines.{literals_lines, literal_lines}
 use Rattle.tg_emit.proofs.Appending.{one_more, literals_more}
 use Rattle.tg_emit.proofs.emitting.put_literals.Goals as goal
 

@@ -1,7 +1,7 @@
 use Rattle.std.proofs.Common.{take, ◌≡◌, ◌++◌}
 use Rattle.std.specs.List.{All}
-use Rattle.tg_emit.specs.Lines.{literals_lines}
 use Rattle.tg_emit.specs.Ranges.{LiteralFits}
+use Rattle.tg_emit.specs.mirror.Lines.{literals_lines}
 use Rattle.tg_emit.proofs.emitting.put_literals.Given as goal
 
 abbrev pub invariant-loop-one : goal.invariant-loop-one

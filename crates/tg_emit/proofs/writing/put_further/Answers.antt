@@ -1,6 +1,6 @@
 use Rattle.std.proofs.Common.{◌++◌, [], ◌∷◌, get_or, ap, ◌∙◌, append_assoc}
 use Rattle.std.specs.Fmt.{decimal}
-use Rattle.tg_emit.specs.Text.{further_numbers}
+use Rattle.tg_emit.specs.mirror.Text.{further_numbers}
 use Rattle.tg_emit.proofs.Appending.{one_more, further_more}
 use Rattle.tg_emit.proofs.writing.put_further.Goals as goal
 

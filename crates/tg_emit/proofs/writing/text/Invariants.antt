@@ -1,5 +1,5 @@
 use Rattle.std.proofs.Common.{◌≡◌, ◌++◌, drop}
-use Rattle.tg_emit.specs.Text.{text_of, lines_text}
+use Rattle.tg_emit.specs.mirror.Text.{text_of, lines_text}
 use Rattle.tg_emit.proofs.writing.text.Given as goal
 
 -- what is left is the text of the lines that are left

@@ -1,5 +1,5 @@
 use Rattle.std.proofs.Common.{◌≡◌, drop}
-use Rattle.tg_escape.specs.Searches.{with_all}
+use Rattle.tg_escape.specs.glue.Searches.{with_all}
 use Rattle.tg_escape.proofs.found.add_all.Given as goal
 
 abbrev pub invariant-loop-function : goal.invariant-loop-function

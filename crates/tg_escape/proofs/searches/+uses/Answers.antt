@@ -1,10 +1,10 @@
 use Rattle.std.proofs.Common.{sym, ap, ◌∙◌, [], ◌∷◌, arith, refl, subst, length}
-use Rattle.tg_syntax.specs.Plain.{plain, plain_kind, plain_exps}
-use Rattle.tg_syntax.specs.Lists.{decs_of}
+use Rattle.tg_syntax.specs.glue.Plain.{plain, plain_kind, plain_exps}
+use Rattle.tg_syntax.specs.glue.Lists.{decs_of}
 use Rattle.tg_syntax.proofs.ListLaws.{plain_kind-Let}
 use Rattle.tg_escape.specs.declared.searches.Search.{Search}
 use Rattle.tg_escape.specs.Uses.{uses, exps_uses, declare_params}
-use Rattle.tg_escape.specs.Searches.{FindsUses, FindsDeclared, Declares}
+use Rattle.tg_escape.specs.glue.Searches.{FindsUses, FindsDeclared, Declares}
 use Rattle.tg_escape.proofs.SearchSteps.{behind, closed, walk_begins, walk_on, walk_ends, uses_are, uses_in_exp, uses_in_init, uses_in_function}
 use Rattle.tg_escape.proofs.SearchSteps.{exps_are, inits_are, functions_are, decs_begin, dec_more, decs_end, decs_open, params_open, still_open}
 use Rattle.tg_escape.proofs.SearchSteps.{in_order, body_closed, left_of}

@@ -1,4 +1,4 @@
-use Rattle.tg_syntax.specs.Plain.{plain}
+use Rattle.tg_syntax.specs.glue.Plain.{plain}
 use Rattle.tg_escape.specs.Uses.{uses_of}
 use Rattle.tg_escape.proofs.SearchSteps.{found_in}
 use Rattle.tg_escape.proofs.SetSteps.{escapes_from_nothing, links_from_nothing}

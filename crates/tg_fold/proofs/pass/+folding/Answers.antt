@@ -1,9 +1,9 @@
 use Rattle.std.proofs.Common.{sym, ap, ◌∙◌}
 use Rattle.std.specs.Prelude.{None}
 use Rattle.tg_tree.specs.Tree as tree
-use Rattle.tg_tree.specs.Plain.{plain_tx, plain_ts}
+use Rattle.tg_tree.specs.glue.Plain.{plain_tx, plain_ts}
 use Rattle.tg_tree.proofs.ListLaws.{plain_tx-Call, plain_ts-Seq}
-use Rattle.tg_fold.specs.Folding.{passed_on, folded, folded_tx}
+use Rattle.tg_fold.specs.mirror.Folding.{passed_on, folded, folded_tx}
 use Rattle.tg_fold.proofs.pass.+folding.Goals as goal
 
 pub fold_statement-returns-in_ok-all-in-Seq : goal.fold_statement-returns-in_ok-all-in-Seq

@@ -1,6 +1,6 @@
 use Rattle.std.proofs.Common.{vec_len}
-use Rattle.tg_tree.specs.Lists.{txs_of, stms_of}
-use Rattle.tg_fold.specs.Folding.{folded_txs, each_folded}
+use Rattle.tg_tree.specs.glue.Lists.{txs_of, stms_of}
+use Rattle.tg_fold.specs.mirror.Folding.{folded_txs, each_folded}
 use Rattle.tg_fold.proofs.Walks.{Walked}
 use Rattle.tg_fold.proofs.pass.+folding.Given as goal
 

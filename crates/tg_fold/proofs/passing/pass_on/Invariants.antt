@@ -1,8 +1,8 @@
 use Rattle.std.proofs.Common.{◌≡◌, vec_len}
 use Rattle.std.specs.Prelude.{reverse, None}
-use Rattle.tg_tree.specs.Lists.{stms_of, join_stms}
-use Rattle.tg_fold.specs.Folding.{passed_on}
-use Rattle.tg_fold.specs.Views.{plain_copy}
+use Rattle.tg_tree.specs.glue.Lists.{stms_of, join_stms}
+use Rattle.tg_fold.specs.glue.Views.{plain_copy}
+use Rattle.tg_fold.specs.mirror.Folding.{passed_on}
 use Rattle.tg_fold.proofs.passing.pass_on.Given as goal
 
 abbrev pub invariant-loop-statement : goal.invariant-loop-statement

@@ -1,5 +1,5 @@
 use Rattle.std.proofs.Common.{ap, sym, ◌∙◌}
-use Rattle.tg_tree.specs.Plain.{plain_tx, plain_ts}
+use Rattle.tg_tree.specs.glue.Plain.{plain_tx, plain_ts}
 use Rattle.tg_tree.proofs.ListLaws.{plain_tx-Call, plain_ts-Seq}
 use Rattle.tg_fold.specs.Copies.{assigns, assigns_tx}
 use Rattle.tg_fold.proofs.reading.+assigns.Goals as goal

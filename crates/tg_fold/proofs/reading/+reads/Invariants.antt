@@ -1,5 +1,5 @@
 use Rattle.std.proofs.Common.{◌≡◌, ◌||◌, drop}
-use Rattle.tg_tree.specs.Lists.{txs_of, stms_of}
+use Rattle.tg_tree.specs.glue.Lists.{txs_of, stms_of}
 use Rattle.tg_fold.specs.Copies.{reads_stms, reads_txs}
 use Rattle.tg_fold.proofs.reading.+reads.Given as goal
 

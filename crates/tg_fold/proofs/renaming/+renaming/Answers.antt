@@ -1,6 +1,6 @@
 use Rattle.std.proofs.Common.{sym, ap, ◌∙◌}
 use Rattle.tg_tree.specs.Tree as tree
-use Rattle.tg_tree.specs.Plain.{plain_tx, plain_ts}
+use Rattle.tg_tree.specs.glue.Plain.{plain_tx, plain_ts}
 use Rattle.tg_tree.proofs.ListLaws.{plain_tx-Call, plain_ts-Seq}
 use Rattle.tg_fold.specs.Copies.{renamed, renamed_tx}
 use Rattle.tg_fold.proofs.renaming.+renaming.Goals as goal

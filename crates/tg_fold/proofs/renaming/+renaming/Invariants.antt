@@ -1,5 +1,5 @@
 use Rattle.std.proofs.Common.{vec_len}
-use Rattle.tg_tree.specs.Lists.{txs_of, stms_of}
+use Rattle.tg_tree.specs.glue.Lists.{txs_of, stms_of}
 use Rattle.tg_fold.specs.Copies.{renamed_txs, renamed_stms}
 use Rattle.tg_fold.proofs.Walks.{Walked}
 use Rattle.tg_fold.proofs.renaming.+renaming.Given as goal

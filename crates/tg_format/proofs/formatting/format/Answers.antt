@@ -1,6 +1,6 @@
 use Rattle.std.proofs.Common.{◌++◌, sym, ap, ◌∙◌, arith}
 use Rattle.tg_format.specs.Canonical.{Behind, text_behind, tokens_of}
-use Rattle.tg_format.specs.Reached.{behind_of}
+use Rattle.tg_format.specs.glue.Reached.{behind_of}
 use Rattle.tg_format.proofs.Steps.{are_named}
 use Rattle.tg_format.proofs.formatting.format.Goals as goal
 

@@ -1,7 +1,7 @@
 use Rattle.std.proofs.Common.{◌≡◌, ◌≤◌, ◌++◌, drop}
 use Rattle.tg_format.specs.declared.gaps.Behind.{Behind}
 use Rattle.tg_format.specs.Canonical.{canonical, text_behind, tokens_of}
-use Rattle.tg_format.specs.Reached.{behind_of, AreNamed}
+use Rattle.tg_format.specs.glue.Reached.{behind_of, AreNamed}
 use Rattle.tg_format.proofs.formatting.format.Given as goal
 
 -- what is left is the text of the tokens that are left

@@ -1,6 +1,6 @@
 use Rattle.std.proofs.Common.{◌*◌, ◌/◌, ◌%◌, ◌^◌, set, bit_or, ap, ◌∙◌}
 use Rattle.std.proofs.lemmas.List.{get_or_read}
-use Rattle.tg_graph.specs.Bits.{bit}
+use Rattle.tg_graph.specs.glue.Bits.{bit}
 use Rattle.tg_graph.proofs.Places.{bit_written}
 use Rattle.tg_graph.proofs.bits.set_bit.Goals as goal
 

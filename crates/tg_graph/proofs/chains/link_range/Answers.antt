@@ -1,6 +1,6 @@
 use Rattle.std.proofs.Common.{◌≡◌, ℕ, suc, ◌+◌, ◌-◌, List, [], ◌∷◌, slice_index, sym, ap, ◌∙◌, subst, arith}
 use Rattle.std.specs.List.{range_with_len}
-use Rattle.tg_graph.specs.Chains.{LeadsAlong, joined_to}
+use Rattle.tg_graph.specs.glue.Chains.{LeadsAlong, joined_to}
 use Rattle.tg_graph.proofs.Runs.{joined_more, joined_none}
 use Rattle.tg_graph.proofs.chains.link_range.Goals as goal
 

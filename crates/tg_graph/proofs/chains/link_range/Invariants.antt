@@ -1,6 +1,6 @@
 use Rattle.std.proofs.Common.{◌≡◌, ℕ, ◌-◌, ◌<◌, ◌≤◌, List, slice_index}
 use Rattle.std.specs.List.{range_with_len}
-use Rattle.tg_graph.specs.Chains.{AreAlone, AreInverse, Relinks, joined_to}
+use Rattle.tg_graph.specs.glue.Chains.{AreAlone, AreInverse, Relinks, joined_to}
 use Rattle.tg_graph.proofs.chains.link_range.Given as goal
 
 pub record IsLinkedTo (old next prev : List ℕ) (from node to end : ℕ) : Type 0 where

@@ -1,7 +1,7 @@
 use Rattle.std.proofs.Common.{◌≡◌, ℕ, List, [], ◌∷◌, ◌++◌, Vec, replicate, ap, ◌∙◌, arith}
 use Rattle.std.specs.declared.alloc.Global.{Global}
 use Rattle.std.proofs.lemmas.List.{map_push, replicate_more}
-use Rattle.tg_graph.specs.Keeping.{lists_of}
+use Rattle.tg_graph.specs.glue.Keeping.{lists_of}
 use Rattle.tg_graph.proofs.lists.empty_lists.Goals as goal
 
 pub loop-init : goal.loop-init

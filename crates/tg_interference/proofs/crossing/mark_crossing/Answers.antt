@@ -6,7 +6,7 @@ use Rattle.tg_instr.specs.Operands.{is_same}
 use Rattle.tg_instr.specs.Codes.{is_below}
 use Rattle.tg_interference.specs.Nodes.{operand_at}
 use Rattle.tg_interference.specs.Pairs.{has}
-use Rattle.tg_interference.specs.Crossing.{is_marked}
+use Rattle.tg_interference.specs.glue.Crossing.{is_marked}
 use Rattle.tg_interference.proofs.Operands.{all_read}
 use Rattle.tg_interference.proofs.Joining.{has_more}
 use Rattle.tg_interference.proofs.Marking.{more_marked, as_marked, has_put, all_put}

@@ -2,7 +2,7 @@ use Rattle.std.proofs.Common.{◌≡◌, ◌-◌, ◌||◌, ℕ, true, length, t
 use Rattle.std.specs.List.{list_all}
 use Rattle.tg_instr.specs.Codes.{is_below}
 use Rattle.tg_interference.specs.Pairs.{has}
-use Rattle.tg_interference.specs.Crossing.{is_marked}
+use Rattle.tg_interference.specs.glue.Crossing.{is_marked}
 use Rattle.tg_interference.proofs.crossing.mark_crossing.Given as goal
 
 abbrev pub invariant-loop-one : goal.invariant-loop-one

@@ -1,6 +1,6 @@
 use Rattle.std.proofs.Common.{◌<◌, ◌+◌, ◌-◌, not, ◌||◌, length, sym, ap, ◌∙◌, arith}
 use Rattle.std.proofs.lemmas.Bool.{eqb-true, false≢true}
-use Rattle.tg_interference.specs.Crossing.{is_marked}
+use Rattle.tg_interference.specs.glue.Crossing.{is_marked}
 use Rattle.tg_interference.proofs.Colours.{node_below}
 use Rattle.tg_interference.proofs.Joining.{at_node, at_no_node}
 use Rattle.tg_interference.proofs.Marking.{or_false, marked_more}

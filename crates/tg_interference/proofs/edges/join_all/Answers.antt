@@ -6,8 +6,8 @@ use Rattle.tg_instr.specs.Codes.{has_temps_below, is_below}
 use Rattle.tg_interference.proofs.Operands.{all_read}
 use Rattle.tg_interference.proofs.Alive.{live_below}
 use Rattle.tg_interference.proofs.Joining.{joined_more}
-use Rattle.tg_live.specs.LiveChanges.{set_before}
-use Rattle.tg_interference.specs.Crossing.{HaveCrossed}
+use Rattle.tg_live.specs.glue.LiveChanges.{set_before}
+use Rattle.tg_interference.specs.glue.Crossing.{HaveCrossed}
 use Rattle.tg_interference.proofs.Marking.{none_crossed}
 use Rattle.tg_graph.specs.Interference.{Interference, interferes}
 use Rattle.tg_interference.proofs.Interfering.{are_registers, joined_below, joined_step, interference_of}

@@ -1,7 +1,7 @@
 use Rattle.std.proofs.Common.{◌≡◌, ◌+◌, ◌||◌, ℕ, length}
 use Rattle.tg_graph.specs.Interference.{interferes}
-use Rattle.tg_live.specs.LiveChanges.{set_before}
-use Rattle.tg_interference.specs.Crossing.{HaveCrossed}
+use Rattle.tg_live.specs.glue.LiveChanges.{set_before}
+use Rattle.tg_interference.specs.glue.Crossing.{HaveCrossed}
 use Rattle.tg_interference.proofs.Interfering.{joined_below, are_registers}
 use Rattle.tg_interference.proofs.edges.join_all.Given as goal
 

@@ -1,6 +1,6 @@
 use Rattle.std.proofs.Common.{take}
 use Rattle.tg_syntax.specs.Spellings.{AllAre}
-use Rattle.tg_lexer.specs.Lexemes.{in_class}
+use Rattle.tg_lexer.specs.glue.Lexemes.{in_class}
 use Rattle.tg_lexer.proofs.bytes.count_run.Given as goal
 
 abbrev pub invariant-loop-size : goal.invariant-loop-size

@@ -1,6 +1,6 @@
 use Rattle.std.proofs.Common.{arith, drop, subst, length-drop}
 use Rattle.std.proofs.lemmas.List.{take_rest}
-use Rattle.tg_lexer.specs.Lexemes.{IsBehindQuote}
+use Rattle.tg_lexer.specs.glue.Lexemes.{IsBehindQuote}
 use Rattle.tg_lexer.proofs.Readings.{string_token, string_fault}
 use Rattle.tg_lexer.proofs.lexemes.read_string.Goals as goal
 

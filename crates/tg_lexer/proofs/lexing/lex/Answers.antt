@@ -3,8 +3,8 @@ use Rattle.std.proofs.lemmas.List.{take_rest}
 use Rattle.std.proofs.lemmas.Result.{err_from_is_err_and}
 use Rattle.tg_syntax.specs.declared.tokens.Spanned.{Spanned}
 use Rattle.tg_syntax.specs.LexicalFaults.{too_long}
-use Rattle.tg_lexer.specs.Lexemes.{IsLexeme, IsRead}
 use Rattle.tg_lexer.specs.Numbering.{names_after}
+use Rattle.tg_lexer.specs.glue.Lexemes.{IsLexeme, IsRead}
 use Rattle.tg_lexer.proofs.Scans.{scanned_none, scanned_gap, scanned_token, scanned_end, scanned_named, scanned_kept, scanned_after, read_bad}
 use Rattle.tg_lexer.proofs.TokenEnds.{ends_once}
 use Rattle.tg_lexer.proofs.lexing.lex.Goals as goal

@@ -1,7 +1,7 @@
 use Rattle.std.proofs.Common.{◌≡◌, ℕ, not, nat_eq, ◌&&◌, length, take}
 use Rattle.std.specs.List.{list_any}
-use Rattle.tg_live.specs.Tables.{row}
-use Rattle.tg_live.specs.Search.{has_stamp_before}
+use Rattle.tg_live.specs.glue.Tables.{row}
+use Rattle.tg_live.specs.mirror.Search.{has_stamp_before}
 use Rattle.tg_live.proofs.Noted.{grown}
 use Rattle.tg_live.proofs.changes.add_comes.Given as goal
 

@@ -1,8 +1,8 @@
 use Rattle.std.proofs.Common.{◌<◌, suc, not, nat_eq, ◌&&◌, length, ap, ◌∙◌, arith}
 use Rattle.std.specs.List.{list_any}
 use Rattle.std.proofs.lemmas.List.{take_all}
-use Rattle.tg_live.specs.Tables.{row}
-use Rattle.tg_live.specs.Search.{has_stamp}
+use Rattle.tg_live.specs.glue.Tables.{row}
+use Rattle.tg_live.specs.mirror.Search.{has_stamp}
 use Rattle.tg_live.proofs.Noted.{grown, noted_next, within_at}
 use Rattle.tg_live.proofs.changes.add_goes.Goals as goal
 

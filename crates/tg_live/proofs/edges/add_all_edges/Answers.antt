@@ -1,7 +1,7 @@
 use Rattle.std.proofs.Common.{◌<◌, ◌≤◌, ◌+◌, length, drop, sym, ap, ◌∙◌, arith}
 use Rattle.std.proofs.lemmas.List.{drop_all}
 use Rattle.tg_live.specs.Flow.{successors}
-use Rattle.tg_live.specs.Tables.{Table, row, add_from}
+use Rattle.tg_live.specs.glue.Tables.{Table, row, add_from}
 use Rattle.tg_live.proofs.Turned.{length-add_to, add_from_more}
 use Rattle.tg_live.proofs.Places.{length-successors}
 use Rattle.tg_live.proofs.edges.add_all_edges.Goals as goal

@@ -1,6 +1,6 @@
 use Rattle.std.proofs.Common.{◌≡◌, length, drop}
 use Rattle.tg_live.specs.Flow.{successors}
-use Rattle.tg_live.specs.Tables.{add_from}
+use Rattle.tg_live.specs.glue.Tables.{add_from}
 use Rattle.tg_live.proofs.edges.add_all_edges.Given as goal
 
 abbrev pub invariant-loop-at : goal.invariant-loop-at

@@ -2,7 +2,7 @@
 use Rattle.std.proofs.Common.{◌≡◌, ◌+◌, suc, length, OnOk, sym, ap, ◌∙◌, subst, arith}
 use Rattle.tg_instr.specs.declared.instr.Instr.TheVariants.{Jump, Branch, Fault, Return}
 use Rattle.tg_live.specs.Flow.{successors}
-use Rattle.tg_live.specs.Tables.{Table, push_at, add_to}
+use Rattle.tg_live.specs.glue.Tables.{Table, push_at, add_to}
 use Rattle.tg_live.proofs.Turned.{length-push_at}
 use Rattle.tg_live.proofs.Places.{marks_at, edge_row, next_row, first_within, second_within}
 use Rattle.tg_live.proofs.edges.add_edges.Goals as goal

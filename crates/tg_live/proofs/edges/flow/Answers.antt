@@ -2,7 +2,7 @@ use Rattle.std.proofs.Common.{◌≡◌, ℕ, true, List, [], length, replicate,
 use Rattle.std.proofs.lemmas.List.{length-replicate}
 use Rattle.tg_instr.specs.declared.instr.Instr.{Instr}
 use Rattle.tg_live.specs.Flow.{successors}
-use Rattle.tg_live.specs.Tables.{Table, add_from, have_rows_below}
+use Rattle.tg_live.specs.glue.Tables.{Table, add_from, have_rows_below}
 use Rattle.tg_live.proofs.Turned.{flow_of_table}
 use Rattle.tg_live.proofs.Places.{successors_below, before_of}
 use Rattle.tg_live.proofs.edges.flow.Goals as goal

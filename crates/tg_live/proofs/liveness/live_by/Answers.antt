@@ -1,10 +1,10 @@
 use Rattle.std.proofs.Common.{◌≡◌, ◌<◌, ◌+◌, ℕ, suc, not, nat_eq, ◌&&◌, length, sym, ap, ◌∙◌, subst, arith}
 use Rattle.tg_instr.specs.declared.operands.Opnd.{Opnd}
 use Rattle.tg_live.specs.Live.{AreLiveSets}
-use Rattle.tg_live.specs.Tables.{row}
+use Rattle.tg_live.specs.glue.Tables.{row}
 use Rattle.std.specs.List.{list_any}
-use Rattle.tg_live.specs.Search.{has_stamp, has_stamp_before, IsSearched}
-use Rattle.tg_live.specs.LiveChanges.{ends_in, sets_of}
+use Rattle.tg_live.specs.mirror.Search.{has_stamp, has_stamp_before, IsSearched}
+use Rattle.tg_live.specs.glue.LiveChanges.{ends_in, sets_of}
 use Rattle.tg_live.proofs.Noted.{grown}
 use Rattle.tg_live.proofs.Turned.{table_of_flow}
 use Rattle.tg_live.proofs.Gathered.{gathered_all}

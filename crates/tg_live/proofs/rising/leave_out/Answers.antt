@@ -2,7 +2,7 @@ use Rattle.std.proofs.Common.{◌≡◌, ◌<◌, ◌≤◌, true, false, length
 use Rattle.std.specs.List.{remove}
 use Rattle.std.proofs.lemmas.Bool.{eq-eqb, ne_eqb}
 use Rattle.tg_live.specs.Live.{number_of}
-use Rattle.tg_live.specs.LiveChanges.{lower_count}
+use Rattle.tg_live.specs.glue.LiveChanges.{lower_count}
 use Rattle.tg_live.proofs.Changing.{stands, stands_at, stands_nowhere, without_none, without_there}
 use Rattle.tg_live.proofs.rising.leave_out.Goals as goal
 use Rattle.tg_live.proofs.rising.leave_out.Goals.{else-at-len-via-then-at-len+else-number_of, else-at-len-via-else-at-len}

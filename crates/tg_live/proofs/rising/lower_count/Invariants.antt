@@ -1,5 +1,5 @@
 use Rattle.std.proofs.Common.{◌≡◌, ◌+◌, drop}
-use Rattle.tg_live.specs.LiveChanges.{lower_count}
+use Rattle.tg_live.specs.glue.LiveChanges.{lower_count}
 use Rattle.tg_live.proofs.rising.lower_count.Given as goal
 
 abbrev pub invariant-loop-at : goal.invariant-loop-at

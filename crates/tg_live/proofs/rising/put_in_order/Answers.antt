@@ -1,6 +1,6 @@
 use Rattle.std.proofs.Common.{◌≡◌, ap, ◌∙◌}
 use Rattle.std.specs.List.{insert}
-use Rattle.tg_live.specs.LiveChanges.{lower_count}
+use Rattle.tg_live.specs.glue.LiveChanges.{lower_count}
 use Rattle.tg_live.proofs.Changing.{insert_in_order}
 use Rattle.tg_live.proofs.rising.put_in_order.Goals as goal
 

@@ -1,5 +1,5 @@
 use Rattle.std.proofs.Common.{◌+◌, drop, sym, ap, ◌∙◌}
-use Rattle.tg_live.specs.LiveChanges.{all_put_in_order}
+use Rattle.tg_live.specs.glue.LiveChanges.{all_put_in_order}
 use Rattle.tg_live.proofs.Changing.{put_more}
 use Rattle.tg_live.proofs.sets.all_put_in_order.Goals as goal
 

@@ -1,5 +1,5 @@
 use Rattle.std.proofs.Common.{◌≡◌, drop}
-use Rattle.tg_live.specs.LiveChanges.{all_put_in_order}
+use Rattle.tg_live.specs.glue.LiveChanges.{all_put_in_order}
 use Rattle.tg_live.proofs.sets.all_put_in_order.Given as goal
 
 abbrev pub invariant-loop-one : goal.invariant-loop-one

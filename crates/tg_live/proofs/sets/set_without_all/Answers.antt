@@ -1,5 +1,5 @@
 use Rattle.std.proofs.Common.{◌+◌, drop, sym, ap, ◌∙◌}
-use Rattle.tg_live.specs.LiveChanges.{set_without_all}
+use Rattle.tg_live.specs.glue.LiveChanges.{set_without_all}
 use Rattle.tg_live.proofs.Changing.{without_more}
 use Rattle.tg_live.proofs.sets.set_without_all.Goals as goal
 

@@ -1,5 +1,5 @@
 use Rattle.std.proofs.Common.{◌≡◌, drop}
-use Rattle.tg_live.specs.LiveChanges.{set_without_all}
+use Rattle.tg_live.specs.glue.LiveChanges.{set_without_all}
 use Rattle.tg_live.proofs.sets.set_without_all.Given as goal
 
 abbrev pub invariant-loop-one : goal.invariant-loop-one

@@ -6,7 +6,7 @@ use Rattle.tg_instr.specs.declared.operands.Opnd.{Opnd}
 use Rattle.tg_instr.specs.Codes.{is_below}
 use Rattle.tg_instr.specs.Uses.{uses_of}
 use Rattle.tg_live.specs.Live.{is_proper}
-use Rattle.tg_live.specs.Tables.{add_to, numbers_of, push_at}
+use Rattle.tg_live.specs.glue.Tables.{add_to, numbers_of, push_at}
 use Rattle.tg_live.proofs.Numbers.{number_below}
 use Rattle.tg_live.proofs.Places.{add_uses_more, all_at, numbers_at, proper_more, uses_at_is, uses_below}
 use Rattle.tg_live.proofs.Turned.{length-push_at}

@@ -1,7 +1,7 @@
 use Rattle.std.proofs.Common.{◌≡◌, ◌+◌, true, length, drop, take}
 use Rattle.std.specs.List.{list_all}
 use Rattle.tg_live.specs.Live.{is_proper}
-use Rattle.tg_live.specs.Tables.{add_to, numbers_of}
+use Rattle.tg_live.specs.glue.Tables.{add_to, numbers_of}
 use Rattle.tg_live.proofs.sites.add_uses.Given as goal
 
 abbrev pub invariant-loop-one : goal.invariant-loop-one

@@ -3,7 +3,7 @@ use Rattle.std.specs.List.{list_all}
 use Rattle.std.proofs.lemmas.List.{drop_all, take_all}
 use Rattle.tg_instr.specs.declared.instr.Instr.{Instr}
 use Rattle.tg_instr.specs.declared.instr.Instr.TheVariants.{Return}
-use Rattle.tg_live.specs.Tables.{Table, row, add_from, numbers_used, AreSites}
+use Rattle.tg_live.specs.glue.Tables.{Table, row, add_from, numbers_used, AreSites}
 use Rattle.tg_live.proofs.Turned.{length-add_to, add_from_more}
 use Rattle.tg_live.proofs.Places.{uses_are_proper, uses_proper_more, length-numbers_used, sites_of}
 use Rattle.tg_live.proofs.sites.use_sites.Goals as goal

@@ -1,6 +1,6 @@
 use Rattle.std.proofs.Common.{◌≡◌, ◌+◌, [], true, length, replicate, drop, take}
 use Rattle.std.specs.List.{list_all}
-use Rattle.tg_live.specs.Tables.{add_from, numbers_used}
+use Rattle.tg_live.specs.glue.Tables.{add_from, numbers_used}
 use Rattle.tg_live.proofs.Places.{uses_are_proper}
 use Rattle.tg_live.proofs.sites.use_sites.Given as goal
 

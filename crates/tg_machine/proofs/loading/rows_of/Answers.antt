@@ -1,7 +1,7 @@
 use Rattle.std.proofs.Common.{List, take, sym, ap, ◌∙◌, map, ◌++◌, ◌∷◌, []}
 use Rattle.std.proofs.lemmas.List.{map-append, take_more, take_all}
 use Rattle.tg_machine.specs.declared.rows.Row.{Row}
-use Rattle.tg_machine.specs.Rows.{row_of}
+use Rattle.tg_machine.specs.mirror.Rows.{row_of}
 use Rattle.tg_machine.proofs.loading.rows_of.Goals as goal
 
 pub loop-word-init : goal.loop-word-init

@@ -1,6 +1,6 @@
 use Rattle.std.proofs.Common.{◌≡◌, take}
 use Rattle.std.specs.Prelude.{map}
-use Rattle.tg_machine.specs.Rows.{row_of}
+use Rattle.tg_machine.specs.mirror.Rows.{row_of}
 use Rattle.tg_machine.proofs.loading.rows_of.Given as goal
 
 abbrev pub invariant-loop-word : goal.invariant-loop-word

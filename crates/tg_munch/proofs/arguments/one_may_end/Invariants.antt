@@ -1,6 +1,6 @@
 use Rattle.std.proofs.Common.{◌≡◌, drop}
-use Rattle.tg_tree.specs.Lists.{txs_of}
-use Rattle.tg_munch.specs.Arguments.{one_may_end}
+use Rattle.tg_tree.specs.glue.Lists.{txs_of}
+use Rattle.tg_munch.specs.mirror.Arguments.{one_may_end}
 use Rattle.tg_munch.proofs.arguments.one_may_end.Given as goal
 
 abbrev pub invariant-loop-i : goal.invariant-loop-i

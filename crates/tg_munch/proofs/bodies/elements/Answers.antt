@@ -1,6 +1,6 @@
 use Rattle.std.proofs.Common.{None, arith}
 use Rattle.std.specs.Prelude.{option_map}
-use Rattle.tg_tree.specs.Plain.{plain_linear}
+use Rattle.tg_tree.specs.glue.Plain.{plain_linear}
 use Rattle.tg_munch.proofs.Walking.{leads_on, leads_end, element_each}
 use Rattle.tg_munch.proofs.bodies.elements.Goals as goal
 

@@ -1,8 +1,8 @@
 use Rattle.std.proofs.Common.{None}
 use Rattle.std.specs.Prelude.{option_map}
-use Rattle.tg_tree.specs.Lists.{code_of}
-use Rattle.tg_tree.specs.Plain.{plain_linear}
-use Rattle.tg_munch.specs.Munching.{elements}
+use Rattle.tg_tree.specs.glue.Lists.{code_of}
+use Rattle.tg_tree.specs.glue.Plain.{plain_linear}
+use Rattle.tg_munch.specs.mirror.Munching.{elements}
 use Rattle.tg_munch.proofs.Walking.{Leads}
 use Rattle.tg_munch.proofs.bodies.elements.Given as goal
 

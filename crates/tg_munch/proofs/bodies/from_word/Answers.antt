@@ -1,6 +1,6 @@
 use Rattle.std.proofs.Common.{sym, subst}
-use Rattle.tg_munch.specs.Bodies.{from_word}
-use Rattle.tg_munch.specs.Drafts.{Writes}
+use Rattle.tg_munch.specs.glue.Drafts.{Writes}
+use Rattle.tg_munch.specs.mirror.Bodies.{from_word}
 use Rattle.tg_munch.proofs.Writing.{writes_then}
 use Rattle.tg_munch.proofs.bodies.from_word.Goals as goal
 

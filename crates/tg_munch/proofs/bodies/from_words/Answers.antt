@@ -1,6 +1,6 @@
 use Rattle.std.proofs.Common.{◌≡◌, ◌+◌, arith, subst}
 use Rattle.std.proofs.lemmas.List.{get_or_default}
-use Rattle.tg_munch.specs.Bodies.{from_words}
+use Rattle.tg_munch.specs.mirror.Bodies.{from_words}
 use Rattle.tg_munch.proofs.Walking.{Leads, leads_on, leads_end, word_each}
 use Rattle.tg_munch.proofs.bodies.from_words.Goals as goal
 

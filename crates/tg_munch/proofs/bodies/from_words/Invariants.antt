@@ -1,5 +1,5 @@
 use Rattle.std.proofs.Common.{◌+◌}
-use Rattle.tg_munch.specs.Bodies.{from_words}
+use Rattle.tg_munch.specs.mirror.Bodies.{from_words}
 use Rattle.tg_munch.proofs.Walking.{Leads}
 use Rattle.tg_munch.proofs.bodies.from_words.Given as goal
 

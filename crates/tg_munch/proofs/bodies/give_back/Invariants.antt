@@ -1,5 +1,5 @@
 use Rattle.std.proofs.Common.{◌≡◌, ◌+◌}
-use Rattle.tg_munch.specs.Munching.{given_back}
+use Rattle.tg_munch.specs.mirror.Munching.{given_back}
 use Rattle.tg_munch.proofs.Walking.{Leads}
 use Rattle.tg_munch.proofs.bodies.give_back.Given as goal
 

@@ -1,4 +1,4 @@
-use Rattle.tg_munch.specs.Bodies.{kept}
+use Rattle.tg_munch.specs.mirror.Bodies.{kept}
 use Rattle.tg_munch.proofs.Walking.{Leads}
 use Rattle.tg_munch.proofs.bodies.keep.Given as goal
 

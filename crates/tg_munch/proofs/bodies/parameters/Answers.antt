@@ -1,7 +1,7 @@
 use Rattle.std.proofs.Common.{◌+◌, drop, arith, refl, sym, subst}
 use Rattle.std.proofs.lemmas.List.{get_or_default, take_rest}
-use Rattle.tg_munch.specs.Bodies.{parameters, by_frame_address}
-use Rattle.tg_munch.specs.Drafts.{Writes}
+use Rattle.tg_munch.specs.glue.Drafts.{Writes}
+use Rattle.tg_munch.specs.mirror.Bodies.{parameters, by_frame_address}
 use Rattle.tg_munch.proofs.Walking.{leads_by, leads_over, low_first, rest_by_address}
 use Rattle.tg_munch.proofs.bodies.parameters.Goals as goal
 

@@ -1,4 +1,4 @@
-use Rattle.tg_munch.specs.Bodies.{parameters}
+use Rattle.tg_munch.specs.mirror.Bodies.{parameters}
 use Rattle.tg_munch.proofs.Walking.{Leads}
 use Rattle.tg_munch.proofs.bodies.parameters.Given as goal
 

@@ -1,13 +1,13 @@
 use Rattle.std.proofs.Common.{ℕ, Bool, true, false, None, ◌≡◌, ◌+◌, length, arith, refl, ap, sym, ◌∙◌, subst}
 use Rattle.std.specs.Prelude.{IfOk}
-use Rattle.tg_tree.specs.Lists.{txs_of}
-use Rattle.tg_tree.specs.Plain.{plain_tx}
+use Rattle.tg_tree.specs.glue.Lists.{txs_of}
+use Rattle.tg_tree.specs.glue.Plain.{plain_tx}
 use Rattle.tg_tree.proofs.ListLaws.{plain_tx-Call}
-use Rattle.tg_munch.specs.Arguments.{one_may_end, ordered}
-use Rattle.tg_munch.specs.Choosing.{Choice}
-use Rattle.tg_munch.specs.Drafts.{Writes}
-use Rattle.tg_munch.specs.Munching.{expression, arguments, based_at, left_side}
-use Rattle.tg_munch.specs.Tiles.{based, loaded}
+use Rattle.tg_munch.specs.glue.Drafts.{Writes}
+use Rattle.tg_munch.specs.mirror.Arguments.{one_may_end, ordered}
+use Rattle.tg_munch.specs.mirror.Choosing.{Choice}
+use Rattle.tg_munch.specs.mirror.Munching.{expression, arguments, based_at, left_side}
+use Rattle.tg_munch.specs.mirror.Tiles.{based, loaded}
 use Rattle.tg_munch.proofs.Walking.{leads_on, leads_end, argument_each, picked, picks_all, picks_frame, picks_registers, passed_low, passed_high}
 use Rattle.tg_munch.proofs.Walking.{by_word, on_operands, load_is, load_byte_is}
 use Rattle.tg_munch.proofs.Writing.{writes_then, writes_none}

@@ -1,5 +1,5 @@
-use Rattle.tg_tree.specs.Lists.{txs_of}
-use Rattle.tg_munch.specs.Munching.{arguments}
+use Rattle.tg_tree.specs.glue.Lists.{txs_of}
+use Rattle.tg_munch.specs.mirror.Munching.{arguments}
 use Rattle.tg_munch.proofs.Walking.{Leads, picked}
 use Rattle.tg_munch.proofs.expressions.+munching.Given as goal
 

@@ -1,6 +1,6 @@
 use Rattle.std.proofs.Common.{◌∙◌}
-use Rattle.tg_tree.specs.Lists.{code_of}
-use Rattle.tg_tree.specs.Plain.{plain_function}
+use Rattle.tg_tree.specs.glue.Lists.{code_of}
+use Rattle.tg_tree.specs.glue.Plain.{plain_function}
 use Rattle.tg_munch.proofs.Writing.{writes_then}
 use Rattle.tg_munch.proofs.Whole.{whole}
 use Rattle.tg_munch.proofs.munching.body.Goals as goal

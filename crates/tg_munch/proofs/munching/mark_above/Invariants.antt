@@ -1,6 +1,6 @@
 use Rattle.std.proofs.Common.{◌≡◌, max, drop}
-use Rattle.tg_tree.specs.Lists.{code_of}
-use Rattle.tg_munch.specs.Bodies.{mark_above}
+use Rattle.tg_tree.specs.glue.Lists.{code_of}
+use Rattle.tg_munch.specs.mirror.Bodies.{mark_above}
 use Rattle.tg_munch.proofs.munching.mark_above.Given as goal
 
 abbrev pub invariant-loop-one : goal.invariant-loop-one

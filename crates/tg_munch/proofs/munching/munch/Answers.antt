@@ -1,4 +1,4 @@
-use Rattle.tg_tree.specs.Lists.{code_of}
+use Rattle.tg_tree.specs.glue.Lists.{code_of}
 use Rattle.tg_munch.proofs.Keeping.{keeps}
 use Rattle.tg_munch.proofs.munching.munch.Goals as goal
 

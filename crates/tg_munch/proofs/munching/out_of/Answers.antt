@@ -1,8 +1,8 @@
 use Rattle.std.proofs.Common.{◌≡◌, ◌-◌, length, ap, sym, ◌∙◌, subst}
 use Rattle.std.specs.Prelude.{IfOk}
-use Rattle.tg_tree.specs.Plain.{plain_tx}
+use Rattle.tg_tree.specs.glue.Plain.{plain_tx}
 use Rattle.tg_tree.proofs.ListLaws.{plain_tx-Call}
-use Rattle.tg_munch.specs.Bodies.{out_of}
+use Rattle.tg_munch.specs.mirror.Bodies.{out_of}
 use Rattle.tg_munch.proofs.Walking.{count_of}
 use Rattle.tg_munch.proofs.munching.out_of.Goals as goal
 

@@ -1,6 +1,6 @@
 use Rattle.std.proofs.Common.{◌≡◌, max, drop}
-use Rattle.tg_tree.specs.Lists.{code_of}
-use Rattle.tg_munch.specs.Bodies.{outs}
+use Rattle.tg_tree.specs.glue.Lists.{code_of}
+use Rattle.tg_munch.specs.mirror.Bodies.{outs}
 use Rattle.tg_munch.proofs.munching.out_words.Given as goal
 
 abbrev pub invariant-loop-one : goal.invariant-loop-one

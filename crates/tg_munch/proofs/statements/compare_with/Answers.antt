@@ -1,8 +1,8 @@
 use Rattle.std.proofs.Common.{None, subst}
-use Rattle.tg_tree.specs.Plain.{plain_tx}
-use Rattle.tg_munch.specs.Comparing.{against}
-use Rattle.tg_munch.specs.Drafts.{Writes}
-use Rattle.tg_munch.specs.Munching.{expression}
+use Rattle.tg_tree.specs.glue.Plain.{plain_tx}
+use Rattle.tg_munch.specs.glue.Drafts.{Writes}
+use Rattle.tg_munch.specs.mirror.Comparing.{against}
+use Rattle.tg_munch.specs.mirror.Munching.{expression}
 use Rattle.tg_munch.proofs.Writing.{writes_then}
 use Rattle.tg_munch.proofs.statements.compare_with.Goals as goal
 

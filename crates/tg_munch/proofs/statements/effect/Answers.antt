@@ -1,9 +1,9 @@
 use Rattle.std.proofs.Common.{ap, sym, ◌∙◌, subst}
 use Rattle.std.specs.Prelude.{OnOk}
-use Rattle.tg_tree.specs.Plain.{plain_tx}
+use Rattle.tg_tree.specs.glue.Plain.{plain_tx}
 use Rattle.tg_tree.proofs.ListLaws.{plain_tx-Call}
-use Rattle.tg_munch.specs.Munching.{effect}
-use Rattle.tg_munch.specs.Drafts.{Writes}
+use Rattle.tg_munch.specs.mirror.Munching.{effect}
+use Rattle.tg_munch.specs.glue.Drafts.{Writes}
 use Rattle.tg_munch.proofs.statements.effect.Goals as goal
 
 pub returns-in-Call : goal.returns-in-Call

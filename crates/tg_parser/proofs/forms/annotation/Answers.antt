@@ -1,5 +1,5 @@
-use Rattle.tg_syntax_laws.specs.Steps.{Annotation}
-use Rattle.tg_syntax_laws.specs.Reading.{give_got}
+use Rattle.tg_syntax_laws.specs.mirror.Steps.{Annotation}
+use Rattle.tg_syntax_laws.specs.mirror.Reading.{give_got}
 use Rattle.tg_parser.proofs.Chains.{name_on, name_stops, ended, split_on, split_then, split_off, split_none}
 use Rattle.tg_parser.proofs.forms.annotation.Goals as goal
 

@@ -1,6 +1,6 @@
 use Rattle.std.proofs.Common.{subst, sym, ◌∙◌}
-use Rattle.tg_syntax_laws.specs.Steps.{ListedParams, MoreParams, OneParam, Got}
-use Rattle.tg_syntax_laws.specs.Reading.{Does, listed_params, give_got, call_got}
+use Rattle.tg_syntax_laws.specs.mirror.Steps.{ListedParams, MoreParams, OneParam, Got}
+use Rattle.tg_syntax_laws.specs.mirror.Reading.{Does, listed_params, give_got, call_got}
 use Rattle.tg_parser.proofs.Chains.{call_then, call_stops, want_on, want_stops, ended, split_on, split_off, split_else, split_none}
 use Rattle.tg_parser.proofs.forms.listed_params.Goals as goal
 

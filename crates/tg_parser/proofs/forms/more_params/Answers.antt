@@ -1,7 +1,7 @@
 use Rattle.std.proofs.Common.{arith}
-use Rattle.tg_syntax_laws.specs.Steps.{MoreParams, OneParam, Got}
-use Rattle.tg_syntax_laws.specs.Reading.{give_got}
-use Rattle.tg_parser.specs.Given.{no_memory}
+use Rattle.tg_syntax_laws.specs.mirror.Steps.{MoreParams, OneParam, Got}
+use Rattle.tg_syntax_laws.specs.mirror.Reading.{give_got}
+use Rattle.tg_parser.specs.glue.Given.{no_memory}
 use Rattle.tg_parser.proofs.Chains.{call_stops, ended, split_then, split_off, split_none}
 use Rattle.tg_parser.proofs.Params.{onward_more, onward_stops}
 use Rattle.tg_parser.proofs.forms.more_params.Goals as goal

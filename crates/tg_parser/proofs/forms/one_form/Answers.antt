@@ -1,7 +1,7 @@
 use Rattle.tg_syntax.specs.declared.tokens.Sign.TheVariants.{RightBrace}
 use Rattle.tg_syntax_laws.specs.declared.marks.Mark.TheVariants.{OfSign}
-use Rattle.tg_syntax_laws.specs.Steps.{OneForm, ListedParams}
-use Rattle.tg_syntax_laws.specs.Reading.{give_got, call_got}
+use Rattle.tg_syntax_laws.specs.mirror.Steps.{OneForm, ListedParams}
+use Rattle.tg_syntax_laws.specs.mirror.Reading.{give_got, call_got}
 use Rattle.tg_parser.proofs.Chains.{name_on, name_stops, want_on, want_then, want_stops, call_stops, ended, split_on, split_then, split_off}
 use Rattle.tg_parser.proofs.Chains.{split_else, split_none}
 use Rattle.tg_parser.proofs.forms.one_form.Goals as goal

@@ -1,5 +1,5 @@
-use Rattle.tg_syntax_laws.specs.Steps.{TypeDec, OneForm}
-use Rattle.tg_syntax_laws.specs.Reading.{give_got, call_got}
+use Rattle.tg_syntax_laws.specs.mirror.Steps.{TypeDec, OneForm}
+use Rattle.tg_syntax_laws.specs.mirror.Reading.{give_got, call_got}
 use Rattle.tg_parser.proofs.Chains.{name_on, name_then, name_stops, want_on, want_then, want_stops, call_stops, ended}
 use Rattle.tg_parser.proofs.forms.type_dec.Goals as goal
 

@@ -1,5 +1,5 @@
 use Rattle.std.proofs.Common.{◌∙◌, ap}
-use Rattle.tg_syntax.specs.Lists.{decs_of}
+use Rattle.tg_syntax.specs.glue.Lists.{decs_of}
 use Rattle.tg_parser.proofs.GroupSteps.{variable_end}
 use Rattle.tg_parser.proofs.groups.push_variable.Goals as goal
 

@@ -1,4 +1,4 @@
-use Rattle.tg_syntax_laws.specs.Steps.{MoreDecs}
+use Rattle.tg_syntax_laws.specs.mirror.Steps.{MoreDecs}
 use Rattle.tg_parser.proofs.Leading.{declares_ended, then, split_is, split_not}
 use Rattle.tg_parser.proofs.heads.declared_next.Goals as goal
 

@@ -1,6 +1,6 @@
 use Rattle.tg_syntax.specs.declared.tokens.Sign.TheVariants.{RightParen}
 use Rattle.tg_syntax_laws.specs.declared.marks.Mark.TheVariants.{OfSign}
-use Rattle.tg_syntax_laws.specs.Steps.{Annotation, ListedParams}
+use Rattle.tg_syntax_laws.specs.mirror.Steps.{Annotation, ListedParams}
 use Rattle.tg_parser.proofs.Chains.{name_stops, name_then, want_stops, want_then, call_stops, call_then}
 use Rattle.tg_parser.proofs.Leading.{begins_ended, then, name_leads, want_leads, call_leads}
 use Rattle.tg_parser.proofs.heads.function_head.Goals as goal

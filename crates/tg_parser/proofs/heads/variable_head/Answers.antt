@@ -1,4 +1,4 @@
-use Rattle.tg_syntax_laws.specs.Steps.{Annotation}
+use Rattle.tg_syntax_laws.specs.mirror.Steps.{Annotation}
 use Rattle.tg_parser.proofs.Chains.{name_stops, name_then, call_stops}
 use Rattle.tg_parser.proofs.Leading.{two_ended, then, name_leads, call_leads}
 use Rattle.tg_parser.proofs.heads.variable_head.Goals as goal

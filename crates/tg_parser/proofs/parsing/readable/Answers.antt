@@ -1,7 +1,7 @@
 use Rattle.std.proofs.Common.{subst}
 use Rattle.std.specs.Prelude.{MatchOption}
 use Rattle.tg_syntax.specs.SyntaxFaults.{IsShallow}
-use Rattle.tg_parser.specs.Deep.{IsFirstDeep, all}
+use Rattle.tg_parser.specs.glue.Deep.{IsFirstDeep, all}
 use Rattle.tg_parser.proofs.ParseSteps.{cut_at}
 use Rattle.tg_parser.proofs.parsing.readable.Goals as goal
 

@@ -1,5 +1,5 @@
 use Rattle.std.proofs.Common.{◌<◌, subst, sym}
-use Rattle.tg_parser.specs.Ranks.{level_of, NoneWithin, at_unary, looser}
+use Rattle.tg_parser.specs.glue.Ranks.{level_of, NoneWithin, at_unary, looser}
 use Rattle.tg_parser.proofs.Passings.{looseness, tighter}
 use Rattle.tg_parser.proofs.ranks.+is_operator_within.Goals as goal
 

@@ -1,4 +1,4 @@
-use Rattle.tg_parser.specs.Ranks.{level_of}
+use Rattle.tg_parser.specs.glue.Ranks.{level_of}
 use Rattle.tg_parser.proofs.Passings.{looseness}
 use Rattle.tg_parser.proofs.ranks.+is_operator_within.Given as goal
 

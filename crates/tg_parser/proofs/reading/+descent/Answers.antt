@@ -1,17 +1,18 @@
 use Rattle.std.proofs.Common.{arith, refl, sym, ◌∙◌, ap}
 use Rattle.tg_syntax.specs.declared.tokens.Sign.TheVariants.{Comma, Semicolon, RightParen, Equal}
 use Rattle.tg_syntax.specs.declared.tokens.Word.TheVariants.{WEnd}
-use Rattle.tg_syntax.specs.Plain.{plain, plain_lvalue}
+use Rattle.tg_syntax.specs.glue.Plain.{plain, plain_lvalue}
 use Rattle.tg_syntax.specs.Tree.{no_decs, no_exps, exp, init, no_inits}
-use Rattle.tg_syntax.specs.Lists.{exps_of, inits_of, decs_of}
+use Rattle.tg_syntax.specs.glue.Lists.{exps_of, inits_of, decs_of}
 use Rattle.tg_syntax.specs.Groups.{one_function}
 use Rattle.tg_syntax.specs.Grammar.{Whole, Disjunction, Comparison, Sum, Unary}
 use Rattle.tg_syntax_laws.specs.declared.marks.Mark.TheVariants.{OfSign, OfWord}
-use Rattle.tg_syntax_laws.specs.Steps.{Got, At, After, Suffix, Listed, Items, OneInit, ListedInits, MoreInits, VarDec, FunDec, MoreDecs, want, call, give}
-use Rattle.tg_syntax_laws.specs.Reading.{give_got, call_got, below, last, binary}
-use Rattle.tg_parser.specs.Given.{no_memory}
-use Rattle.tg_parser.specs.Ranks.{level_of}
-use Rattle.tg_parser.specs.Heads.{plain_of}
+use Rattle.tg_syntax_laws.specs.mirror.Steps.{Got, At, After, Suffix, Listed, Items, OneInit, ListedInits, MoreInits, VarDec, FunDec, MoreDecs, want, call}
+use Rattle.tg_syntax_laws.specs.mirror.Steps.{give}
+use Rattle.tg_syntax_laws.specs.mirror.Reading.{give_got, call_got, below, last, binary}
+use Rattle.tg_parser.specs.glue.Given.{no_memory}
+use Rattle.tg_parser.specs.glue.Ranks.{level_of}
+use Rattle.tg_parser.specs.glue.Heads.{plain_of}
 use Rattle.tg_parser.proofs.Chains.{want_on, want_then, want_stops, name_on, name_then, name_stops, call_then, call_stops, ended}
 use Rattle.tg_parser.proofs.Leading.{then, gives, raise, carry, want_leads, name_leads, call_leads, last_at, begins_ended, two_ended}
 use Rattle.tg_parser.proofs.Descents.{got_is, same_leads, level_does, level_refuses, suffix_does, suffix_refuses, suffix_same, some_leads}

@@ -1,11 +1,11 @@
 use Rattle.std.proofs.Common.{ℕ, length, ◌+◌, ◌*◌, ◌≤◌}
-use Rattle.tg_syntax.specs.Plain.{plain}
+use Rattle.tg_syntax.specs.glue.Plain.{plain}
 use Rattle.tg_syntax.specs.Tree.{exp, no_exps, init, no_inits, no_decs}
-use Rattle.tg_syntax.specs.Lists.{exps_of, inits_of, decs_of}
+use Rattle.tg_syntax.specs.glue.Lists.{exps_of, inits_of, decs_of}
 use Rattle.tg_parser.proofs.Onwards.{OperatorsOn, ItemsOn, InitsOn, DecsOn}
-use Rattle.tg_parser.specs.Ranks.{level_of}
 use Rattle.tg_parser.specs.declared.ranks.Rank.{Rank}
 use Rattle.tg_parser.specs.declared.ranks.Rank.TheVariants.{Disjunction, Conjunction, Comparison, Sum, Term, Unary}
+use Rattle.tg_parser.specs.glue.Ranks.{level_of}
 use Rattle.tg_parser.proofs.reading.+descent.Given as goal
 
 -- how many calls at most lead from one of these to the next token

@@ -1,6 +1,6 @@
 use Rattle.tg_syntax.specs.Grammar.{Whole}
-use Rattle.tg_syntax_laws.specs.Steps.{At, Whole_program}
-use Rattle.tg_syntax_laws.specs.Reading.{give_got, call_got}
+use Rattle.tg_syntax_laws.specs.mirror.Steps.{At, Whole_program}
+use Rattle.tg_syntax_laws.specs.mirror.Reading.{give_got, call_got}
 use Rattle.tg_parser.proofs.Chains.{want_on, want_stops, call_then, call_stops, ended}
 use Rattle.tg_parser.proofs.reading.program.Goals as goal
 

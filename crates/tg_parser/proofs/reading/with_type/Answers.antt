@@ -1,6 +1,6 @@
 use Rattle.std.proofs.Common.{sym, ap}
-use Rattle.tg_syntax_laws.specs.Steps.{TypeDec}
-use Rattle.tg_parser.specs.Given.{no_memory}
+use Rattle.tg_syntax_laws.specs.mirror.Steps.{TypeDec}
+use Rattle.tg_parser.specs.glue.Given.{no_memory}
 use Rattle.tg_parser.proofs.Chains.{call_stops}
 use Rattle.tg_parser.proofs.Leading.{begins_ended, then, call_leads}
 use Rattle.tg_parser.proofs.Descents.{same_leads}

@@ -3,8 +3,8 @@ use Rattle.std.specs.Prelude.{All, length, map}
 use Rattle.std.proofs.lemmas.Iterator.Adapters.{YieldsList-from_vec}
 use Rattle.std.proofs.lemmas.Iterator.Consumers.{YieldsList-turn}
 use Rattle.tg_tree.specs.declared.fragments.Fragment.{Fragment}
-use Rattle.tg_tree.specs.Plain.{plain_fragment}
-use Rattle.tg_compile.specs.Passes.{IsWellFormed}
+use Rattle.tg_tree.specs.glue.Plain.{plain_fragment}
+use Rattle.tg_compile.specs.glue.Passes.{IsWellFormed}
 use Rattle.tg_pass_tests.proofs.Framed.{one_is}
 use Rattle.tg_pass_tests.proofs.framing.place_all.Goals as goal
 

@@ -1,6 +1,6 @@
 use Rattle.std.proofs.Common.{subst}
 use Rattle.tg_syntax.specs.Grammar.{IsProgram}
-use Rattle.tg_syntax.specs.Plain.{plain}
+use Rattle.tg_syntax.specs.glue.Plain.{plain}
 use Rattle.tg_pass_tests.proofs.Checkable.{checkable}
 use Rattle.tg_pass_tests.proofs.reading.source_of.Goals as goal
 

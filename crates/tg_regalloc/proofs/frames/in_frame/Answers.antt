@@ -3,7 +3,7 @@ use Rattle.std.specs.Prelude.{IsTrue}
 use Rattle.std.specs.List.{list_all}
 use Rattle.tg_instr.specs.declared.instr.Instr.{Instr}
 use Rattle.tg_instr.specs.Codes.{marks_differ, leads_to_marks, has_temps_below, ends_well, has_registers_alone, has_slots_below, is_allocated, names_registers}
-use Rattle.tg_regalloc.specs.InFrame.{code_in_frame}
+use Rattle.tg_regalloc.specs.mirror.InFrame.{code_in_frame}
 use Rattle.tg_regalloc.proofs.Replacing.{same_differing, marks_stand, still_ends}
 use Rattle.tg_regalloc.proofs.Framed.{are_framed}
 use Rattle.tg_regalloc.proofs.Registers.{registers_alone, registers_allocated, slots_below, alone_below}

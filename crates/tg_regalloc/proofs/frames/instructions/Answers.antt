@@ -1,6 +1,6 @@
 use Rattle.std.proofs.Common.{◌++◌, take, get_or, ap, sym, ◌∙◌}
 use Rattle.std.proofs.lemmas.List.{take_more}
-use Rattle.tg_regalloc.specs.InFrame.{code_in_frame, instruction_in_frame}
+use Rattle.tg_regalloc.specs.mirror.InFrame.{code_in_frame, instruction_in_frame}
 use Rattle.tg_instr.proofs.Tests.{all_at}
 use Rattle.tg_instr.specs.Codes.{has_temps_below}
 use Rattle.tg_regalloc.proofs.Making.{code_more}

@@ -1,5 +1,5 @@
 use Rattle.std.proofs.Common.{take, ◌≡◌}
-use Rattle.tg_regalloc.specs.InFrame.{code_in_frame}
+use Rattle.tg_regalloc.specs.mirror.InFrame.{code_in_frame}
 use Rattle.tg_regalloc.proofs.frames.instructions.Given as goal
 
 abbrev pub invariant-loop-one : goal.invariant-loop-one

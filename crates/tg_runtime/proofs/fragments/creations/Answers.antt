@@ -1,7 +1,7 @@
 use Rattle.std.proofs.Common.{ap, ◌∙◌, map, [], ◌∷◌, false}
 use Rattle.tg_runtime.specs.declared.routines.Routine.TheVariants as routine
-use Rattle.tg_tree.specs.Plain.{plain_fragment}
-use Rattle.tg_runtime.specs.Routines.{function_of}
+use Rattle.tg_tree.specs.glue.Plain.{plain_fragment}
+use Rattle.tg_runtime.specs.mirror.Routines.{function_of}
 use Rattle.tg_runtime.proofs.Functions.{pushed}
 use Rattle.tg_runtime.proofs.fragments.creations.Goals as goal
 

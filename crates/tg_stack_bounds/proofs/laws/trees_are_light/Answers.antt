@@ -1,4 +1,4 @@
-use Rattle.tg_translate_laws.specs.Laws.{findings_in}
+use Rattle.tg_translate_laws.specs.laws.Laws.{findings_in}
 use Rattle.tg_stack_bounds.proofs.Light.{functions_are_light}
 use Rattle.tg_stack_bounds.proofs.Tabled.{levels, accepted_leads}
 use Rattle.tg_stack_bounds.proofs.laws.trees_are_light.Goals as goal

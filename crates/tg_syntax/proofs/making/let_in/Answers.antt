@@ -1,7 +1,7 @@
 use Rattle.std.proofs.Common.{ap, ◌∙◌}
 use Rattle.tg_syntax.specs.Tree.{Let}
 use Rattle.tg_syntax.specs.declared.trees.Exps.{roll-Exps}
-use Rattle.tg_syntax.specs.Lists.{decs_of}
+use Rattle.tg_syntax.specs.glue.Lists.{decs_of}
 use Rattle.tg_syntax.proofs.ListLaws.{plain_exps-made, plain_kind-Let}
 use Rattle.tg_syntax.proofs.making.let_in.Goals as goal
 

@@ -1,7 +1,7 @@
 use Rattle.std.proofs.Common.{arith, ap, ◌∙◌}
 use Rattle.std.proofs.lemmas.Grind.{common_steps}
 use Rattle.tg_syntax.specs.Measures.{size}
-use Rattle.tg_syntax.specs.Plain.{plain_kind}
+use Rattle.tg_syntax.specs.glue.Plain.{plain_kind}
 use Rattle.tg_syntax.proofs.SizeLemmas.{exps_size-plain_exps, inits_size-plain_inits, size-Let}
 use Rattle.tg_syntax.proofs.measures.+nodes.Goals as goal
 

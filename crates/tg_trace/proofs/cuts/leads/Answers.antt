@@ -1,4 +1,4 @@
-use Rattle.tg_trace.specs.Plains.{plain_end}
+use Rattle.tg_trace.specs.glue.Plains.{plain_end}
 use Rattle.tg_trace.proofs.Rests.{leads_full, leads_empty}
 use Rattle.tg_trace.proofs.cuts.leads.Goals as goal
 

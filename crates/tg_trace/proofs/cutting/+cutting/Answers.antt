@@ -1,10 +1,10 @@
 use Rattle.std.proofs.Common.{◌≡◌, ◌<◌, ◌≤◌, [], ◌∷◌, ◌++◌, ap, sym, ◌∙◌, subst, arith, take, length}
 use Rattle.std.specs.Prelude.{OnOk}
 use Rattle.tg_tree.specs.declared.trees.Stms.{roll-Stms}
-use Rattle.tg_tree.specs.Plain.{plain_ts}
+use Rattle.tg_tree.specs.glue.Plain.{plain_ts}
 use Rattle.tg_tree.proofs.ListLaws.{plain_ts-Seq}
-use Rattle.tg_trace.specs.Cutting as cutting
-use Rattle.tg_trace.specs.Plains.{plain_cut, Cuts, come_to}
+use Rattle.tg_trace.specs.glue.Plains.{plain_cut, Cuts, come_to}
+use Rattle.tg_trace.specs.mirror.Cutting as cutting
 use Rattle.tg_trace.proofs.Depths.{no_deeper}
 use Rattle.tg_trace.proofs.Backs.{back, cut_all_is, back_in, back_out, back_none}
 use Rattle.tg_trace.proofs.Turns.{turned_is, popped}

@@ -1,6 +1,6 @@
 use Rattle.std.proofs.Common.{◌≡◌, ◌≤◌, take, length}
 use Rattle.tg_tree.specs.declared.trees.Stms.{size-Stms}
-use Rattle.tg_trace.specs.Plains.{plain_cut}
+use Rattle.tg_trace.specs.glue.Plains.{plain_cut}
 use Rattle.tg_trace.proofs.Backs.{back}
 use Rattle.tg_trace.proofs.cutting.+cutting.Given as goal
 

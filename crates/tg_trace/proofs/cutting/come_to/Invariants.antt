@@ -1,5 +1,5 @@
 use Rattle.std.proofs.Common.{◌≡◌, ◌+◌, drop}
-use Rattle.tg_trace.specs.Plains.{come_to}
+use Rattle.tg_trace.specs.glue.Plains.{come_to}
 use Rattle.tg_trace.proofs.cutting.come_to.Given as goal
 
 abbrev pub invariant-loop-place : goal.invariant-loop-place

@@ -1,7 +1,7 @@
 use Rattle.std.proofs.Common.{◌≡◌, ◌++◌, vec_len}
 use Rattle.std.specs.Prelude.{reverse}
-use Rattle.tg_tree.specs.Lists.{stms_of, code_of}
-use Rattle.tg_trace.specs.Laying.{body_code}
+use Rattle.tg_tree.specs.glue.Lists.{stms_of, code_of}
+use Rattle.tg_trace.specs.mirror.Laying.{body_code}
 use Rattle.tg_trace.proofs.emission.put_body.Given as goal
 
 abbrev pub invariant-loop-statement : goal.invariant-loop-statement

@@ -1,5 +1,5 @@
 use Rattle.std.proofs.Common.{◌-◌, length}
-use Rattle.tg_trace.specs.Plains.{plain_blocks, plain_order}
+use Rattle.tg_trace.specs.glue.Plains.{plain_blocks, plain_order}
 use Rattle.tg_trace.proofs.Rests.{follow_step, follow_stops}
 use Rattle.tg_trace.proofs.orders.follow.Goals as goal
 

@@ -1,6 +1,6 @@
 use Rattle.std.proofs.Common.{◌≡◌, ◌-◌, length}
-use Rattle.tg_trace.specs.Laying.{follow}
-use Rattle.tg_trace.specs.Plains.{plain_blocks, plain_order}
+use Rattle.tg_trace.specs.glue.Plains.{plain_blocks, plain_order}
+use Rattle.tg_trace.specs.mirror.Laying.{follow}
 use Rattle.tg_trace.proofs.orders.follow.Given as goal
 
 abbrev pub invariant-loop-step : goal.invariant-loop-step

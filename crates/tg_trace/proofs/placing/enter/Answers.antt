@@ -1,8 +1,8 @@
 use Rattle.std.proofs.Common.{refl, ap, ◌∙◌}
 use Rattle.std.specs.Prelude.{slice_index, reverse}
-use Rattle.tg_tree.specs.Lists.{stms_of}
-use Rattle.tg_trace.specs.Cutting as cutting
-use Rattle.tg_trace.specs.Plains.{plain_cut, plain_end}
+use Rattle.tg_tree.specs.glue.Lists.{stms_of}
+use Rattle.tg_trace.specs.glue.Plains.{plain_cut, plain_end}
+use Rattle.tg_trace.specs.mirror.Cutting as cutting
 use Rattle.tg_trace.proofs.Rests.{enter_front}
 use Rattle.tg_trace.proofs.placing.enter.Goals as goal
 

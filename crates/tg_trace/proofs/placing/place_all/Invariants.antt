@@ -1,7 +1,7 @@
 use Rattle.std.proofs.Common.{◌≡◌, ◌++◌, map, vec_len}
 use Rattle.std.specs.Prelude.{reverse}
-use Rattle.tg_trace.specs.Cutting.{placed}
-use Rattle.tg_trace.specs.Plains.{plain_blocks}
+use Rattle.tg_trace.specs.glue.Plains.{plain_blocks}
+use Rattle.tg_trace.specs.mirror.Cutting.{placed}
 use Rattle.tg_trace.proofs.placing.place_all.Given as goal
 
 abbrev pub invariant-loop-block : goal.invariant-loop-block

@@ -2,9 +2,9 @@ use Rattle.std.proofs.Common.{◌≡◌, ap, ◌∙◌, ◌++◌, ◌+◌, lengt
 use Rattle.std.specs.Prelude.{slice_index, slice_get, slice_set}
 use Rattle.std.specs.Vec.{with_items}
 use Rattle.std.proofs.lemmas.List.{with_items_is}
-use Rattle.tg_tree.specs.Lists.{code_of}
-use Rattle.tg_trace.specs.Laying as laying
-use Rattle.tg_trace.specs.Plains.{plain_blocks}
+use Rattle.tg_tree.specs.glue.Lists.{code_of}
+use Rattle.tg_trace.specs.glue.Plains.{plain_blocks}
+use Rattle.tg_trace.specs.mirror.Laying as laying
 use Rattle.tg_trace.proofs.Rests.{emit_step}
 use Rattle.tg_trace.proofs.traces.emit.Goals as goal
 

@@ -1,7 +1,7 @@
 use Rattle.std.proofs.Common.{◌≡◌, ◌++◌, drop}
-use Rattle.tg_tree.specs.Lists.{code_of}
-use Rattle.tg_trace.specs.Laying.{code_in}
-use Rattle.tg_trace.specs.Plains.{plain_blocks}
+use Rattle.tg_tree.specs.glue.Lists.{code_of}
+use Rattle.tg_trace.specs.glue.Plains.{plain_blocks}
+use Rattle.tg_trace.specs.mirror.Laying.{code_in}
 use Rattle.tg_trace.proofs.traces.emit.Given as goal
 
 abbrev pub invariant-loop-at : goal.invariant-loop-at

@@ -1,6 +1,6 @@
 use Rattle.std.proofs.Common.{◌≡◌, drop}
-use Rattle.tg_tree.specs.Lists.{stms_of}
-use Rattle.tg_translate.specs.Constructs.{store_fields}
+use Rattle.tg_tree.specs.glue.Lists.{stms_of}
+use Rattle.tg_translate.specs.mirror.Constructs.{store_fields}
 use Rattle.tg_translate.proofs.creation.store_fields.Given as goal
 
 abbrev pub invariant-loop-operand : goal.invariant-loop-operand

@@ -1,18 +1,18 @@
 use Rattle.std.proofs.Common.{◌≡◌, ◌+◌, [], ◌∷◌, ◌++◌, length, drop, sym, ap, ◌∙◌, arith}
-use Rattle.tg_syntax.specs.Plain.{plain, plain_kind, plain_lvalue, plain_exps}
+use Rattle.tg_syntax.specs.glue.Plain.{plain, plain_kind, plain_lvalue, plain_exps}
 use Rattle.tg_syntax.proofs.ListLaws.{plain_kind-Let}
 use Rattle.tg_tree.specs.Tree.{Const, no_txs, tx, no_stms}
-use Rattle.tg_tree.specs.Lists.{txs_of, stms_of, join_txs}
-use Rattle.tg_tree.specs.Plain.{plain_tx, plain_ts}
+use Rattle.tg_tree.specs.glue.Lists.{txs_of, stms_of, join_txs}
+use Rattle.tg_tree.specs.glue.Plain.{plain_tx, plain_ts}
 use Rattle.tg_tree.proofs.ListLaws.{txs_of-push}
-use Rattle.tg_translate.specs.States.{drawn, after, give, state_of}
-use Rattle.tg_translate.specs.Wants.{value, plain_made, behind}
-use Rattle.tg_translate.specs.Constructs.{hold_next, plain_storage as place_of}
-use Rattle.tg_translate.specs.Scopes.{findings_of}
-use Rattle.tg_syntax.specs.Lists.{exps_of}
-use Rattle.tg_translate.specs.Translate.{expression, behind_read, sequence}
-use Rattle.tg_translate.specs.Updates.{begins_with}
-use Rattle.tg_translate.specs.Parts.{with_left_in, sequence_in}
+use Rattle.tg_translate.specs.mirror.States.{drawn, after, give, state_of}
+use Rattle.tg_translate.specs.mirror.Wants.{value, plain_made, behind}
+use Rattle.tg_translate.specs.mirror.Constructs.{hold_next, plain_storage as place_of}
+use Rattle.tg_translate.specs.mirror.Scopes.{findings_of}
+use Rattle.tg_syntax.specs.glue.Lists.{exps_of}
+use Rattle.tg_translate.specs.mirror.Translate.{expression, behind_read, sequence}
+use Rattle.tg_translate.specs.mirror.Updates.{begins_with}
+use Rattle.tg_translate.specs.glue.Parts.{with_left_in, sequence_in}
 use Rattle.tg_translate.proofs.Steps.{step}
 use Rattle.tg_translate.proofs.Assigning.{assigned_by, updates, assigns}
 use Rattle.tg_translate.proofs.Walks.{

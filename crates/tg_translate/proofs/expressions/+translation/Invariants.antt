@@ -1,9 +1,9 @@
 use Rattle.std.proofs.Common.{◌≡◌, ◌+◌, [], length}
 use Rattle.tg_tree.specs.Tree.{Const, no_txs, no_stms}
-use Rattle.tg_tree.specs.Lists.{txs_of, stms_of}
-use Rattle.tg_translate.specs.States.{state_of}
-use Rattle.tg_translate.specs.Wants.{value}
-use Rattle.tg_translate.specs.Scopes.{findings_of}
+use Rattle.tg_tree.specs.glue.Lists.{txs_of, stms_of}
+use Rattle.tg_translate.specs.mirror.States.{state_of}
+use Rattle.tg_translate.specs.mirror.Wants.{value}
+use Rattle.tg_translate.specs.mirror.Scopes.{findings_of}
 use Rattle.tg_translate.proofs.Walks.{WalkedTo, SequencedTo, value_step, field_step, declaration_step, body_step}
 use Rattle.tg_translate.proofs.expressions.+translation.Given as goal
 

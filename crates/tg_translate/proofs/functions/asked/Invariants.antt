@@ -1,6 +1,6 @@
 use Rattle.std.proofs.Common.{◌≡◌, drop, map, ◌++◌}
-use Rattle.tg_translate.specs.Scopes.{findings_of}
-use Rattle.tg_translate.specs.Functions.{asked, at_of}
+use Rattle.tg_translate.specs.mirror.Scopes.{findings_of}
+use Rattle.tg_translate.specs.mirror.Functions.{asked, at_of}
 use Rattle.tg_translate.proofs.functions.asked.Given as goal
 
 abbrev pub invariant-loop-param : goal.invariant-loop-param

@@ -1,5 +1,5 @@
 use Rattle.std.proofs.Common.{ap, ◌∙◌, length}
-use Rattle.tg_translate.specs.Scopes.{findings_of}
+use Rattle.tg_translate.specs.mirror.Scopes.{findings_of}
 use Rattle.tg_translate.proofs.Declaring.{length-homes_from, length-asked}
 use Rattle.tg_translate.proofs.functions.begin.Goals as goal
 

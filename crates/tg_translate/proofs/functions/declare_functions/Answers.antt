@@ -1,8 +1,8 @@
 use Rattle.std.proofs.Common.{arith, ap, sym, ◌∙◌}
-use Rattle.tg_syntax.specs.Lists.{functions_of}
+use Rattle.tg_syntax.specs.glue.Lists.{functions_of}
 use Rattle.tg_syntax.proofs.ListLaws.{plain_functions-items}
-use Rattle.tg_translate.specs.States.{state_of}
-use Rattle.tg_translate.specs.Functions.{declare_functions}
+use Rattle.tg_translate.specs.mirror.States.{state_of}
+use Rattle.tg_translate.specs.mirror.Functions.{declare_functions}
 use Rattle.tg_translate.proofs.Declaring.{functions_end}
 use Rattle.tg_translate.proofs.functions.declare_functions.Goals as goal
 

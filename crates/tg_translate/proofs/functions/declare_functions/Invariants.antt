@@ -1,7 +1,7 @@
 use Rattle.std.proofs.Common.{◌≡◌, drop}
-use Rattle.tg_syntax.specs.Lists.{functions_of}
-use Rattle.tg_translate.specs.States.{state_of}
-use Rattle.tg_translate.specs.Functions.{declare_functions}
+use Rattle.tg_syntax.specs.glue.Lists.{functions_of}
+use Rattle.tg_translate.specs.mirror.States.{state_of}
+use Rattle.tg_translate.specs.mirror.Functions.{declare_functions}
 use Rattle.tg_translate.proofs.functions.declare_functions.Given as goal
 
 abbrev pub invariant-loop-function : goal.invariant-loop-function

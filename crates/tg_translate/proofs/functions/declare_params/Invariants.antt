@@ -1,5 +1,5 @@
 use Rattle.std.proofs.Common.{◌≡◌, ◌+◌, drop}
-use Rattle.tg_translate.specs.Functions.{parameters, own_homes}
+use Rattle.tg_translate.specs.mirror.Functions.{parameters, own_homes}
 use Rattle.tg_translate.proofs.functions.declare_params.Given as goal
 
 abbrev pub invariant-loop-param : goal.invariant-loop-param

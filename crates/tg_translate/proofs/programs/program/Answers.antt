@@ -1,8 +1,8 @@
 use Rattle.std.proofs.Common.{◌≡◌, sym, ap, ◌∙◌}
-use Rattle.tg_syntax.specs.Plain.{plain}
-use Rattle.tg_translate.specs.Scopes.{findings_of}
-use Rattle.tg_translate.specs.Functions.{beginning, program}
-use Rattle.tg_translate.specs.Translate.{program_body}
+use Rattle.tg_syntax.specs.glue.Plain.{plain}
+use Rattle.tg_translate.specs.mirror.Scopes.{findings_of}
+use Rattle.tg_translate.specs.mirror.Functions.{beginning, program}
+use Rattle.tg_translate.specs.mirror.Translate.{program_body}
 use Rattle.tg_translate.proofs.programs.program.Goals as goal
 
 pub returns : goal.returns

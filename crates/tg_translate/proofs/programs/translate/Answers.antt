@@ -1,7 +1,7 @@
 use Rattle.std.proofs.Common.{◌≡◌, ap, ◌∙◌}
-use Rattle.tg_syntax.specs.Plain.{plain}
-use Rattle.tg_translate.specs.Scopes.{found}
-use Rattle.tg_translate.specs.Translate.{translated}
+use Rattle.tg_syntax.specs.glue.Plain.{plain}
+use Rattle.tg_translate.specs.mirror.Scopes.{found}
+use Rattle.tg_translate.specs.mirror.Translate.{translated}
 use Rattle.tg_translate.proofs.programs.translate.Goals as goal
 
 pub returns : goal.returns

@@ -1,7 +1,7 @@
 use Rattle.std.proofs.Common.{arith, ap, sym, ◌∙◌}
-use Rattle.tg_syntax.specs.Lists.{exps_of, inits_of}
+use Rattle.tg_syntax.specs.glue.Lists.{exps_of, inits_of}
 use Rattle.tg_syntax.proofs.ListLaws.{plain_exps-items, plain_inits-items}
-use Rattle.tg_translate.specs.Purity.{all_assign_nothing, inits_assign_nothing}
+use Rattle.tg_translate.specs.mirror.Purity.{all_assign_nothing, inits_assign_nothing}
 use Rattle.tg_translate.proofs.Purities.{exps_end, inits_end}
 use Rattle.tg_translate.proofs.purity.+purity.Goals as goal
 

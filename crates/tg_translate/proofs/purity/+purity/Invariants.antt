@@ -1,6 +1,6 @@
 use Rattle.std.proofs.Common.{◌≡◌, ◌&&◌, drop}
-use Rattle.tg_syntax.specs.Lists.{exps_of, inits_of}
-use Rattle.tg_translate.specs.Purity.{all_assign_nothing, inits_assign_nothing}
+use Rattle.tg_syntax.specs.glue.Lists.{exps_of, inits_of}
+use Rattle.tg_translate.specs.mirror.Purity.{all_assign_nothing, inits_assign_nothing}
 use Rattle.tg_translate.proofs.purity.+purity.Given as goal
 
 abbrev pub invariant-all_assign_nothing-loop-e : goal.invariant-all_assign_nothing-loop-e

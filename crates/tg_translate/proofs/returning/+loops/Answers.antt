@@ -1,7 +1,7 @@
 use Rattle.std.proofs.Common.{ap, sym, ◌∙◌}
-use Rattle.tg_tree.specs.Plain.{plain_tx, plain_ts}
+use Rattle.tg_tree.specs.glue.Plain.{plain_tx, plain_ts}
 use Rattle.tg_tree.proofs.ListLaws.{plain_tx-Call, plain_ts-Seq}
-use Rattle.tg_translate.specs.Returning.{has_loop, value_has_loop}
+use Rattle.tg_translate.specs.mirror.Returning.{has_loop, value_has_loop}
 use Rattle.tg_translate.proofs.returning.+loops.Goals as goal
 
 pub has_loop-returns-in-Seq : goal.has_loop-returns-in-Seq

@@ -1,6 +1,6 @@
 use Rattle.std.proofs.Common.{◌≡◌, ◌||◌, drop}
-use Rattle.tg_tree.specs.Lists.{txs_of, stms_of}
-use Rattle.tg_translate.specs.Returning.{any_has_loop, any_value_has_loop}
+use Rattle.tg_tree.specs.glue.Lists.{txs_of, stms_of}
+use Rattle.tg_translate.specs.mirror.Returning.{any_has_loop, any_value_has_loop}
 use Rattle.tg_translate.proofs.returning.+loops.Given as goal
 
 abbrev pub invariant-any_has_loop-loop-statement : goal.invariant-any_has_loop-loop-statement

@@ -1,8 +1,8 @@
 use Rattle.std.proofs.Common.{ap, sym, ◌∙◌, subst, ◌<◌}
 use Rattle.tg_tree.specs.Tree.{Seq}
-use Rattle.tg_tree.specs.Plain.{plain_ts}
+use Rattle.tg_tree.specs.glue.Plain.{plain_ts}
 use Rattle.tg_tree.proofs.ListLaws.{plain_ts-Seq}
-use Rattle.tg_translate.specs.Returning.{returned_from}
+use Rattle.tg_translate.specs.mirror.Returning.{returned_from}
 use Rattle.tg_translate.proofs.Lasts.{replaced, added}
 use Rattle.tg_translate.proofs.returning.+returns.Goals.{all_returned_from-in-Some+in_ok-last-in-Some, all_returned_from-in-None}
 use Rattle.tg_translate.proofs.returning.+returns.Goals as goal

@@ -1,7 +1,7 @@
 use Rattle.std.proofs.Common.{◌≡◌, subst}
 use Rattle.std.specs.Prelude.{IfOk}
 use Rattle.tg_tree.specs.Tree.{Ts}
-use Rattle.tg_tree.specs.Plain.{plain_cond, plain_ts}
+use Rattle.tg_tree.specs.glue.Plain.{plain_cond, plain_ts}
 use Rattle.tg_tree.proofs.ListLaws.{turn_is}
 use Rattle.tg_tree.proofs.making.repeat_until.Goals as goal
 

@@ -1,5 +1,5 @@
 use Rattle.std.proofs.Common.{◌≡◌, map, take}
-use Rattle.tg_types.specs.Declaring.{followed}
+use Rattle.tg_types.specs.glue.Declaring.{followed}
 use Rattle.tg_types.proofs.chains.composed.Given as goal
 
 abbrev pub invariant-loop-chain : goal.invariant-loop-chain

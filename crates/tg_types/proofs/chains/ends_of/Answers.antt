@@ -1,8 +1,8 @@
 use Rattle.std.proofs.Common.{◌≡◌, ◌+◌, ◌/◌, length, map, sym, ap, subst, ◌∙◌, arith}
 use Rattle.std.specs.List.{All}
 use Rattle.std.proofs.lemmas.List.{length-map}
-use Rattle.tg_syntax.specs.Plain.{plain_type}
-use Rattle.tg_types.specs.Declaring.{ChainWithin}
+use Rattle.tg_syntax.specs.glue.Plain.{plain_type}
+use Rattle.tg_types.specs.glue.Declaring.{ChainWithin}
 use Rattle.tg_types.proofs.ChainSteps.{Squares, squares_begin, squares_odd, squares_even, squares_final, after_none, links_many, leads_all}
 use Rattle.tg_types.proofs.ChainSteps.{may_multiply, may_square, composed_is, chains_are, ends_within}
 use Rattle.tg_types.proofs.chains.ends_of.Goals.{then-count-eq1+in_ok-ends-2, else-count-eq1}

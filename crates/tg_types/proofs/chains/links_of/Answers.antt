@@ -1,7 +1,7 @@
 use Rattle.std.proofs.Common.{◌++◌, ◌+◌, drop, map, sym, ap, subst, ◌∙◌, arith}
 use Rattle.std.specs.List.{All}
-use Rattle.tg_syntax.specs.Plain.{plain_type}
-use Rattle.tg_types.specs.Declaring.{ChainWithin, links_in}
+use Rattle.tg_syntax.specs.glue.Plain.{plain_type}
+use Rattle.tg_types.specs.glue.Declaring.{ChainWithin, links_in}
 use Rattle.tg_types.proofs.ChainSteps.{links_more, links_all, links_within}
 use Rattle.tg_types.proofs.chains.links_of.Goals as goal
 

@@ -1,6 +1,6 @@
 use Rattle.std.proofs.Common.{◌≡◌, ◌++◌, drop, map}
-use Rattle.tg_syntax.specs.Plain.{plain_type}
-use Rattle.tg_types.specs.Declaring.{links_in}
+use Rattle.tg_syntax.specs.glue.Plain.{plain_type}
+use Rattle.tg_types.specs.glue.Declaring.{links_in}
 use Rattle.tg_types.proofs.chains.links_of.Given as goal
 
 abbrev pub invariant-loop-at : goal.invariant-loop-at

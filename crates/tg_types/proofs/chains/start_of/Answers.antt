@@ -1,7 +1,7 @@
 use Rattle.std.proofs.Common.{◌<◌, length, map, sym, ap, ◌∙◌, arith, rules}
 use Rattle.std.proofs.lemmas.List.{length-map}
-use Rattle.tg_syntax.specs.Plain.{plain_type, plain_form}
 use Rattle.tg_syntax.specs.declared.trees.TypeDec.{TypeDec}
+use Rattle.tg_syntax.specs.glue.Plain.{plain_type, plain_form}
 use Rattle.tg_types.proofs.ChainSteps.{place_below, started_here, stand, stand_ends}
 use Rattle.tg_types.proofs.chains.start_of.Goals as goal
 

@@ -1,10 +1,10 @@
 use Rattle.std.proofs.Common.{◌≡◌, rules}
 use Rattle.std.proofs.lemmas.List.Sorted.{IsNonDecreasingBy-from_sort_by_key}
-use Rattle.tg_syntax.specs.Plain.{plain}
+use Rattle.tg_syntax.specs.glue.Plain.{plain}
 use Rattle.tg_types.specs.declared.notes.Note.{Note}
 use Rattle.tg_types.specs.Checks.{fine}
 use Rattle.tg_types.specs.Scopes.{outermost_scope}
-use Rattle.tg_types.specs.States.{Fails, noted_of}
+use Rattle.tg_types.specs.glue.States.{Fails, noted_of}
 use Rattle.tg_types.proofs.Rising.{rises}
 use Rattle.tg_types.proofs.NamedValues.{standard_values}
 use Rattle.tg_types.proofs.CheckSteps.{at_first, passed, accepts}

@@ -1,10 +1,10 @@
 use Rattle.std.proofs.Common.{sym, ap, ◌∙◌, map}
 use Rattle.tg_syntax.specs.declared.trees.Param.{Param}
-use Rattle.tg_syntax.specs.Plain.{plain_form}
+use Rattle.tg_syntax.specs.glue.Plain.{plain_form}
 use Rattle.tg_types.specs.Types.{record_shape, array_shape}
 use Rattle.tg_types.specs.Checks.{add_shape}
 use Rattle.tg_types.specs.Groups as groups
-use Rattle.tg_types.specs.States.{no_memory, noted_of}
+use Rattle.tg_types.specs.glue.States.{no_memory, noted_of}
 use Rattle.tg_types.proofs.Steps.{ended, given, carry}
 use Rattle.tg_types.proofs.groups.add_form.Goals as goal
 

@@ -1,5 +1,5 @@
 use Rattle.std.proofs.Common.{map}
-use Rattle.tg_syntax.specs.Plain.{plain_type}
+use Rattle.tg_syntax.specs.glue.Plain.{plain_type}
 use Rattle.tg_types.proofs.GroupSteps.{AddedOn}
 use Rattle.tg_types.proofs.groups.add_forms.Given as goal
 

@@ -1,4 +1,4 @@
-use Rattle.tg_types.specs.States.{no_memory, noted_of}
+use Rattle.tg_types.specs.glue.States.{no_memory, noted_of}
 use Rattle.tg_types.proofs.Steps.{ended}
 use Rattle.tg_types.proofs.GroupSteps.{shape_is}
 use Rattle.tg_types.proofs.groups.add_shape.Goals as goal

@@ -1,5 +1,5 @@
 use Rattle.std.proofs.Common.{◌+◌, sym, ap, ◌∙◌, map, arith}
-use Rattle.tg_syntax.specs.Plain.{plain_type}
+use Rattle.tg_syntax.specs.glue.Plain.{plain_type}
 use Rattle.tg_types.specs.Checks.{keep}
 use Rattle.tg_types.specs.declared.faults.TypeRule.TheVariants.{T19}
 use Rattle.tg_types.proofs.Steps.{ended, last_fails}

@@ -1,8 +1,8 @@
 use Rattle.std.proofs.Common.{◌≡◌, map}
-use Rattle.tg_syntax.specs.Plain.{plain_type}
+use Rattle.tg_syntax.specs.glue.Plain.{plain_type}
 use Rattle.tg_types.proofs.GroupSteps.{EndsOn}
 use Rattle.tg_types.specs.Groups.{chain_of}
-use Rattle.tg_types.specs.Declaring.{chain_from}
+use Rattle.tg_types.specs.glue.Declaring.{chain_from}
 use Rattle.tg_types.proofs.groups.chains_end.Given as goal
 
 abbrev pub invariant-loop-dec : goal.invariant-loop-dec

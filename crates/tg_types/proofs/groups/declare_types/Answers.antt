@@ -1,9 +1,9 @@
 use Rattle.std.proofs.Common.{true, length, map, refl, sym, ap, subst, ◌∙◌}
 use Rattle.std.specs.List.{All}
-use Rattle.tg_syntax.specs.Plain.{plain_type}
-use Rattle.tg_types.specs.Declaring.{ChainWithin, chain_from}
+use Rattle.tg_syntax.specs.glue.Plain.{plain_type}
 use Rattle.tg_types.specs.Groups as groups
-use Rattle.tg_types.specs.States.{AnswersCheck, no_memory, noted_of}
+use Rattle.tg_types.specs.glue.Declaring.{ChainWithin, chain_from}
+use Rattle.tg_types.specs.glue.States.{AnswersCheck, no_memory, noted_of}
 use Rattle.tg_types.proofs.Steps.{ended, step, fails_first, fails_then, carry}
 use Rattle.std.proofs.lemmas.List.{length-map}
 use Rattle.tg_types.proofs.GroupSteps.{types_are, group_scope, scope_after, opens_types, opens_after}

@@ -1,7 +1,7 @@
 use Rattle.std.proofs.Common.{◌≡◌, ◌≤◌, map, drop, length, Bool}
 use Rattle.tg_types.specs.Scopes.{Scope}
 use Rattle.tg_types.specs.Groups as groups
-use Rattle.tg_types.specs.States.{scope_of}
+use Rattle.tg_types.specs.glue.States.{scope_of}
 use Rattle.tg_types.proofs.groups.fields_of.Given as goal
 
 abbrev pub invariant-loop-at : goal.invariant-loop-at

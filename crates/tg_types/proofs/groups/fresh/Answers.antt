@@ -1,4 +1,4 @@
-use Rattle.tg_types.specs.States.{no_memory}
+use Rattle.tg_types.specs.glue.States.{no_memory}
 use Rattle.tg_types.proofs.Steps.{ended}
 use Rattle.tg_types.proofs.groups.fresh.Goals as goal
 

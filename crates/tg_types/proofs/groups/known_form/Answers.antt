@@ -1,5 +1,5 @@
 use Rattle.std.proofs.Common.{[], sym, ap, ◌∙◌}
-use Rattle.tg_syntax.specs.Plain.{plain_form}
+use Rattle.tg_syntax.specs.glue.Plain.{plain_form}
 use Rattle.tg_types.specs.Groups as groups
 use Rattle.tg_types.proofs.Steps.{carry}
 use Rattle.tg_types.proofs.groups.known_form.Goals as goal

@@ -1,5 +1,5 @@
 use Rattle.std.proofs.Common.{map}
-use Rattle.tg_syntax.specs.Plain.{plain_type}
+use Rattle.tg_syntax.specs.glue.Plain.{plain_type}
 use Rattle.tg_types.proofs.GroupSteps.{FormsOn}
 use Rattle.tg_types.proofs.groups.known_forms.Given as goal
 

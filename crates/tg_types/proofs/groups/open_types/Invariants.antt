@@ -1,6 +1,6 @@
 use Rattle.std.proofs.Common.{◌≡◌, drop}
-use Rattle.tg_types.specs.Declaring.{named_types}
-use Rattle.tg_types.specs.States.{noted_of}
+use Rattle.tg_types.specs.glue.Declaring.{named_types}
+use Rattle.tg_types.specs.glue.States.{noted_of}
 use Rattle.tg_types.proofs.groups.open_types.Given as goal
 
 abbrev pub invariant-loop-dec : goal.invariant-loop-dec

@@ -1,8 +1,8 @@
 use Rattle.std.proofs.Common.{sym, ap, ◌∙◌, [], map, arith}
 use Rattle.std.specs.Option.{is_some}
-use Rattle.tg_syntax.specs.Plain.{plain_type}
+use Rattle.tg_syntax.specs.glue.Plain.{plain_type}
 use Rattle.tg_types.specs.Checks.{Noted}
-use Rattle.tg_types.specs.States.{no_memory}
+use Rattle.tg_types.specs.glue.States.{no_memory}
 use Rattle.tg_types.proofs.Steps.{ended}
 use Rattle.tg_types.proofs.GroupSteps.{places_one, places_repeat, places_all, plain_at, plain_below, plain_end, none_of, differ}
 use Rattle.tg_types.proofs.groups.places_of.Goals as goal

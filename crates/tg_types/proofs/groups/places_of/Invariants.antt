@@ -1,5 +1,5 @@
 use Rattle.std.proofs.Common.{map}
-use Rattle.tg_syntax.specs.Plain.{plain_type}
+use Rattle.tg_syntax.specs.glue.Plain.{plain_type}
 use Rattle.tg_types.proofs.GroupSteps.{PlacesOn}
 use Rattle.tg_types.proofs.groups.places_of.Given as goal
 

@@ -1,7 +1,7 @@
 use Rattle.std.proofs.Common.{ap, ◌∙◌, map, arith}
-use Rattle.tg_syntax.specs.Plain.{plain_type}
+use Rattle.tg_syntax.specs.glue.Plain.{plain_type}
 use Rattle.tg_types.specs.Groups as groups
-use Rattle.tg_types.specs.Declaring.{chain_from}
+use Rattle.tg_types.specs.glue.Declaring.{chain_from}
 use Rattle.tg_types.proofs.GroupSteps.{mapped_one, front_all}
 use Rattle.tg_types.proofs.groups.types_of.Goals as goal
 

@@ -1,9 +1,9 @@
 use Rattle.std.proofs.Common.{◌≡◌, map, take, Bool}
-use Rattle.tg_syntax.specs.Plain.{plain_type}
+use Rattle.tg_syntax.specs.glue.Plain.{plain_type}
 use Rattle.tg_types.specs.Scopes.{Scope}
 use Rattle.tg_types.specs.Groups as groups
-use Rattle.tg_types.specs.States.{scope_of}
-use Rattle.tg_types.specs.Declaring.{chain_from}
+use Rattle.tg_types.specs.glue.States.{scope_of}
+use Rattle.tg_types.specs.glue.Declaring.{chain_from}
 use Rattle.tg_types.proofs.groups.types_of.Given as goal
 
 abbrev pub invariant-loop-end : goal.invariant-loop-end

@@ -1,5 +1,5 @@
 use Rattle.std.proofs.Common.{sym, [], ap, ◌∙◌, arith}
-use Rattle.tg_syntax.specs.Lists.{functions_of}
+use Rattle.tg_syntax.specs.glue.Lists.{functions_of}
 use Rattle.tg_syntax.proofs.ListLaws.{plain_functions-items}
 use Rattle.tg_types.specs.declared.faults.TypeRule.TheVariants.{T17}
 use Rattle.tg_types.specs.Groups.{no_repeats, function_names}

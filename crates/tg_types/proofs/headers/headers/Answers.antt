@@ -1,7 +1,7 @@
 use Rattle.std.proofs.Common.{sym, subst, ap, ◌∙◌, arith, length, get_or}
-use Rattle.tg_syntax.specs.Lists.{functions_of}
+use Rattle.tg_syntax.specs.glue.Lists.{functions_of}
 use Rattle.tg_syntax.proofs.ListLaws.{plain_functions-items}
-use Rattle.tg_types.specs.States.{no_memory}
+use Rattle.tg_types.specs.glue.States.{no_memory}
 use Rattle.tg_types.specs.Groups as groups
 use Rattle.tg_types.proofs.Steps.{ended, last_fails}
 use Rattle.tg_types.proofs.TreeSteps.{function_count_is}

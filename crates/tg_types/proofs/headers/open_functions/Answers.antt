@@ -1,5 +1,5 @@
 use Rattle.std.proofs.Common.{refl, sym, ap, ◌∙◌, ◌∷◌, ◌+◌, ◌<◌, arith, length, get_or}
-use Rattle.tg_syntax.specs.Lists.{functions_of}
+use Rattle.tg_syntax.specs.glue.Lists.{functions_of}
 use Rattle.tg_syntax.proofs.ListLaws.{plain_functions-items}
 use Rattle.tg_types.specs.Scopes.{function_at}
 use Rattle.tg_types.specs.Groups.{with_functions}

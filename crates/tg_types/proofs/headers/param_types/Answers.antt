@@ -1,5 +1,5 @@
 use Rattle.std.proofs.Common.{sym, subst, arith}
-use Rattle.tg_types.specs.States.{no_memory}
+use Rattle.tg_types.specs.glue.States.{no_memory}
 use Rattle.tg_types.proofs.Steps.{ended}
 use Rattle.tg_types.proofs.HeaderChecks.{none_seen, param_at, param_is, kind_below, TypesOn, types_none, types_one, types_repeat, types_unknown, types_all}
 use Rattle.tg_types.proofs.headers.param_types.Goals as goal

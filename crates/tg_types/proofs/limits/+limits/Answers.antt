@@ -1,7 +1,7 @@
 use Rattle.std.proofs.Common.{[], ◌++◌, sym, ap, ◌∙◌, arith}
-use Rattle.tg_syntax.specs.Plain.{plain, plain_kind, plain_exps, plain_dec, plain_functions}
+use Rattle.tg_syntax.specs.glue.Plain.{plain, plain_kind, plain_exps, plain_dec, plain_functions}
 use Rattle.tg_syntax.specs.Tree.{For, no_decs}
-use Rattle.tg_syntax.specs.Lists.{decs_of}
+use Rattle.tg_syntax.specs.glue.Lists.{decs_of}
 use Rattle.tg_syntax.proofs.ListLaws.{plain_kind-Let}
 use Rattle.tg_syntax.specs.Functions.{declared, declared_decs, declared_exps}
 use Rattle.tg_types.specs.Limits.{first_above}

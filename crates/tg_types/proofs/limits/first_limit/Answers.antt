@@ -1,5 +1,5 @@
 use Rattle.std.proofs.Common.{[], ◌∙◌, arith}
-use Rattle.tg_syntax.specs.Plain.{plain}
+use Rattle.tg_syntax.specs.glue.Plain.{plain}
 use Rattle.tg_syntax.specs.Measures.{size}
 use Rattle.tg_types.specs.declared.faults.TypeRule.TheVariants.{T21, T22}
 use Rattle.tg_syntax.specs.Functions.{declared, program_size}

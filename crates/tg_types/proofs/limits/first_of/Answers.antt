@@ -1,5 +1,5 @@
 use Rattle.std.proofs.Common.{ap, sym, ◌∙◌}
-use Rattle.tg_types.specs.Faults.{rule_and_byte}
+use Rattle.tg_types.specs.glue.Faults.{rule_and_byte}
 use Rattle.tg_types.proofs.LimitSteps.{in_first, in_second}
 use Rattle.tg_types.proofs.limits.first_of.Goals as goal
 

@@ -1,6 +1,6 @@
 use Rattle.std.proofs.Common.{ap, sym, ◌∙◌}
 use Rattle.tg_types.specs.Checks.{fine}
-use Rattle.tg_types.specs.States.{no_memory, noted_of}
+use Rattle.tg_types.specs.glue.States.{no_memory, noted_of}
 use Rattle.tg_types.proofs.Steps.{ended}
 use Rattle.tg_types.proofs.Namings.{bound_open, bound_outside, function_found, function_fails, function_not, standard_found, standard_fails}
 use Rattle.tg_types.proofs.Namings.{function_unknown, bad_is}

@@ -1,6 +1,6 @@
 use Rattle.std.proofs.Common.{ap}
 use Rattle.tg_types.proofs.Steps.{ended}
-use Rattle.tg_types.specs.States.{noted_of}
+use Rattle.tg_types.specs.glue.States.{noted_of}
 use Rattle.tg_types.proofs.Namings.{bound_open, bound_outside, variable_found, variable_fails, variable_not, variable_standard, variable_unknown, bad_is}
 use Rattle.tg_types.proofs.lookups.variable.Goals as goal
 

@@ -1,6 +1,6 @@
 use Rattle.std.specs.Prelude.{◌==◌}
 use Rattle.std.proofs.Common.{◌≡◌, ℕ, ◌+◌, false, refl, sym, ap, ◌∙◌, arith, length, get_or, eq-eqb}
-use Rattle.tg_syntax.specs.Lists.{inits_of}
+use Rattle.tg_syntax.specs.glue.Lists.{inits_of}
 use Rattle.tg_syntax.proofs.ListLaws.{plain_inits-items}
 use Rattle.tg_types.specs.Typing as typing
 use Rattle.tg_types.proofs.TreeSteps.{init_count_is}

@@ -1,6 +1,6 @@
 use Rattle.std.proofs.Common.{sym, ap, ◌∙◌}
 use Rattle.std.specs.Option.{option_copied}
-use Rattle.tg_types.specs.States.{bad, noted_of}
+use Rattle.tg_types.specs.glue.States.{bad, noted_of}
 use Rattle.tg_types.proofs.FieldSteps.{not_record, of_shape, no_shape, fields_is, fields_not}
 use Rattle.tg_types.proofs.records.fields_of.Goals as goal
 

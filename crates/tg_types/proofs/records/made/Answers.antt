@@ -1,7 +1,7 @@
 use Rattle.std.proofs.Common.{refl, sym, ap, ◌∙◌, length}
-use Rattle.tg_syntax.specs.Plain.{plain_inits}
+use Rattle.tg_syntax.specs.glue.Plain.{plain_inits}
 use Rattle.tg_types.specs.Typing as typing
-use Rattle.tg_types.specs.States.{no_memory, noted_of}
+use Rattle.tg_types.specs.glue.States.{no_memory, noted_of}
 use Rattle.tg_types.proofs.Steps.{step, given_is, keep_is, keep_true, fails_first, fails_then, ended, last_fails}
 use Rattle.tg_types.proofs.FieldSteps.{same_lengths}
 use Rattle.tg_types.proofs.records.made.Goals as goal

@@ -1,6 +1,6 @@
 use Rattle.std.proofs.Common.{sym, ◌∙◌}
 use Rattle.tg_types.proofs.Steps.{step, fails_first, ended}
-use Rattle.tg_types.specs.States.{bad}
+use Rattle.tg_types.specs.glue.States.{bad}
 use Rattle.tg_types.proofs.FieldSteps.{present_is, present_not, placed_is, placed_not, named_not}
 use Rattle.tg_types.proofs.records.placed.Goals as goal
 

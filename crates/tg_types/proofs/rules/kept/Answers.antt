@@ -1,4 +1,4 @@
-use Rattle.tg_types.specs.States.{bad}
+use Rattle.tg_types.specs.glue.States.{bad}
 use Rattle.tg_types.proofs.Steps.{kept_true, kept_false}
 use Rattle.tg_types.proofs.rules.kept.Goals as goal
 

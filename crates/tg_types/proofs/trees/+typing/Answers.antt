@@ -2,17 +2,17 @@ use Rattle.std.proofs.Common.{refl, sym, ap, ◌∙◌, ◌≡◌, arith, rules,
 use Rattle.std.proofs.lemmas.Bool.{eqb-true}
 use Rattle.std.specs.Prelude.{◌==◌, box_value}
 use Rattle.std.specs.Option.{option_map}
-use Rattle.tg_syntax.specs.Plain.{plain, plain_kind, plain_lvalue, plain_exps, plain_inits, plain_functions, plain_dec, plain_type}
 use Rattle.tg_syntax.specs.Tree as tree
+use Rattle.tg_syntax.specs.glue.Plain.{plain, plain_kind, plain_lvalue, plain_exps, plain_inits, plain_functions, plain_dec, plain_type}
 use Rattle.tg_types.specs.Scopes.{in_a_loop, in_no_loop, binding, variable_at}
 use Rattle.tg_types.specs.Types.{int_type, none_type}
-use Rattle.tg_types.specs.Selections.{selected_of}
+use Rattle.tg_types.specs.glue.Selections.{selected_of}
 use Rattle.tg_types.specs.Groups as groups
 use Rattle.tg_types.specs.Typing as typing
-use Rattle.tg_types.specs.Trees.{fitting, filled, second_way, choice, idle}
-use Rattle.tg_types.specs.States.{no_memory, scope_of, noted_of}
+use Rattle.tg_types.specs.glue.Trees.{fitting, filled, second_way, choice, idle}
+use Rattle.tg_types.specs.glue.States.{no_memory, scope_of, noted_of}
 use Rattle.tg_syntax.proofs.ListLaws.{plain_kind-Let, plain_exps-items, plain_inits-items, plain_functions-items}
-use Rattle.tg_syntax.specs.Lists.{exps_of, inits_of, decs_of, functions_of}
+use Rattle.tg_syntax.specs.glue.Lists.{exps_of, inits_of, decs_of, functions_of}
 use Rattle.tg_types.proofs.Steps.{step, two_steps, given, fails_first, fails_then, two_fail_first, two_fail_then, ended, leads_ended, carry}
 use Rattle.tg_types.proofs.Steps.{last_fails, same_scope, no_loop_scope, opens_both, opens_keep, given_is, keep_is, keep_true, kept_steps, kept_fail}
 use Rattle.tg_types.proofs.Steps.{kept_then, cut_back, opened_state, keeps_both}

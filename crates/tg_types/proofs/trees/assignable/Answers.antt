@@ -1,7 +1,7 @@
 use Rattle.std.proofs.Common.{refl, sym, ap, ◌∙◌}
 use Rattle.tg_types.proofs.Steps.{keep_is, carry}
 use Rattle.std.specs.Prelude.{not}
-use Rattle.tg_syntax.specs.Plain.{plain_lvalue}
+use Rattle.tg_syntax.specs.glue.Plain.{plain_lvalue}
 use Rattle.tg_types.specs.Typing as typing
 use Rattle.tg_types.specs.Checks.{give}
 use Rattle.tg_types.proofs.trees.assignable.Goals as goal

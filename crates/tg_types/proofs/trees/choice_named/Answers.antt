@@ -1,6 +1,6 @@
 use Rattle.std.specs.Prelude.{length, box_value}
 use Rattle.std.proofs.Common.{subst}
-use Rattle.tg_syntax.specs.Plain.{plain}
+use Rattle.tg_syntax.specs.glue.Plain.{plain}
 use Rattle.tg_syntax.specs.NamesWithin.{NamesWithin}
 use Rattle.tg_types.proofs.TreeSteps.{choice_whole, choice_within, way_within}
 use Rattle.tg_types.proofs.trees.choice_named.Goals as goal

@@ -1,8 +1,8 @@
 use Rattle.std.proofs.Common.{Some, ◌∙◌, sym, ap, rules}
 use Rattle.std.proofs.lemmas.Fn.{always_returns_same}
 use Rattle.tg_asm_text.specs.Assembly.{spot_among}
-use Rattle.tg_asm.specs.Entries.{Key, by_key}
-use Rattle.tg_asm.specs.Spots.{spot_of}
+use Rattle.tg_asm.specs.glue.Entries.{Key, by_key}
+use Rattle.tg_asm.specs.glue.Spots.{spot_of}
 use Rattle.tg_asm.proofs.Searches.{found_at, none_found, nowhere, searchable}
 use Rattle.tg_asm.proofs.labels.Labels.find_among_all.Goals as goal
 

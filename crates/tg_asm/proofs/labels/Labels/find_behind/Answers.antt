@@ -1,8 +1,8 @@
 use Rattle.std.proofs.Common.{Some, ◌∙◌, sym, ap}
 use Rattle.std.specs.Ordering.{is_eq}
 use Rattle.tg_asm_text.specs.Assembly.{spot_among}
-use Rattle.tg_asm.specs.Entries.{by_key}
-use Rattle.tg_asm.specs.Spots.{spot_of}
+use Rattle.tg_asm.specs.glue.Entries.{by_key}
+use Rattle.tg_asm.specs.glue.Spots.{spot_of}
 use Rattle.tg_asm.proofs.Searches.{found_between}
 use Rattle.tg_asm.proofs.labels.Labels.find_behind.Goals as goal
 

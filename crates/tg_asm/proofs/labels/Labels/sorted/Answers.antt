@@ -1,6 +1,6 @@
 use Rattle.std.proofs.Common.{◌∙◌, sym, ap, rules}
 use Rattle.std.proofs.lemmas.Fn.{always_returns_same}
-use Rattle.tg_asm.specs.Entries.{again_among}
+use Rattle.tg_asm.specs.glue.Entries.{again_among}
 use Rattle.tg_asm.proofs.Orders.{goes_before, goes_before_order, ordered_from, sorted_told, sorted_finds, strict_from}
 use Rattle.tg_asm.proofs.labels.Labels.sorted.Goals as goal
 

@@ -1,5 +1,5 @@
 use Rattle.std.proofs.Common.{◌∙◌, sym, ap}
-use Rattle.tg_asm.specs.Cuts.{pair_of}
+use Rattle.tg_asm.specs.glue.Cuts.{pair_of}
 use Rattle.tg_asm.proofs.CutLoops.{labels_shorter}
 use Rattle.tg_asm.proofs.LayoutLoops.{labelling_begin, labelling_more, labelling_end}
 use Rattle.tg_asm.proofs.layouts.Draft.add_labels.Goals as goal

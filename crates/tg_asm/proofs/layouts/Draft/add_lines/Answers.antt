@@ -1,4 +1,4 @@
-use Rattle.tg_asm.specs.Layouts.{laid_of, lined_labels}
+use Rattle.tg_asm.specs.glue.Layouts.{laid_of, lined_labels}
 use Rattle.tg_asm.proofs.LinePass.{laid_again, laid_first, laid_more, laid_bad, laid_rises, laid_rises_first, lines_on}
 use Rattle.tg_asm.proofs.layouts.Draft.add_lines.Goals as goal
 

@@ -1,5 +1,5 @@
 use Rattle.std.proofs.Common.{length}
-use Rattle.tg_asm.specs.Layouts.{laid_of, lined_labels}
+use Rattle.tg_asm.specs.glue.Layouts.{laid_of, lined_labels}
 use Rattle.tg_asm.proofs.LinePass.{LaidOut}
 use Rattle.tg_asm.proofs.layouts.Draft.add_lines.Given as goal
 

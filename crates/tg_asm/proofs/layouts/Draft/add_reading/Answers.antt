@@ -1,6 +1,6 @@
 use Rattle.std.proofs.Common.{sym, subst}
-use Rattle.tg_asm.specs.Cuts.{labels_of}
-use Rattle.tg_asm.specs.Layouts.{IsSmall, laid_of}
+use Rattle.tg_asm.specs.glue.Cuts.{labels_of}
+use Rattle.tg_asm.specs.glue.Layouts.{IsSmall, laid_of}
 use Rattle.tg_asm.proofs.LayoutLoops.{put_small}
 use Rattle.tg_asm.proofs.layouts.Draft.add_reading.Goals as goal
 

@@ -1,4 +1,4 @@
-use Rattle.tg_asm.specs.Layouts.{layout_of}
+use Rattle.tg_asm.specs.glue.Layouts.{layout_of}
 use Rattle.tg_asm.specs.Images.{made_of}
 use Rattle.tg_asm.proofs.MakingLoops.{InMakingData}
 use Rattle.tg_asm.proofs.making.Made.add_values.Given as goal

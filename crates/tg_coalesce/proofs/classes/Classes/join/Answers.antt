@@ -1,10 +1,10 @@
 use Rattle.std.proofs.Common.{◌≡◌, ℕ, List, ◌++◌, length, take, drop, get_or, refl, sym, ap, ◌∙◌, arith}
 use Rattle.std.proofs.lemmas.List.{length-set}
-use Rattle.tg_coalesce.specs.Lists.{numbers_in}
+use Rattle.tg_coalesce.specs.glue.Lists.{numbers_in}
 use Rattle.tg_graph.proofs.Vectors.{list_read, lists_sized}
-use Rattle.tg_coalesce.specs.Groupings.{Grouping}
-use Rattle.tg_coalesce.specs.Lists.{conjoined, list_at, moved_sum, set_at_all}
-use Rattle.tg_coalesce.specs.ShownClasses.{grouping_of}
+use Rattle.tg_coalesce.specs.glue.Groupings.{Grouping}
+use Rattle.tg_coalesce.specs.glue.Lists.{conjoined, list_at, moved_sum, set_at_all}
+use Rattle.tg_coalesce.specs.glue.ShownClasses.{grouping_of}
 use Rattle.tg_coalesce.proofs.Classing.{joined_grouping, relabelled_grouping, same_grouping}
 use Rattle.tg_coalesce.proofs.Listing.{length_moved_sum, length_set_at_all}
 use Rattle.tg_coalesce.proofs.Vectors.{items_of, all_written}

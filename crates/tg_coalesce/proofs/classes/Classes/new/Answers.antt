@@ -1,4 +1,4 @@
-use Rattle.tg_coalesce.specs.Groupings.{apart}
+use Rattle.tg_coalesce.specs.glue.Groupings.{apart}
 use Rattle.tg_coalesce.proofs.Classing.{apart_grouping, same_grouping}
 use Rattle.tg_coalesce.proofs.classes.Classes.new.Goals as goal
 

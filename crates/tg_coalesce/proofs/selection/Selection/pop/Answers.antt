@@ -2,7 +2,7 @@ use Rattle.std.proofs.Common.{◌≡◌, ◌<◌, ℕ, Option, false, not, IfSom
 use Rattle.std.proofs.lemmas.List.Elements.{All-set}
 use Rattle.tg_graph.specs.Interference.{colours}
 use Rattle.tg_coalesce.specs.declared.selection.Selection.TheInside.{Inside}
-use Rattle.tg_coalesce.specs.Selecting.{AreColours}
+use Rattle.tg_coalesce.specs.mirror.Selecting.{AreColours}
 use Rattle.tg_coalesce.proofs.Selecting.{found_below}
 use Rattle.tg_coalesce.proofs.selection.Selection.pop.Goals as goal
 use Rattle.tg_coalesce.proofs.selection.Selection.pop.Goals.{then-is_none+in_ok-push, else-is_none}

@@ -1,8 +1,8 @@
 use Rattle.std.proofs.Common.{◌≡◌, ◌-◌, map}
 use Rattle.std.specs.Prelude.{filter}
 use Rattle.std.specs.List.{range_with_len}
-use Rattle.tg_coalesce.specs.Works.{is_left}
-use Rattle.tg_coalesce.specs.Steps.{candidate}
+use Rattle.tg_coalesce.specs.glue.Works.{is_left}
+use Rattle.tg_coalesce.specs.mirror.Steps.{candidate}
 use Rattle.tg_coalesce.proofs.states.Coalescer.candidates.Given as goal
 
 abbrev pub invariant-loop-node : goal.invariant-loop-node

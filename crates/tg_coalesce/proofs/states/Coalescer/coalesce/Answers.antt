@@ -1,8 +1,8 @@
 use Rattle.std.proofs.Common.{◌≡◌, get_or, sym, ap, ◌∙◌, subst, arith}
 use Rattle.tg_graph.specs.Interference.{Interference, interferes}
 use Rattle.tg_irc.specs.declared.moves.MoveState.TheVariants.{Coalesced}
-use Rattle.tg_coalesce.specs.Works.{Work, degree_at}
-use Rattle.tg_coalesce.specs.Steps.{CanLose}
+use Rattle.tg_coalesce.specs.glue.Works.{Work, degree_at}
+use Rattle.tg_coalesce.specs.mirror.Steps.{CanLose}
 use Rattle.tg_coalesce.proofs.Stepping.{settled_degrees, settled_graph}
 use Rattle.tg_coalesce.proofs.Trying.{settled_loses}
 use Rattle.tg_coalesce.proofs.states.Coalescer.coalesce.Goals as goal

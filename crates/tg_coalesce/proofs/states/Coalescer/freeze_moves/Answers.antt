@@ -1,10 +1,10 @@
 use Rattle.std.proofs.Common.{◌≡◌, ◌<◌, length, get_or, sym, ap, ◌∙◌, arith}
 use Rattle.std.proofs.lemmas.Bool.{cond-false, cond-true}
 use Rattle.tg_irc.specs.declared.moves.MoveState.TheVariants.{Frozen}
-use Rattle.tg_coalesce.specs.Lists.{list_at}
-use Rattle.tg_coalesce.specs.Tables.{is_unsettled}
-use Rattle.tg_coalesce.specs.Works.{Work, settled}
-use Rattle.tg_coalesce.specs.Steps.{freeze_one, given_up}
+use Rattle.tg_coalesce.specs.glue.Lists.{list_at}
+use Rattle.tg_coalesce.specs.glue.Tables.{is_unsettled}
+use Rattle.tg_coalesce.specs.glue.Works.{Work, settled}
+use Rattle.tg_coalesce.specs.mirror.Steps.{freeze_one, given_up}
 use Rattle.tg_coalesce.proofs.Ends.{CanSettle, from_counted, to_counted}
 use Rattle.tg_coalesce.proofs.Folds.{fold_end, fold_next}
 use Rattle.tg_coalesce.proofs.GivingUp.{listed, moves_there, place_there, same_size, settles_there}

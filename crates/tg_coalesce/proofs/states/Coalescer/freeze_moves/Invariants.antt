@@ -1,7 +1,7 @@
 use Rattle.std.proofs.Common.{◌≡◌, take}
 use Rattle.std.specs.Prelude.{fold}
-use Rattle.tg_coalesce.specs.Lists.{list_at}
-use Rattle.tg_coalesce.specs.Steps.{freeze_one}
+use Rattle.tg_coalesce.specs.glue.Lists.{list_at}
+use Rattle.tg_coalesce.specs.mirror.Steps.{freeze_one}
 use Rattle.tg_coalesce.proofs.states.Coalescer.freeze_moves.Given as goal
 
 abbrev pub invariant-loop-place : goal.invariant-loop-place

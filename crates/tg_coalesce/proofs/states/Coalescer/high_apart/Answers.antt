@@ -1,7 +1,7 @@
 use Rattle.std.proofs.Common.{◌<◌, ℕ, ◌&&◌, not, List, length, get_or, sym, ap, ◌∙◌, arith}
 use Rattle.std.proofs.lemmas.Bool.{and_from}
 use Rattle.tg_graph.specs.Interference.{interferes, neighbours}
-use Rattle.tg_coalesce.specs.Works.{Work, is_high}
+use Rattle.tg_coalesce.specs.glue.Works.{Work, is_high}
 use Rattle.tg_coalesce.proofs.Limits.{reached}
 use Rattle.tg_coalesce.proofs.states.Coalescer.high_apart.Goals as goal
 

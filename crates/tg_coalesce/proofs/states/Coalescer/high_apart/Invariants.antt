@@ -1,7 +1,7 @@
 use Rattle.std.proofs.Common.{◌≡◌, ◌<◌, ◌&&◌, not, take}
 use Rattle.std.specs.Prelude.{count_by}
 use Rattle.tg_graph.specs.Interference.{interferes, neighbours}
-use Rattle.tg_coalesce.specs.Works.{is_high}
+use Rattle.tg_coalesce.specs.glue.Works.{is_high}
 use Rattle.tg_coalesce.proofs.states.Coalescer.high_apart.Given as goal
 
 abbrev pub invariant-loop-other : goal.invariant-loop-other

@@ -1,6 +1,6 @@
 use Rattle.std.proofs.Common.{◌<◌, ℕ, List, length, get_or, sym, ap, ◌∙◌, arith}
 use Rattle.tg_graph.specs.Interference.{neighbours}
-use Rattle.tg_coalesce.specs.Works.{Work, is_high}
+use Rattle.tg_coalesce.specs.glue.Works.{Work, is_high}
 use Rattle.tg_coalesce.proofs.Limits.{reached}
 use Rattle.tg_coalesce.proofs.states.Coalescer.high_around.Goals as goal
 

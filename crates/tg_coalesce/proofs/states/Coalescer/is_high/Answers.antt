@@ -1,5 +1,5 @@
 use Rattle.std.proofs.Common.{◌∙◌, sym, ap}
-use Rattle.tg_coalesce.specs.Works.{Work, is_high}
+use Rattle.tg_coalesce.specs.glue.Works.{Work, is_high}
 use Rattle.tg_coalesce.proofs.Places.{high_by}
 use Rattle.tg_coalesce.proofs.states.Coalescer.is_high.Goals as goal
 

@@ -1,5 +1,5 @@
 use Rattle.std.proofs.Common.{◌<◌, length, sym, ap, ◌∙◌, arith}
-use Rattle.tg_coalesce.specs.Works.{Work}
+use Rattle.tg_coalesce.specs.glue.Works.{Work}
 use Rattle.tg_coalesce.proofs.Stepping.{bereft_not, lower_done, relisted_below, turned_done}
 use Rattle.tg_coalesce.proofs.states.Coalescer.lose_neighbour.Goals as goal
 use Rattle.tg_coalesce.proofs.states.Coalescer.lose_neighbour.Goals.{After-is_open}

@@ -1,7 +1,7 @@
 use Rattle.std.proofs.Common.{◌≡◌, ◌<◌, length, get_or, ap, ◌∙◌, arith}
 use Rattle.tg_graph.specs.Interference.{neighbours}
-use Rattle.tg_coalesce.specs.Works.{Work, awake, relisted}
-use Rattle.tg_coalesce.specs.Steps.{merged, passed_on}
+use Rattle.tg_coalesce.specs.glue.Works.{Work, awake, relisted}
+use Rattle.tg_coalesce.specs.mirror.Steps.{merged, passed_on}
 use Rattle.tg_coalesce.proofs.Edges.{passed_nodes}
 use Rattle.tg_coalesce.proofs.Folds.{fold_end, fold_next}
 use Rattle.tg_coalesce.proofs.Uniting.{as_one, awake_as, counted_there, list_there, nodes_there, others_differ, room_there}

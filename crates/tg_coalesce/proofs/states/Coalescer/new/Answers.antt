@@ -4,9 +4,9 @@ use Rattle.std.specs.List.{range_with_len}
 use Rattle.std.proofs.lemmas.List.FromFn.{length-range_with_len}
 use Rattle.tg_graph.specs.Interference.{Interference, colours}
 use Rattle.tg_graph.specs.Lists.{Lists}
-use Rattle.tg_coalesce.specs.Groupings.{Grouping}
-use Rattle.tg_coalesce.specs.Tables.{Table}
-use Rattle.tg_coalesce.specs.Works.{Work, relisted, started, unlisted}
+use Rattle.tg_coalesce.specs.glue.Groupings.{Grouping}
+use Rattle.tg_coalesce.specs.glue.Tables.{Table}
+use Rattle.tg_coalesce.specs.glue.Works.{Work, relisted, started, unlisted}
 use Rattle.tg_coalesce.proofs.FirstDegrees.{length_first}
 use Rattle.tg_coalesce.proofs.Keeping.{relisted_graph}
 use Rattle.tg_coalesce.proofs.Tabling.{length_listed}

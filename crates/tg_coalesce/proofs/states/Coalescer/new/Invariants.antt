@@ -2,7 +2,7 @@ use Rattle.std.proofs.Common.{◌≡◌, ◌-◌}
 use Rattle.std.specs.Prelude.{fold}
 use Rattle.std.specs.List.{range_with_len}
 use Rattle.tg_graph.specs.Interference.{colours}
-use Rattle.tg_coalesce.specs.Works.{relisted, unlisted}
+use Rattle.tg_coalesce.specs.glue.Works.{relisted, unlisted}
 use Rattle.tg_coalesce.proofs.states.Coalescer.new.Given as goal
 
 abbrev pub invariant-loop-node : goal.invariant-loop-node

@@ -2,7 +2,7 @@ use Rattle.std.proofs.Common.{◌≡◌, true, not, sym, ap, ◌∙◌, arith}
 use Rattle.std.proofs.lemmas.Bool.{and_left, and_right}
 use Rattle.std.proofs.lemmas.Result.{on_ok_weaker}
 use Rattle.tg_graph.specs.Interference.{interferes, is_register}
-use Rattle.tg_coalesce.specs.Works.{Work, is_left}
+use Rattle.tg_coalesce.specs.glue.Works.{Work, is_left}
 use Rattle.tg_coalesce.proofs.Edges.{passed_near, raised_done, unraised_done}
 use Rattle.tg_coalesce.proofs.states.Coalescer.pass_edge.Goals as goal
 use Rattle.tg_coalesce.proofs.states.Coalescer.pass_edge.Goals.{else-remains-via-else-remains, else-remains-via-then-remains+else-not-is_register}

@@ -1,8 +1,8 @@
 use Rattle.std.proofs.Common.{◌≡◌, true, sym, ap, ◌∙◌}
 use Rattle.tg_graph.specs.declared.worklists.Worklist.{Worklist}
 use Rattle.tg_graph.specs.Lists.{Lists, moved}
-use Rattle.tg_coalesce.specs.ShownWork.{work_of}
-use Rattle.tg_coalesce.specs.Works.{Work, is_open, list_of}
+use Rattle.tg_coalesce.specs.glue.ShownWork.{work_of}
+use Rattle.tg_coalesce.specs.glue.Works.{Work, is_open, list_of}
 use Rattle.tg_coalesce.proofs.AdvancingListing.{relisted_not, relisted_open}
 use Rattle.tg_coalesce.proofs.states.Coalescer.relist.Goals as goal
 

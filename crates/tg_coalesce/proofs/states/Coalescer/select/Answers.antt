@@ -1,7 +1,7 @@
 use Rattle.std.proofs.Common.{◌<◌, ◌≤◌, ℕ, All, sym, ap, subst, ◌∙◌}
 use Rattle.std.proofs.lemmas.List.Elements.{All-same}
 use Rattle.tg_graph.specs.Interference.{colours}
-use Rattle.tg_coalesce.specs.Works.{Work}
+use Rattle.tg_coalesce.specs.glue.Works.{Work}
 use Rattle.tg_coalesce.proofs.states.Coalescer.select.Goals as goal
 
 pub select-requires-clause-below : goal.select-requires-clause-below

@@ -1,9 +1,9 @@
 use Rattle.std.proofs.Common.{◌≡◌, ℕ, ap, ◌∙◌, arith}
 use Rattle.tg_graph.specs.Interference.{Interference}
-use Rattle.tg_coalesce.specs.ShownWork.{work_of}
-use Rattle.tg_coalesce.specs.Tables as tables
-use Rattle.tg_coalesce.specs.Tables.{Table}
-use Rattle.tg_coalesce.specs.Works.{Work, from, relisted, settled, to}
+use Rattle.tg_coalesce.specs.glue.ShownWork.{work_of}
+use Rattle.tg_coalesce.specs.glue.Tables as tables
+use Rattle.tg_coalesce.specs.glue.Tables.{Table}
+use Rattle.tg_coalesce.specs.glue.Works.{Work, from, relisted, settled, to}
 use Rattle.tg_coalesce.proofs.Keeping.{relisted_graph}
 use Rattle.tg_coalesce.proofs.states.Coalescer.settle.Goals as goal
 

@@ -1,7 +1,7 @@
 use Rattle.std.proofs.Common.{◌+◌, ◌<◌, length, sym, ap, ◌∙◌, subst, arith}
 use Rattle.tg_graph.specs.Interference.{Interference}
-use Rattle.tg_coalesce.specs.Works.{Work, awake_around}
-use Rattle.tg_coalesce.specs.Steps.{CanLose, given_up}
+use Rattle.tg_coalesce.specs.glue.Works.{Work, awake_around}
+use Rattle.tg_coalesce.specs.mirror.Steps.{CanLose, given_up}
 use Rattle.tg_coalesce.proofs.Candidates.{IsCandidate, candidate_read}
 use Rattle.tg_coalesce.proofs.Counters.{has_neighbour, loses_alike}
 use Rattle.tg_coalesce.proofs.Stepping.{given_up_degrees, given_up_graph, given_up_left}

@@ -2,8 +2,8 @@ use Rattle.std.proofs.Common.{◌≡◌, ◌<◌, length, get_or, sym, ap, ◌�
 use Rattle.std.specs.Prelude.{nat_eq}
 use Rattle.std.specs.List.{IsDistinct}
 use Rattle.tg_graph.specs.Interference.{Interference, neighbours}
-use Rattle.tg_coalesce.specs.Works.{Work}
-use Rattle.tg_coalesce.specs.Steps.{bereft, taken_out}
+use Rattle.tg_coalesce.specs.glue.Works.{Work}
+use Rattle.tg_coalesce.specs.mirror.Steps.{bereft, taken_out}
 use Rattle.tg_coalesce.proofs.Folds.{fold_end, fold_next}
 use Rattle.tg_coalesce.proofs.TakingOut.{counted_there, graph_there, list_there, out}
 use Rattle.tg_coalesce.proofs.states.Coalescer.take_out.Goals as goal

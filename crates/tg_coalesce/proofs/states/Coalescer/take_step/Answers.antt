@@ -1,6 +1,6 @@
 use Rattle.std.proofs.Common.{◌≡◌, true, false, [], None, slice_get, refl, sym, ap, ◌∙◌, rules, arith}
 use Rattle.std.specs.Option.{is_some}
-use Rattle.tg_coalesce.specs.Works.{Work}
+use Rattle.tg_coalesce.specs.glue.Works.{Work}
 use Rattle.tg_coalesce.proofs.Conditions.{first_simplify, freeze_progresses, neighbours_counted, no_spill, none_first, nothing_left}
 use Rattle.tg_coalesce.proofs.Conditions.{simplify_progresses, spill_candidate, spill_progresses, temporary_of, try_progresses}
 use Rattle.tg_coalesce.proofs.states.Coalescer.take_step.Given as given

@@ -1,5 +1,5 @@
 use Rattle.std.proofs.Common.{◌∙◌, sym, subst}
-use Rattle.tg_coalesce.specs.Standing.{IsRunOf}
+use Rattle.tg_coalesce.specs.glue.Standing.{IsRunOf}
 use Rattle.tg_coalesce.proofs.states.Coalescer.take_steps.Goals as goal
 
 pub loop-preserved : goal.loop-preserved

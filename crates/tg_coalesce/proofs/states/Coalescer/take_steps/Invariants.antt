@@ -1,6 +1,6 @@
 use Rattle.std.proofs.Common.{◌≡◌}
 use Rattle.tg_irc.specs.States.{Problem}
-use Rattle.tg_coalesce.specs.Standing.{IsOrderly, IsRunOf, left_to_do}
+use Rattle.tg_coalesce.specs.glue.Standing.{IsOrderly, IsRunOf, left_to_do}
 use Rattle.tg_coalesce.proofs.states.Coalescer.take_steps.Given as goal
 
 abbrev pub invariant-loop : goal.invariant-loop

@@ -1,7 +1,7 @@
 use Rattle.std.proofs.Common.{◌≡◌, ◌<◌, ◌≤◌, ℕ, get_or, sym, ◌∙◌}
-use Rattle.tg_coalesce.specs.Lists.{lowered}
-use Rattle.tg_coalesce.specs.ShownWork.{work_of}
-use Rattle.tg_coalesce.specs.Works.{Work, degree_at, from, to}
+use Rattle.tg_coalesce.specs.glue.Lists.{lowered}
+use Rattle.tg_coalesce.specs.glue.ShownWork.{work_of}
+use Rattle.tg_coalesce.specs.glue.Works.{Work, degree_at, from, to}
 use Rattle.tg_coalesce.proofs.Trying.{IsTried, constrained_done, from_counted_there, is_taken, over_done, over_loses, parked_done}
 use Rattle.tg_coalesce.proofs.Trying.{room_there, same_done, taken, to_counted_there, under_done, under_loses}
 use Rattle.tg_coalesce.proofs.states.Coalescer.try_move.Goals as goal

@@ -2,10 +2,10 @@ use Rattle.std.proofs.Common.{◌≡◌, ℕ, false, List, length, take, sym, ap
 use Rattle.std.specs.Prelude.{fold}
 use Rattle.tg_graph.specs.Interference.{Interference, neighbours}
 use Rattle.tg_coalesce.specs.declared.states.Coalescer.TheInside.{Inside}
-use Rattle.tg_coalesce.specs.Standing.{IsSized}
-use Rattle.tg_coalesce.specs.Tables.{Table, some_waits, woken}
-use Rattle.tg_coalesce.specs.ShownWork.{work_of}
-use Rattle.tg_coalesce.specs.Works.{awake_around}
+use Rattle.tg_coalesce.specs.glue.Standing.{IsSized}
+use Rattle.tg_coalesce.specs.glue.Tables.{Table, some_waits, woken}
+use Rattle.tg_coalesce.specs.glue.ShownWork.{work_of}
+use Rattle.tg_coalesce.specs.glue.Works.{awake_around}
 use Rattle.tg_coalesce.proofs.Tabling.{all_woken_touching}
 use Rattle.tg_coalesce.proofs.Waiting.{none_woken}
 use Rattle.tg_coalesce.proofs.states.Coalescer.wake_around.Goals as goal

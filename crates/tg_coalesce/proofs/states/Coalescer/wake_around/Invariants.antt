@@ -1,7 +1,7 @@
 use Rattle.std.proofs.Common.{◌≡◌, take}
 use Rattle.std.specs.Prelude.{fold}
 use Rattle.tg_graph.specs.Interference.{neighbours}
-use Rattle.tg_coalesce.specs.Tables.{woken}
+use Rattle.tg_coalesce.specs.glue.Tables.{woken}
 use Rattle.tg_coalesce.proofs.states.Coalescer.wake_around.Given as goal
 
 abbrev pub invariant-loop-place : goal.invariant-loop-place

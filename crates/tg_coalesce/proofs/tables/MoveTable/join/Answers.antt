@@ -1,7 +1,7 @@
 use Rattle.std.proofs.Common.{◌≡◌, length, refl, ap, ◌∙◌, arith}
-use Rattle.tg_coalesce.specs.Lists.{moved_sum}
-use Rattle.tg_coalesce.specs.ShownMoves.{table_of}
-use Rattle.tg_coalesce.specs.Tables.{Table, joined}
+use Rattle.tg_coalesce.specs.glue.Lists.{moved_sum}
+use Rattle.tg_coalesce.specs.glue.ShownMoves.{table_of}
+use Rattle.tg_coalesce.specs.glue.Tables.{Table, joined}
 use Rattle.tg_coalesce.proofs.Listing.{length_moved_sum}
 use Rattle.tg_coalesce.proofs.Tabling.{joined_table, same_table}
 use Rattle.tg_coalesce.proofs.Vectors.{all_written}

@@ -1,5 +1,5 @@
 use Rattle.std.proofs.Common.{◌∙◌}
-use Rattle.tg_coalesce.specs.Tables.{started}
+use Rattle.tg_coalesce.specs.glue.Tables.{started}
 use Rattle.tg_coalesce.proofs.Tabling.{started_table, same_table}
 use Rattle.tg_coalesce.proofs.tables.MoveTable.new.Goals as goal
 

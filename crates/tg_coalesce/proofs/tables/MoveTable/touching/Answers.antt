@@ -1,6 +1,6 @@
 use Rattle.std.proofs.Common.{ℕ, List, length, get_or, sym, ap, ◌∙◌, arith}
 use Rattle.tg_graph.proofs.Vectors.{list_read, lists_sized}
-use Rattle.tg_coalesce.specs.Tables.{Table}
+use Rattle.tg_coalesce.specs.glue.Tables.{Table}
 use Rattle.tg_coalesce.proofs.Vectors.{items_of}
 use Rattle.tg_coalesce.proofs.tables.MoveTable.touching.Goals as goal
 

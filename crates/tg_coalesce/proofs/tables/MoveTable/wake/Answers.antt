@@ -1,5 +1,5 @@
 use Rattle.std.proofs.Common.{sym, ◌∙◌}
-use Rattle.tg_coalesce.specs.Lists.{list_at}
+use Rattle.tg_coalesce.specs.glue.Lists.{list_at}
 use Rattle.tg_coalesce.proofs.Waiting.{none_again}
 use Rattle.tg_coalesce.proofs.tables.MoveTable.wake.Goals as goal
 

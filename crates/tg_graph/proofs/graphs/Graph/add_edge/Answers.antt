@@ -2,9 +2,9 @@ use Rattle.std.specs.Prelude.{◌==◌}
 use Rattle.std.proofs.Common.{◌≡◌, ℕ, ◌+◌, ◌-◌, ◌<◌, ◌/◌, ◌≤◌, ◌||◌, List, length, get_or, min, max, refl, sym, ap, ◌∙◌, subst, arith}
 use Rattle.std.proofs.lemmas.List.{with_items_is}
 use Rattle.std.specs.Vec.{with_items}
-use Rattle.tg_graph.specs.Bits.{area, matrix_bit, pair_place, tiles_for}
 use Rattle.tg_graph.specs.Interference.{Interference, interferes, are_ends, most_nodes}
-use Rattle.tg_graph.specs.Keeping.{IsKept, lists_of, counted_up}
+use Rattle.tg_graph.specs.glue.Bits.{area, matrix_bit, pair_place, tiles_for}
+use Rattle.tg_graph.specs.glue.Keeping.{IsKept, lists_of, counted_up}
 use Rattle.tg_graph.proofs.Places.{place_at, tile_within}
 use Rattle.tg_graph.proofs.Changes.{counted_few, length_counted}
 use Rattle.tg_graph.proofs.Joining.{CanJoin, can_join, ends_interfere, few_counted, graph_of, joined, kept_at, kept_joined, kept_reached, interferes_joined}

@@ -1,7 +1,7 @@
 use Rattle.std.proofs.Common.{◌≡◌, ◌-◌, ◌<◌, length, get_or, ap, ◌∙◌, arith}
 use Rattle.std.proofs.lemmas.List.{get_or_read, length-map}
 use Rattle.tg_graph.specs.Interference.{Interference}
-use Rattle.tg_graph.specs.Keeping.{IsKept, lists_of}
+use Rattle.tg_graph.specs.glue.Keeping.{IsKept, lists_of}
 use Rattle.tg_graph.proofs.Joining.{degree_read, few_neighbours}
 use Rattle.tg_graph.proofs.graphs.Graph.degree.Goals as goal
 

@@ -1,8 +1,8 @@
 use Rattle.std.proofs.Common.{◌≡◌, ℕ, ◌<◌, ◌≤◌, ◌/◌, List, Vec, length, max, sym, ap, ◌∙◌, subst, arith}
 use Rattle.std.specs.declared.alloc.Global.{Global}
-use Rattle.tg_graph.specs.Bits.{matrix_bit, tiles_for}
 use Rattle.tg_graph.specs.Interference.{Interference, interferes, colours}
-use Rattle.tg_graph.specs.Keeping.{lists_of}
+use Rattle.tg_graph.specs.glue.Bits.{matrix_bit, tiles_for}
+use Rattle.tg_graph.specs.glue.Keeping.{lists_of}
 use Rattle.tg_graph.proofs.Places.{place_at, tile_within}
 use Rattle.tg_graph.proofs.Joining.{bit_told, graph_of}
 use Rattle.tg_graph.proofs.Vectors.{items_of, lists_sized}

@@ -1,7 +1,7 @@
 use Rattle.std.proofs.Common.{◌≡◌, ◌<◌, ◌-◌, length, sym, ap, ◌∙◌, arith}
 use Rattle.std.proofs.lemmas.List.{length-map}
 use Rattle.tg_graph.specs.Interference.{Interference, neighbours}
-use Rattle.tg_graph.specs.Keeping.{IsKept, lists_of}
+use Rattle.tg_graph.specs.glue.Keeping.{IsKept, lists_of}
 use Rattle.tg_graph.proofs.Joining.{neighbours_below}
 use Rattle.tg_graph.proofs.Vectors.{items_of, list_read}
 use Rattle.tg_graph.proofs.graphs.Graph.neighbours.Goals as goal

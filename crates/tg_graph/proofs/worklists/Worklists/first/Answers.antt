@@ -3,7 +3,7 @@ use Rattle.std.specs.Bool.{then_some}
 use Rattle.std.proofs.Common.{◌≡◌, ℕ, ◌+◌, ◌<◌, List, length, get_or, slice_get, slice_index, Option, IfSome, sym, ap, ◌∙◌, subst, arith}
 use Rattle.std.proofs.lemmas.List.{get_or_read}
 use Rattle.tg_graph.specs.Lists.{Lists, nodes_in, number}
-use Rattle.tg_graph.specs.Linking.{list_from}
+use Rattle.tg_graph.specs.glue.Linking.{list_from}
 use Rattle.tg_graph.proofs.Members.{front_of, some_below}
 use Rattle.tg_graph.proofs.Moves.{nodes_by}
 use Rattle.tg_graph.proofs.worklists.Worklists.first.Goals as goal

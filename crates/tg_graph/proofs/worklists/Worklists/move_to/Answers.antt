@@ -3,8 +3,8 @@ use Rattle.std.specs.Vec.{with_items}
 use Rattle.std.proofs.lemmas.List.{with_items_is}
 use Rattle.tg_graph.specs.declared.worklists.Worklist.{Worklist}
 use Rattle.tg_graph.specs.Lists.{Lists, lists_by, moved, number, without}
-use Rattle.tg_graph.specs.Chains.{Relinks, joined_to}
-use Rattle.tg_graph.specs.Linking.{AreLinked, list_from}
+use Rattle.tg_graph.specs.glue.Chains.{Relinks, joined_to}
+use Rattle.tg_graph.specs.glue.Linking.{AreLinked, list_from}
 use Rattle.tg_graph.proofs.Moves.{after_move, linked_at, moved_by, settled, settled_linked}
 use Rattle.tg_graph.proofs.worklists.Worklists.move_to.Goals as goal
 use Rattle.tg_graph.proofs.worklists.Worklists.move_to.Goals.{After-link_last}

@@ -6,8 +6,8 @@ use Rattle.std.proofs.lemmas.List.FromFn.{length-range_with_len}
 use Rattle.tg_graph.specs.declared.worklists.Worklist.{Worklist}
 use Rattle.tg_graph.specs.declared.worklists.Worklist.TheVariants.{Fixed, Spill}
 use Rattle.tg_graph.specs.Lists.{lists_by, started_in}
-use Rattle.tg_graph.specs.Chains.{AreInverse, Relinks, joined_to}
-use Rattle.tg_graph.specs.Linking.{AreLinked, list_from}
+use Rattle.tg_graph.specs.glue.Chains.{AreInverse, Relinks, joined_to}
+use Rattle.tg_graph.specs.glue.Linking.{AreLinked, list_from}
 use Rattle.tg_graph.proofs.Moves.{identity_inverse, itself, linked_at, settled, settled_linked, start_linked, start_places}
 use Rattle.tg_graph.proofs.worklists.Worklists.new.Goals as goal
 use Rattle.tg_graph.proofs.worklists.Worklists.new.Goals.{After-link_range-2}

@@ -4,7 +4,7 @@ use Rattle.std.proofs.Common.{◌≡◌, ℕ, ◌+◌, ◌<◌, true, List, leng
 use Rattle.std.proofs.lemmas.List.{get_or_read}
 use Rattle.tg_graph.specs.Interference.{is_among}
 use Rattle.tg_graph.specs.Lists.{Lists, nodes_in, number, after}
-use Rattle.tg_graph.specs.Linking.{list_from}
+use Rattle.tg_graph.specs.glue.Linking.{list_from}
 use Rattle.tg_graph.proofs.Members.{behind_of, some_below}
 use Rattle.tg_graph.proofs.Moves.{nodes_by}
 use Rattle.tg_graph.proofs.worklists.Worklists.next.Goals as goal

@@ -1,7 +1,7 @@
 use Rattle.std.proofs.Common.{ℕ, ◌+◌, ◌<◌, nat_lt, [], ◌∷◌, length, drop, get_or, sym, ap, ◌∙◌, arith}
 use Rattle.std.proofs.lemmas.Bool.{ltb-true}
 use Rattle.std.proofs.lemmas.List.{drop_all, drop_more}
-use Rattle.tg_live.specs.Search.{Found, enter_all}
+use Rattle.tg_live.specs.mirror.Search.{Found, enter_all}
 use Rattle.tg_live.proofs.Places.{all_at}
 use Rattle.tg_live.proofs.Searched.{length-enter_all}
 use Rattle.tg_live.proofs.searches.Search.enter_all.Goals as goal

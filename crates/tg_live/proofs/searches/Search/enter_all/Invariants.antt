@@ -1,5 +1,5 @@
 use Rattle.std.proofs.Common.{◌≡◌, length, drop}
-use Rattle.tg_live.specs.Search.{enter_all}
+use Rattle.tg_live.specs.mirror.Search.{enter_all}
 use Rattle.tg_live.proofs.searches.Search.enter_all.Given as goal
 
 abbrev pub invariant-loop-place : goal.invariant-loop-place

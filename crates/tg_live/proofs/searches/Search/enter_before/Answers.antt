@@ -1,5 +1,5 @@
 use Rattle.std.proofs.Common.{length, drop, sym, ap, ◌∙◌, ◌+◌}
-use Rattle.tg_live.specs.Search.{Found, enter_all, enter_before}
+use Rattle.tg_live.specs.mirror.Search.{Found, enter_all, enter_before}
 use Rattle.tg_live.proofs.Searched.{enter_before_more, length-enter_all}
 use Rattle.tg_live.proofs.searches.Search.enter_before.Goals as goal
 

@@ -1,7 +1,7 @@
 -- The search from its start to its end.
 use Rattle.std.proofs.Common.{◌≡◌, ◌<◌, ◌≤◌, ◌+◌, ◌-◌, ℕ, true, length, sym, ap, ◌∙◌, subst, arith}
-use Rattle.tg_live.specs.Tables.{have_rows_below}
-use Rattle.tg_live.specs.Search.{Found, enter_before, visit}
+use Rattle.tg_live.specs.glue.Tables.{have_rows_below}
+use Rattle.tg_live.specs.mirror.Search.{Found, enter_before, visit}
 use Rattle.tg_live.proofs.Places.{before_below, row_below}
 use Rattle.tg_live.proofs.Searched.{IsSearching, begins, goes_further, ends, place_within, room, room_visit}
 use Rattle.tg_live.proofs.searches.Search.run.Goals as goal

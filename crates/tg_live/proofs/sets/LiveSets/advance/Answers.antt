@@ -1,7 +1,7 @@
 use Rattle.std.proofs.Common.{◌<◌, length, sym, ap, ◌∙◌, arith}
 use Rattle.tg_live.specs.Live.{Sets, set_at}
-use Rattle.tg_live.specs.Tables.{row}
-use Rattle.tg_live.specs.LiveChanges.{all_put_in_order, set_without_all, set_before}
+use Rattle.tg_live.specs.glue.Tables.{row}
+use Rattle.tg_live.specs.glue.LiveChanges.{all_put_in_order, set_without_all, set_before}
 use Rattle.tg_live.proofs.Changing.{length-sets_of, set_of_changes, before_of_changes}
 use Rattle.tg_live.proofs.sets.LiveSets.advance.Goals as goal
 

@@ -3,7 +3,7 @@ use Rattle.std.specs.Prelude.{Some, slice_index}
 use Rattle.std.proofs.lemmas.List.{get_or-map, length-map}
 use Rattle.tg_state.specs.State.{MachineState}
 use Rattle.tg_base.specs.Words.{sub}
-use Rattle.tg_machine.specs.Rows.{row_at, row_of}
+use Rattle.tg_machine.specs.mirror.Rows.{row_at, row_of}
 use Rattle.tg_machine.proofs.RowEffects.{row_found}
 use Rattle.tg_machine.proofs.cores.Core.row_at.Goals as goal
 

@@ -4,8 +4,8 @@ use Rattle.tg_state.specs.Services.{service}
 use Rattle.tg_base.specs.Words.{add}
 use Rattle.tg_isa.specs.Effects.{performed}
 use Rattle.tg_machine.specs.declared.rows.Row.{Row}
-use Rattle.tg_machine.specs.Pauses.{RunsTo}
-use Rattle.tg_machine.specs.Rows.{does}
+use Rattle.tg_machine.specs.glue.Pauses.{RunsTo}
+use Rattle.tg_machine.specs.mirror.Rows.{does}
 use Rattle.tg_machine.proofs.Pausing.{runs_more}
 use Rattle.tg_machine.proofs.RowEffects.{row_ends, row_goes, step_at}
 use Rattle.tg_machine.proofs.cores.Core.run_alone.Goals as goal

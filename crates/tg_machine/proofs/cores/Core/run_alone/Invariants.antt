@@ -1,5 +1,5 @@
 use Rattle.tg_state.specs.State.{go}
-use Rattle.tg_machine.specs.Pauses.{RunsTo}
+use Rattle.tg_machine.specs.glue.Pauses.{RunsTo}
 use Rattle.tg_machine.proofs.cores.Core.run_alone.Given as goal
 
 -- the place of the core is that of the variable

@@ -1,4 +1,4 @@
-use Rattle.tg_types.specs.States.{no_memory}
+use Rattle.tg_types.specs.glue.States.{no_memory}
 use Rattle.tg_types.proofs.Steps.{ended, noted}
 use Rattle.tg_types.proofs.states.CheckingState.note.Goals as goal
 

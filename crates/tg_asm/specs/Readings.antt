@@ -1,8 +1,0 @@
--- Readings of the code, as the definition has them.
-use Rattle.tg_asm_text.specs.Assembly as assembly
-use Rattle.tg_asm.specs.Cuts.{labels_of}
-use Rattle.tg_asm.specs.Means.{item_of}
-use Rattle.tg_asm.specs.declared.readings.Reading.{Reading}
-
-abbrev pub reading_of : Reading → assembly.Reading
-reading_of r = record { labels = labels_of r.line.now; item = item_of r.item }

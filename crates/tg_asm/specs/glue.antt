@@ -1,0 +1,10 @@
+pub mod Classes
+pub mod Cuts
+pub mod Numbers
+pub mod Registers
+pub mod Means
+pub mod Spots
+pub mod Fronts
+pub mod Entries
+pub mod Readings
+pub mod Layouts

@@ -1,0 +1,9 @@
+pub mod Lists
+pub mod Groupings
+pub mod Tables
+pub mod Works
+pub mod Standing
+pub mod Advancing
+pub mod ShownClasses
+pub mod ShownMoves
+pub mod ShownWork

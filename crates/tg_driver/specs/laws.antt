@@ -1,0 +1,5 @@
+pub mod MeantEnds
+pub mod Laws
+pub mod Safe
+pub mod MeantCommands
+pub mod Meanings

@@ -1,0 +1,4 @@
+pub mod Bits
+pub mod Keeping
+pub mod Chains
+pub mod Linking

@@ -1,0 +1,4 @@
+pub mod Laws
+pub mod Classes
+pub mod Waiting
+pub mod Degrees

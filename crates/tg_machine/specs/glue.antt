@@ -1,0 +1,4 @@
+pub mod Inside
+pub mod Layout
+pub mod Moves
+pub mod Pauses

@@ -1,0 +1,5 @@
+pub mod Deep
+pub mod Given
+pub mod Heads
+pub mod Opens
+pub mod Ranks

@@ -1,0 +1,10 @@
+pub mod States
+pub mod Wants
+pub mod Returning
+pub mod Constructs
+pub mod Scopes
+pub mod Functions
+pub mod Choices
+pub mod Purity
+pub mod Updates
+pub mod Translate

@@ -1,0 +1,5 @@
+pub mod Tables
+pub mod Covered
+pub mod Worlds
+pub mod Situations
+pub mod Shown
