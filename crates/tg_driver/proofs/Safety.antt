@@ -39,7 +39,7 @@ use Rattle.tg_driver.specs.Modes.{InMode, ReadsNoInput, most_of}
 use Rattle.tg_driver.specs.laws.Laws.{ReadsFile}
 use Rattle.tg_driver.specs.Telling.{IsTold}
 use Rattle.tg_driver.specs.Answered.{IsDue, told_runs, usage, no_memory, asked, Answers}
-use Rattle.tg_driver.specs.laws.Safe.{LeavesUnread, IsFileUnread, IsImageOf, IsOutput, HasToWrite, WritesFront}
+use Rattle.tg_driver.specs.laws.Safe.{LeavesUnread, IsFileUnread, IsImageOf, IsOutput, HasToWrite, WritesPrefix}
 use Rattle.tg_driver.specs.laws.Safe.{IsCausedEnd, IsCaused, IsExit, SomeFailed, IsSafe}
 use Rattle.tg_driver.proofs.AnswerLemmas.{left_alone, stays_in_gen}
 use Rattle.tg_driver.proofs.Watched.{due_more}
@@ -412,7 +412,7 @@ module _ {H I O E : Type 0} (c : Call H I O E) (answer : Answer) where
       let it = unread_in c.rule a.mode c.shelf c.streams a (subst P e h) in
       record { asked = a; ask = ask; reads = it.reads; unread = it.unread }
 
-  front_due : IsDue c.rule (λ _. HasRun c.streams) c.words c.shelf c.streams answer → HasStarted answer → WritesFront c
+  front_due : IsDue c.rule (λ _. HasRun c.streams) c.words c.shelf c.streams answer → HasStarted answer → WritesPrefix c
   front_due (usage is fault same u) started = absurd (subst HasStarted is started)
   front_due (no_memory is kept u) started = absurd (subst HasStarted is started)
   front_due (asked a ask h) started =

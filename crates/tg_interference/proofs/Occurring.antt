@@ -93,9 +93,9 @@ room_for x list i one l short =
     omega (arith, part, whole)
 
 -- the facts of a node by the counts
-pub mark_same : (all : List Instr) (temps originals : ℕ) (counts : List ℕ) (n : ℕ) → AreCounts all temps counts →
+pub facts_same : (all : List Instr) (temps originals : ℕ) (counts : List ℕ) (n : ℕ) → AreCounts all temps counts →
     n < 25 + temps → facts_by (slice_index counts) originals n ≡ facts_of all originals n
-mark_same all temps originals counts n c l = ⊎_elim low high (cases_lt n 25)
+facts_same all temps originals counts n c l = ⊎_elim low high (cases_lt n 25)
   where
     low : n < 25 → facts_by (slice_index counts) originals n ≡ facts_of all originals n
     low m =

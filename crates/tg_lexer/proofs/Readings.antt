@@ -17,7 +17,7 @@ use Rattle.tg_syntax.specs.Spellings.{sign, digits, quoted}
 use Rattle.tg_syntax.specs.Lexing.{OpensComment, Closes, IsLongest}
 use Rattle.tg_syntax.specs.LexicalFaults.{FaultAt, illegal_byte, comment_not_closed, large_int}
 use Rattle.tg_syntax.proofs.Longest.{begins, is_mark, form_of_mark, name_longest, digits_longest}
-use Rattle.tg_lexer.specs.glue.Lexemes.{IsStretch, NeverCloses, IsSignFront, IsString, IsGap, blank, comment, IsToken, BeginsWith, BeginsQuote, BeginsOther}
+use Rattle.tg_lexer.specs.glue.Lexemes.{IsStretch, NeverCloses, IsSignPrefix, IsString, IsGap, blank, comment, IsToken, BeginsWith, BeginsQuote, BeginsOther}
 use Rattle.tg_lexer.specs.glue.Lexemes.{is_other}
 use Rattle.tg_lexer.proofs.Basics.{head_is, tail_is, apart, clash}
 use Rattle.tg_lexer.proofs.Closings.{two_bytes}
@@ -139,7 +139,7 @@ string_token n text meant size h s =
     }
 
 -- signs
-pub sign_token : (n : List (List ℕ)) (text : List ℕ) (s : Sign) (size : ℕ) → BeginsOther text → IsSignFront text s size → IsToken n text (token.Sign s) size
+pub sign_token : (n : List (List ℕ)) (text : List ℕ) (s : Sign) (size : ℕ) → BeginsOther text → IsSignPrefix text s size → IsToken n text (token.Sign s) size
 sign_token n text s size h f =
     record {
       bytes = sign_text s;

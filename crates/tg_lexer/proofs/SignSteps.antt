@@ -6,7 +6,7 @@ use Rattle.tg_syntax.specs.declared.tokens.Sign.TheVariants.{Comma, Colon, Less,
 use Rattle.tg_syntax.specs.Spellings.{sign_text}
 use Rattle.tg_syntax.specs.Lexing.{IsLongest}
 use Rattle.tg_syntax.proofs.Longest.{begins, is_mark, form_of_mark}
-use Rattle.tg_lexer.specs.glue.Lexemes.{IsSign, IsSignFront}
+use Rattle.tg_lexer.specs.glue.Lexemes.{IsSign, IsSignPrefix}
 use Rattle.tg_lexer.proofs.Basics.{head_is, not_cons, clash}
 use Rattle.tg_lexer.proofs.EscapeSteps.{first_byte, two_first, alone}
 
@@ -60,7 +60,7 @@ ends_pair text a b f g none =
           none s (ap (λ x. a ∷ x ∷ []) same ∙ k);
     }
 
-pub one_sign : (text : List ℕ) (a : ℕ) (s : Sign) → Some a ≡ slice_get text 0 → a ∷ [] ≡ sign_text s → Ends text a → IsSignFront text s 1
+pub one_sign : (text : List ℕ) (a : ℕ) (s : Sign) → Some a ≡ slice_get text 0 → a ∷ [] ≡ sign_text s → Ends text a → IsSignPrefix text s 1
 one_sign text a s f e h =
     record {
       whole = first_byte text a (sym f) ∙ ap (λ l. l ++ drop 1 text) e;
@@ -78,7 +78,7 @@ one_sign text a s f e h =
         let k = form_of_mark form a (b ∷ c ∷ more) refl mark in
         clash (ap is_short k.1) (sign_short k.0)
 
-pub two_sign : (text : List ℕ) (a b : ℕ) (s : Sign) → Some a ≡ slice_get text 0 → Some b ≡ slice_get text 1 → a ∷ b ∷ [] ≡ sign_text s → IsSignFront text s 2
+pub two_sign : (text : List ℕ) (a b : ℕ) (s : Sign) → Some a ≡ slice_get text 0 → Some b ≡ slice_get text 1 → a ∷ b ∷ [] ≡ sign_text s → IsSignPrefix text s 2
 two_sign text a b s f g e =
     record {
       whole = two_first text a b (sym f) g ∙ ap (λ l. l ++ drop 2 text) e;

@@ -87,7 +87,7 @@ HasToWrite rule told Format asked text written = Formats text written
 
 -- The output took a prefix of what the mode has to write, of the prefix of its file that it reads,
 -- or of what `gen` generates.
-pub record WritesFront {H I O E : Type 0} (c : Call H I O E) : Type 0 where
+pub record WritesPrefix {H I O E : Type 0} (c : Call H I O E) : Type 0 where
   pub asked : Asked
   pub ask : Ask c.words asked
   pub text : List ℕ
@@ -137,7 +137,7 @@ pub record IsSafe {H I O E : Type 0} (c : Call H I O E)
   pub refused : IsBeforeStart answer → Untouched c.streams
   pub unread : (asked : Asked) → Ask c.words asked → LeavesUnread c asked
   pub unreadable : answer ≡ Unreadable → IsFileUnread c
-  pub front : HasStarted answer → WritesFront c
+  pub front : HasStarted answer → WritesPrefix c
   pub caused : IsCaused c.streams answer
   pub told : IsTold c.err reports answer status
   pub failed : status ≡ 74 → IsExit answer ⊎ SomeFailed c

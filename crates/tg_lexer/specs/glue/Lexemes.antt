@@ -53,13 +53,13 @@ IsSign bytes (Some s) = bytes ≡ sign_text s
 IsSign bytes None = (s : Sign) → bytes ≢ sign_text s
 
 -- the longest sign with which the text begins
-pub record IsSignFront (text : List ℕ) (s : Sign) (size : ℕ) : Type 0 where
+pub record IsSignPrefix (text : List ℕ) (s : Sign) (size : ℕ) : Type 0 where
   pub whole : text ≡ sign_text s ++ drop size text
   pub size_is : size ≡ length (sign_text s)
   pub longest : IsLongest (sign_text s) (drop size text)
 
 abbrev pub FoundSign : List ℕ → Option (Sign × ℕ) → Type 0
-FoundSign text (Some (s, size)) = IsSignFront text s size
+FoundSign text (Some (s, size)) = IsSignPrefix text s size
 FoundSign text None =
     (b : ℕ) (rest : List ℕ) → text ≡ b ∷ rest → (s : Sign) (more : List ℕ) → sign_text s ≢ b ∷ more
 
