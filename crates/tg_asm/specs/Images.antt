@@ -10,7 +10,7 @@ use Rattle.tg_asm.specs.declared.making.Made.{Made}
 abbrev pub made_of : Made → assembly.Made
 made_of m = record { segment = m.segment; code = m.code.items; statics = m.statics.items }
 
--- A call gives what the lines make by the definition, or its fault; or memory was wanting.
+-- A call gives what the lines make by the definition, or its fault; or it is out of memory.
 abbrev pub GivesMade : Result assembly.Made assembly.Fault → Result Made (Faulty AsmRule ℕ) → Type 0
 GivesMade meant (Ok m) = meant ≡ Ok (made_of m)
 GivesMade meant (Err (fault.Bad rule line)) = meant ≡ Err (record { rule = rule; line = line })
@@ -19,7 +19,7 @@ GivesMade meant (Err fault.Memory) = ⊤
 abbrev pub image_of : Image → assembly.Assembled
 image_of i = record { code = i.code; statics = i.statics; entry = i.entry }
 
--- A call gives the image of the definition, or its first fault; or memory was wanting.
+-- A call gives the image of the definition, or its first fault; or it is out of memory.
 abbrev pub GivesImage : Result assembly.Assembled assembly.Fault →
     Result Image (Faulty AsmRule ℕ) → Type 0
 GivesImage meant (Ok i) = meant ≡ Ok (image_of i)

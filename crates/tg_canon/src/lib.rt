@@ -1,4 +1,4 @@
-//! Canonical trees (Appel, chapter 8): lifts statements and calls out of expressions.
+//! Canonical trees (Appel, chapter 8): hoists statements and calls out of expressions.
 //!
 //! Services are hoisted like calls. What the pass makes of a body is defined in
 //! `specs/mirror/Canon.antt`, a function on plain trees; each step of the code is proved to do what

@@ -1,4 +1,4 @@
--- Programs that are translated and then folded. Each is run with the runtime, before and behind the pass, by the meaning of
+-- Programs that are translated and then folded. Each is run with the runtime, before and after the pass, by the meaning of
 -- trees itself. Above each stands its text, but for those of ExampleTrees. An identifier is its byte, and each use has the
 -- byte of what it means.
 use Rattle.std.proofs.Common.{◌≡◌, ℕ, ◌-◌, ◌++◌, List, [], ◌∷◌, Bool, true, refl}
@@ -23,7 +23,7 @@ use Rattle.tg_fold.specs.laws.Meaning.{folded_code}
 abbrev say : Exp → Exp
 say e = call 30 (e ∷ [])
 
--- a function that is no larger behind the pass, in length and room
+-- a function that is no larger after the pass, in length and needs
 abbrev is_no_larger : Function Ts → Bool
 is_no_larger one =
     nat_le (tree_length (folded_function one)) (tree_length one) && nat_le (tree_needs (folded_function one)) (tree_needs one)

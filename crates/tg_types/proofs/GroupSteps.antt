@@ -507,7 +507,7 @@ pub shape_is : (at : ℕ) (shape : Shape) (old : Noted) {shapes : List (ℕ × S
 unfolding add_shape
 shape_is at shape old e = ap (λ (x : List (ℕ × Shape)). fine tt (record old { shapes = x })) (sym e)
 
--- behind the last check, the scope is given
+-- after the last check, the scope is given
 pub scope_after : (r : Result (Unit {0}) (Faulty TypeRule ℕ)) (names : List (List ℕ)) (in_loop : Bool) (mid new : CheckingState) (inner : Scope)
     (m : Check (Unit {0}))
     (n : Noted) → inner ≡ scope_of names mid in_loop → OnOk r (Keeps mid new) → AnswersCheck r (λ _. tt) (noted_of new) (m n) →

@@ -38,7 +38,7 @@ pub given : {A : Type 0} {a : A} {n : Noted} → give a n ≡ fine a n
 unfolding give
 given = refl
 
--- a fault here, or behind what went well
+-- a fault here, or after what went well
 pub fails_first : {A : Type 0} {B : Type 0} (m : Check A) (next : A → Check B) {n : Noted} {e : Faulty TypeRule ℕ} → Fails e (m n) → Fails e ((m >>= next) n)
 unfolding ◌>>=◌
 fails_first _ next (bad d) = bad (ap (λ x. on_fine x next) d)

@@ -313,7 +313,7 @@ unfolding give
 bodies_all {now = now} {fs = fs} {ss = ss} {k = k} a e scope h =
     a.onward scope h ∙ ap (λ x. bodies (functions_of x) (drop k ss) scope (noted_of now)) (none_left fs k e)
 
--- a check goes on behind an answer
+-- a check goes on after an answer
 pub leads_carry : {X A : Type 0} (r : Result X (Faulty TypeRule ℕ)) (scope : Scope) (after : Noted) (onward : Scope → Noted →
     CheckResult A) {c c' : CheckResult A} → c ≡ c' →
     Leads r scope after onward c' → Leads r scope after onward c

@@ -99,7 +99,7 @@ pub record IsLaidOut (meant : Result assembly.Layout assembly.Fault) (l : assemb
   pub same : meant ≡ Ok laid
   pub alike : IsAlike laid l
 
--- A call gives a layout alike that of the definition, or its fault; or memory was wanting.
+-- A call gives a layout alike that of the definition, or its fault; or it is out of memory.
 abbrev pub GivesLayout : Result assembly.Layout assembly.Fault →
     Result Layout (Faulty AsmRule ℕ) → Type 0
 GivesLayout meant (Ok l) = IsLaidOut meant (layout_of l)

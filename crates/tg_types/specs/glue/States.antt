@@ -32,7 +32,7 @@ abbrev pub AnswersCheck : {X A : Type 0} → Result X (Faulty TypeRule ℕ) → 
 AnswersCheck (Ok x) value after c = c ≡ fine (value x) after
 AnswersCheck (Err e) value after c = Fails e c
 
--- an answer is that a check goes on behind a scope, or its fault
+-- an answer is that a check goes on after a scope, or its fault
 abbrev pub Leads : {X A : Type 0} → Result X (Faulty TypeRule ℕ) → Scope → (after : Noted) →
     (Scope → Noted → CheckResult A) → CheckResult A → Type 0
 Leads (Ok x) scope after onward c = c ≡ onward scope after
