@@ -1,13 +1,13 @@
 -- Products of ints: their upper word tells whether there is an exact one.
-use Rattle.std.proofs.Common.{◌≡◌, ◌≢◌, ℕ, ◌+◌, ◌*◌, ◌%◌, ◌^◌, ◌<◌, ◌≤◌, ◌==◌, List, Option, Some, None, Bool, true, false, refl, sym, ap, ◌∙◌, arith, subst, ℤ, pos, negsuc, ◌*ℤ◌, unsigned_abs, eqb-true, mul-le-mul, w32, w64}
+use Rattle.std.proofs.Common.{◌≡◌, ◌≢◌, ℕ, ◌+◌, ◌*◌, ◌%◌, ◌^◌, ◌<◌, ◌≤◌, ◌==◌, List, Option, Some, None, Bool, true, false, refl, sym, ap, ◌∙◌, arith, subst, ℤ, pos, negsuc, ◌*ℤ◌, unsigned_abs, eqb-true, w32, w64}
 use Rattle.std.specs.Prelude.{if◌then◌else◌, ◌||◌, not}
 use Rattle.std.specs.Int.{cast_unsigned, int_wrap}
-use Rattle.std.proofs.lemmas.Int.{ints, unsigned_abs-mul, wrapping_mul-bits, of_z-to_z}
+use Rattle.std.proofs.lemmas.Int.{ints, wrapping_mul-bits, of_z-to_z}
 use Rattle.std.proofs.lemmas.Grind.{common_steps}
 use Rattle.std.proofs.lemmas.Bool.{eqb-false, ne_eqb}
 use Rattle.tg_base.specs.declared.ids.Span.{Span}
 use Rattle.tg_base.specs.Words.{signed, exact_product, mul, product_low, product_high, shift_signed}
-use Rattle.tg_base.proofs.ProductLaws.{product_of as exact_by_sign}
+use Rattle.tg_base.proofs.ProductLaws.{abs_product, product_of as exact_by_sign}
 use Rattle.tg_syntax.specs.declared.trees.Op.TheVariants as op
 use Rattle.tg_syntax.specs.Tree.{Exp, Binary}
 use Rattle.tg_simulation.specs.Runs.{Run}
@@ -55,14 +55,6 @@ low_word : (z : ℤ) → unsigned_abs z < 2 ^ 63 → cast_unsigned w32 (int_wrap
 unfolding int_wrap
 low_word (pos n) h = grind (arith, common_steps, ints)
 low_word (negsuc n) h = let small : n < 2 ^ 63 = omega (arith, h) in grind (arith, common_steps, ints)
-
-abs_signed : (a : ℕ) → a < 2 ^ 32 → unsigned_abs (signed a) ≤ 2 ^ 31
-abs_signed a h = grind (arith, common_steps, ints)
-
-abs_product : (a b : ℕ) → a < 2 ^ 32 → b < 2 ^ 32 → unsigned_abs (signed a *ℤ signed b) < 2 ^ 63
-abs_product a b p q =
-    let m : unsigned_abs (signed a) * unsigned_abs (signed b) ≤ 2 ^ 31 * 2 ^ 31 = mul-le-mul (abs_signed a p) (abs_signed b q) in
-    rw (unsigned_abs-mul (signed a) (signed b)) (omega (arith, m))
 
 low_product : (a b : ℕ) → a < 2 ^ 32 → b < 2 ^ 32 → mul a b ≡ product_low a b
 low_product a b h k =
