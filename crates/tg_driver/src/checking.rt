@@ -8,11 +8,11 @@ ghost use Rattle.tg_driver.specs.glue.Found.{IsRefused};
 ghost use Rattle.tg_driver.specs.glue.Readings.{HasNamedTree, IsRefusalOf};
 
 use crate::answers::{Answer, unread};
-use crate::faults::{Fault, Rule};
+use crate::faults::{Fault, Refusal};
 use crate::reading::{LONGEST, NamedProgram, ill_typed, parse_source};
 use std::alloc::Global;
 use std::mem::forget;
-use tg_base::{Faulty, Shelf, place};
+use tg_base::{Shelf, place};
 use tg_command::Command;
 use tg_types::check;
 
@@ -55,15 +55,15 @@ fn check_program(alloc: Global, text: &[u8], source: &NamedProgram) -> Answer
 }
 
 /// The answer of a source that is refused.
-pub(crate) fn refused(text: &[u8], refusal: Faulty<Rule>) -> Answer
+pub(crate) fn refused(text: &[u8], refusal: Refusal) -> Answer
     requires { IsRefusalOf text.now refusal }
     ensures { IsRefused text.now result }
 {
     match refusal {
-        Faulty::Bad { rule, at } => Answer::Faulty(Fault {
+        Refusal::Bad { rule, at } => Answer::Faulty(Fault {
             rule,
             place: place(text, at),
         }),
-        Faulty::Memory => Answer::OutOfMemory,
+        Refusal::Memory => Answer::OutOfMemory,
     }
 }

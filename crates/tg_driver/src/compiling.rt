@@ -4,10 +4,10 @@ ghost use Rattle.tg_compile_proof.specs.Builds.{CompilesTo};
 ghost use Rattle.tg_correct.specs.Sources.{IsSource};
 ghost use Rattle.tg_driver.specs.glue.Readings.{HasNamedTree, IsCompiled};
 
-use crate::faults::Rule;
+use crate::faults::Refusal;
 use crate::reading::{NamedProgram, ill_typed, parse_source};
 use std::alloc::Global;
-use tg_base::{Faulty, Memory};
+use tg_base::Memory;
 use tg_compile::{Compiled, compile_checked};
 use tg_irc::SpillPolicy;
 use tg_literal_bounds::literals_fit_text;
@@ -22,7 +22,7 @@ pub fn compile(
     alloc: Global,
     text: &[u8],
     policy: &mut dyn SpillPolicy,
-) -> Result<Compiled, Faulty<Rule>>
+) -> Result<Compiled, Refusal>
     ensures compiled { IsCompiled (rule policy.old) text.now result }
     ensures same { rule policy.new ≡ rule policy.old }
 {
@@ -44,8 +44,8 @@ pub(crate) fn compile_accepted(
 {
     match compile(alloc, text, policy) {
         Ok(compiled) => Ok(compiled),
-        Err(Faulty::Bad { rule: _, at: _ }) => unreachable!(),
-        Err(Faulty::Memory) => Err(Memory),
+        Err(Refusal::Bad { rule: _, at: _ }) => unreachable!(),
+        Err(Refusal::Memory) => Err(Memory),
     }
 }
 
@@ -54,7 +54,7 @@ fn compile_program(
     alloc: Global,
     source: &NamedProgram,
     policy: &mut dyn SpillPolicy,
-) -> Result<Compiled, Faulty<Rule>>
+) -> Result<Compiled, Refusal>
     requires { (text : List ℕ)
         × HasNamedTree text source.now.names (plain source.now.program.body) }
     ensures compiled { (text : List ℕ)

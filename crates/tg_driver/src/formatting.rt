@@ -7,12 +7,12 @@ ghost use Rattle.tg_driver.specs.glue.Readings.{IsUntypedRefusalOf};
 
 use crate::answers::{Answer, unread};
 use crate::checking::refused;
-use crate::faults::Rule;
+use crate::faults::Refusal;
 use crate::reading::{LONGEST, lex_source, parse_tokens};
 use crate::streams::Streams;
 use crate::writing::write_text;
 use std::alloc::Global;
-use tg_base::{Faulty, Shelf, Sink, Source};
+use tg_base::{Shelf, Sink, Source};
 use tg_command::Command;
 use tg_format::format;
 use tg_format_laws::lexed_are_writable;
@@ -69,19 +69,19 @@ fn format_source<O: Sink>(alloc: Global, text: &[u8], out: &mut O) -> Answer
 }
 
 /// The answer of a source that is refused, but for no fault of types.
-fn refused_untyped(text: &[u8], refusal: Faulty<Rule>) -> Answer
+fn refused_untyped(text: &[u8], refusal: Refusal) -> Answer
     requires { IsUntypedRefusalOf text.now refusal }
     ensures { IsRefusedUntyped text.now result }
 {
     match refusal {
-        Faulty::Memory => Answer::OutOfMemory,
+        Refusal::Memory => Answer::OutOfMemory,
         _ => refused(text, refusal),
     }
 }
 
 /// The canonical text of a source, or its first fault of lexemes or syntax. The tree is let go
 /// before anything is written.
-fn canonical_text(alloc: Global, text: &[u8]) -> Result<Vec<u8>, Faulty<Rule>>
+fn canonical_text(alloc: Global, text: &[u8]) -> Result<Vec<u8>, Refusal>
     ensures { MatchResult result (λ written. Formats text.now written.items)
         (λ why. IsUntypedRefusalOf text.now why) }
 {

@@ -11,9 +11,9 @@ ghost use Rattle.tg_driver.specs.glue.Readings.{
   IsUntypedRefusalOf,
 };
 
-use crate::faults::Rule;
+use crate::faults::{Refusal, Rule};
 use std::alloc::Global;
-use tg_base::{Faulty, Names};
+use tg_base::Names;
 use tg_lexer::{LexFault, lex};
 use tg_parser::{SyntaxFault, parse};
 use tg_syntax::{Program, Spanned};
@@ -39,7 +39,7 @@ pub(crate) struct NamedTokens {
 }
 
 /// The tree of a text, whose types aren't looked at, or its first fault of lexemes or syntax.
-pub(crate) fn parse_source(alloc: Global, text: &[u8]) -> Result<NamedProgram, Faulty<Rule>>
+pub(crate) fn parse_source(alloc: Global, text: &[u8]) -> Result<NamedProgram, Refusal>
     ensures { IsParsed text.now result }
 {
     let source = lex_source(alloc, text)?;
@@ -51,7 +51,7 @@ pub(crate) fn parse_source(alloc: Global, text: &[u8]) -> Result<NamedProgram, F
 }
 
 /// The tokens of a text, or its first fault of lexemes.
-pub(crate) fn lex_source(alloc: Global, text: &[u8]) -> Result<NamedTokens, Faulty<Rule>>
+pub(crate) fn lex_source(alloc: Global, text: &[u8]) -> Result<NamedTokens, Refusal>
     ensures { IsLexed text.now result }
 {
     let mut names = Names::new(alloc);
@@ -62,7 +62,7 @@ pub(crate) fn lex_source(alloc: Global, text: &[u8]) -> Result<NamedTokens, Faul
 }
 
 /// The tree of the tokens of a text, or its first fault of syntax.
-pub(crate) fn parse_tokens(alloc: Global, source: &NamedTokens) -> Result<Program, Faulty<Rule>>
+pub(crate) fn parse_tokens(alloc: Global, source: &NamedTokens) -> Result<Program, Refusal>
     requires { (text : List ℕ) × HasTokens text source.now.names source.now.tokens.items }
     ensures { (text : List ℕ) → HasTokens text source.now.names source.now.tokens.items
         → IsParsedFrom text source.now result }
@@ -74,40 +74,40 @@ pub(crate) fn parse_tokens(alloc: Global, source: &NamedTokens) -> Result<Progra
 }
 
 /// The refusal of a text that has a lexical fault.
-fn lexical(fault: LexFault) -> Faulty<Rule>
+fn lexical(fault: LexFault) -> Refusal
     ensures { (text : List ℕ) → IsLexFaultOf text fault → IsUntypedRefusalOf text result }
 {
     match fault {
-        Faulty::Bad { rule, at } => Faulty::Bad {
+        LexFault::Bad { rule, at } => Refusal::Bad {
             rule: Rule::Lexical(rule),
             at,
         },
-        Faulty::Memory => Faulty::Memory,
+        LexFault::Memory => Refusal::Memory,
     }
 }
 
 /// The refusal of a text whose tokens have a fault of syntax.
-fn syntactic(fault: SyntaxFault) -> Faulty<Rule>
+fn syntactic(fault: SyntaxFault) -> Refusal
     ensures { (text : List ℕ) → IsSyntaxFaultOf text fault → IsUntypedRefusalOf text result }
 {
     match fault {
-        Faulty::Bad { rule, at } => Faulty::Bad {
+        SyntaxFault::Bad { rule, at } => Refusal::Bad {
             rule: Rule::Syntactic(rule),
             at,
         },
-        Faulty::Memory => Faulty::Memory,
+        SyntaxFault::Memory => Refusal::Memory,
     }
 }
 
 /// The refusal of a text whose tree has a fault of types.
-pub(crate) fn ill_typed(fault: TypeFault) -> Faulty<Rule>
+pub(crate) fn ill_typed(fault: TypeFault) -> Refusal
     ensures { (text : List ℕ) → IsTypeFaultOf text fault → IsRefusalOf text result }
 {
     match fault {
-        Faulty::Bad { rule, at } => Faulty::Bad {
+        TypeFault::Bad { rule, at } => Refusal::Bad {
             rule: Rule::Typed(rule),
             at,
         },
-        Faulty::Memory => Faulty::Memory,
+        TypeFault::Memory => Refusal::Memory,
     }
 }
