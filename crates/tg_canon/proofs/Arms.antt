@@ -7,53 +7,54 @@ use Rattle.tg_tree.specs.Tree.{Either, Ts, Move, Store, StoreByte, Do, If, Loop,
 use Rattle.tg_canon.specs.mirror.Drawing.{Draws, give, ◌>>=◌, DrawsFrom}
 use Rattle.tg_canon.specs.mirror.Canon.{Part, still, assigning, ◌before◌, loop_of, block, Parts, in_turn, Hoisted, Two, Arguments, whole, behind, is_effect}
 use Rattle.tg_canon.specs.mirror.Canon.{hold_effect, word, side_by_side, over, over_two, over_all, with_one, with_two, dropped, is_whole, Tested, compared}
-use Rattle.tg_canon.specs.mirror.Canon.{opposite, joined, choice, exit_where, wide_choice, deeper, inside, choose, lift, lift_all, condition, leave, linear}
+use Rattle.tg_canon.specs.mirror.Canon.{opposite, joined, choice, exit_where, wide_choice, deeper, inside, choose, hoist, hoist_all, condition, leave, linear}
 use Rattle.tg_canon.specs.mirror.Canon.{linear_all, operands}
 use Rattle.tg_canon.proofs.Steps.{given, on, ends, same}
 
 -- expressions
-pub constant_lifts : (out : ℕ → ℕ) (n : ℕ) {k : ℕ} {r : Hoisted} → r ≡ whole (Const n) → DrawsFrom (lift out (Const n)) k r k
-constant_lifts out n e = same (given _ _) e
+pub constant_hoists : (out : ℕ → ℕ) (n : ℕ) {k : ℕ} {r : Hoisted} → r ≡ whole (Const n) → DrawsFrom (hoist out (Const n)) k r k
+constant_hoists out n e = same (given _ _) e
 
-pub address_lifts : (out : ℕ → ℕ) (n : ℕ) {k : ℕ} {r : Hoisted} → r ≡ whole (Address n) → DrawsFrom (lift out (Address n)) k r k
-address_lifts out n e = same (given _ _) e
+pub address_hoists : (out : ℕ → ℕ) (n : ℕ) {k : ℕ} {r : Hoisted} → r ≡ whole (Address n) → DrawsFrom (hoist out (Address n)) k r k
+address_hoists out n e = same (given _ _) e
 
-pub temporary_lifts : (out : ℕ → ℕ) (n : ℕ) {k : ℕ} {r : Hoisted} → r ≡ whole (Temp n) → DrawsFrom (lift out (Temp n)) k r k
-temporary_lifts out n e = same (given _ _) e
+pub temporary_hoists : (out : ℕ → ℕ) (n : ℕ) {k : ℕ} {r : Hoisted} → r ≡ whole (Temp n) → DrawsFrom (hoist out (Temp n)) k r k
+temporary_hoists out n e = same (given _ _) e
 
-pub frame_lifts : (out : ℕ → ℕ) {k : ℕ} {r : Hoisted} → r ≡ whole FrameAddress → DrawsFrom (lift out FrameAddress) k r k
-frame_lifts out e = same (given _ _) e
+pub frame_hoists : (out : ℕ → ℕ) {k : ℕ} {r : Hoisted} → r ≡ whole FrameAddress → DrawsFrom (hoist out FrameAddress) k r k
+frame_hoists out e = same (given _ _) e
 
-pub binary_lifts : (out : ℕ → ℕ) (op : Bin) (x y : Tx) {k l : ℕ} {both : Two} {r : Hoisted} → DrawsFrom (operands out x y) k both l →
-    r ≡ over_two (Binary op) both → DrawsFrom (lift out (Binary op x y)) k r l
-binary_lifts out op x y g e = ends (over_two (Binary op)) g e
+pub binary_hoists : (out : ℕ → ℕ) (op : Bin) (x y : Tx) {k l : ℕ} {both : Two} {r : Hoisted} → DrawsFrom (operands out x y) k both l →
+    r ≡ over_two (Binary op) both → DrawsFrom (hoist out (Binary op x y)) k r l
+binary_hoists out op x y g e = ends (over_two (Binary op)) g e
 
-pub load_lifts : (out : ℕ → ℕ) (x : Tx) {k l : ℕ} {a r : Hoisted} → DrawsFrom (word (lift out x)) k a l → r ≡ over Load a → DrawsFrom (lift out (Load x)) k r l
-load_lifts out x g e = ends (over Load) g e
+pub load_hoists : (out : ℕ → ℕ) (x : Tx) {k l : ℕ} {a r : Hoisted} → DrawsFrom (word (hoist out x)) k a l → r ≡ over Load a →
+    DrawsFrom (hoist out (Load x)) k r l
+load_hoists out x g e = ends (over Load) g e
 
-pub byte_lifts : (out : ℕ → ℕ) (x : Tx) {k l : ℕ} {a r : Hoisted} → DrawsFrom (word (lift out x)) k a l → r ≡ over LoadByte a →
-    DrawsFrom (lift out (LoadByte x)) k r l
-byte_lifts out x g e = ends (over LoadByte) g e
+pub byte_hoists : (out : ℕ → ℕ) (x : Tx) {k l : ℕ} {a r : Hoisted} → DrawsFrom (word (hoist out x)) k a l → r ≡ over LoadByte a →
+    DrawsFrom (hoist out (LoadByte x)) k r l
+byte_hoists out x g e = ends (over LoadByte) g e
 
-pub call_lifts : (out : ℕ → ℕ) (f : ℕ) (xs : Txs) {k l : ℕ} {all : Arguments} {r : Hoisted} → DrawsFrom (lift_all out xs) k all l →
-    r ≡ over_all (Call f) all → DrawsFrom (lift out (Call f xs)) k r l
-call_lifts out f xs g e = ends (over_all (Call f)) g e
+pub call_hoists : (out : ℕ → ℕ) (f : ℕ) (xs : Txs) {k l : ℕ} {all : Arguments} {r : Hoisted} → DrawsFrom (hoist_all out xs) k all l →
+    r ≡ over_all (Call f) all → DrawsFrom (hoist out (Call f xs)) k r l
+call_hoists out f xs g e = ends (over_all (Call f)) g e
 
-pub service_lifts : (out : ℕ → ℕ) (n : ℕ) (x : Tx) {k l : ℕ} {a r : Hoisted} → DrawsFrom (word (lift out x)) k a l →
-    r ≡ over (Service n) a → DrawsFrom (lift out (Service n x)) k r l
-service_lifts out n x g e = ends (over (Service n)) g e
+pub service_hoists : (out : ℕ → ℕ) (n : ℕ) (x : Tx) {k l : ℕ} {a r : Hoisted} → DrawsFrom (word (hoist out x)) k a l →
+    r ≡ over (Service n) a → DrawsFrom (hoist out (Service n x)) k r l
+service_hoists out n x g e = ends (over (Service n)) g e
 
-pub after_lifts : (out : ℕ → ℕ) (s : Ts) (x : Tx) {k l n : ℕ} {a r : Hoisted} {p : Part} → DrawsFrom (lift out x) k a l →
-    DrawsFrom (linear out s) l p n → r ≡ behind p a → DrawsFrom (lift out (After s x)) k r n
-after_lifts out s x {a = a} g h e = on (λ b. linear out s >>= λ p. give (behind p b)) g (ends (λ p. behind p a) h e)
+pub after_hoists : (out : ℕ → ℕ) (s : Ts) (x : Tx) {k l n : ℕ} {a r : Hoisted} {p : Part} → DrawsFrom (hoist out x) k a l →
+    DrawsFrom (linear out s) l p n → r ≡ behind p a → DrawsFrom (hoist out (After s x)) k r n
+after_hoists out s x {a = a} g h e = on (λ b. linear out s >>= λ p. give (behind p b)) g (ends (λ p. behind p a) h e)
 
-pub word_lifts : (out : ℕ → ℕ) (x : Tx) {k l n : ℕ} {a b : Hoisted} → DrawsFrom (lift out x) k a l →
-    DrawsFrom (hold_effect (is_effect a.rest) a) l b n → DrawsFrom (word (lift out x)) k b n
-word_lifts out x g h = on (λ a. hold_effect (is_effect a.rest) a) g h
+pub word_hoists : (out : ℕ → ℕ) (x : Tx) {k l n : ℕ} {a b : Hoisted} → DrawsFrom (hoist out x) k a l →
+    DrawsFrom (hold_effect (is_effect a.rest) a) l b n → DrawsFrom (word (hoist out x)) k b n
+word_hoists out x g h = on (λ a. hold_effect (is_effect a.rest) a) g h
 
-pub operands_lift : (out : ℕ → ℕ) (x y : Tx) {k l m n : ℕ} {a b : Hoisted} {both : Two} → DrawsFrom (word (lift out y)) k b l →
-    DrawsFrom (word (lift out x)) l a m → DrawsFrom (side_by_side a b) m both n → DrawsFrom (operands out x y) k both n
-operands_lift out x y {b = b} g h i = on (λ d. word (lift out x) >>= λ c. side_by_side c d) g (on (λ c. side_by_side c b) h i)
+pub operands_hoist : (out : ℕ → ℕ) (x y : Tx) {k l m n : ℕ} {a b : Hoisted} {both : Two} → DrawsFrom (word (hoist out y)) k b l →
+    DrawsFrom (word (hoist out x)) l a m → DrawsFrom (side_by_side a b) m both n → DrawsFrom (operands out x y) k both n
+operands_hoist out x y {b = b} g h i = on (λ d. word (hoist out x) >>= λ c. side_by_side c d) g (on (λ c. side_by_side c b) h i)
 
 -- conditions that stay whole
 pub compare_tests : (out : ℕ → ℕ) (rel : Rel) (x y : Tx) {k l : ℕ} {both : Two} {t : Tested} → DrawsFrom (operands out x y) k both l →
@@ -102,7 +103,7 @@ either_fails out n c d {k = k} {q = q} u g h e f =
     (ends (λ x. block (x before q)) h (f ∙ ap block e))
 
 -- statements
-pub move_goes : (out : ℕ → ℕ) (i : ℕ) (x : Tx) {k l : ℕ} {a : Hoisted} {p : Part} → DrawsFrom (lift out x) k a l →
+pub move_goes : (out : ℕ → ℕ) (i : ℕ) (x : Tx) {k l : ℕ} {a : Hoisted} {p : Part} → DrawsFrom (hoist out x) k a l →
     p ≡ with_one (λ v. assigning i (Move i v)) a → DrawsFrom (linear out (Move i x)) k p l
 move_goes out i x g e = ends (with_one (λ v. assigning i (Move i v))) g e
 
@@ -114,7 +115,7 @@ pub store_byte_goes : (out : ℕ → ℕ) (x y : Tx) {k l : ℕ} {both : Two} {p
     p ≡ with_two StoreByte both → DrawsFrom (linear out (StoreByte x y)) k p l
 store_byte_goes out x y g e = ends (with_two StoreByte) g e
 
-pub do_goes : (out : ℕ → ℕ) (x : Tx) {k l : ℕ} {a : Hoisted} {p : Part} → DrawsFrom (lift out x) k a l → p ≡ with_one dropped a →
+pub do_goes : (out : ℕ → ℕ) (x : Tx) {k l : ℕ} {a : Hoisted} {p : Part} → DrawsFrom (hoist out x) k a l → p ≡ with_one dropped a →
     DrawsFrom (linear out (Do x)) k p l
 do_goes out x g e = ends (with_one dropped) g e
 
@@ -153,6 +154,6 @@ pub sequence_goes : (out : ℕ → ℕ) (ss : Stms) {k l : ℕ} {all : Parts} {p
     p ≡ in_turn all → DrawsFrom (linear out (Seq ss)) k p l
 sequence_goes out ss g e = ends in_turn g e
 
-pub return_goes : (out : ℕ → ℕ) (x : Tx) {k l : ℕ} {a : Hoisted} {p : Part} → DrawsFrom (word (lift out x)) k a l →
+pub return_goes : (out : ℕ → ℕ) (x : Tx) {k l : ℕ} {a : Hoisted} {p : Part} → DrawsFrom (word (hoist out x)) k a l →
     p ≡ with_one (λ v. still (Return v)) a → DrawsFrom (linear out (Return x)) k p l
 return_goes out x g e = ends (with_one (λ v. still (Return v))) g e

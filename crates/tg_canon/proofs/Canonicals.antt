@@ -8,8 +8,8 @@ use Rattle.tg_canon.specs.mirror.Drawing.{Draws, give, ◌>>=◌}
 use Rattle.tg_canon.specs.mirror.Canon.{Part, still, nothing, is_nothing, first_then, ◌before◌, loop_of, block, Parts, in_front, in_turn, Hoisted, Two}
 use Rattle.tg_canon.specs.mirror.Canon.{Arguments, behind, hold, is_effect, hold_effect, word, commutes, hold_unless, hold_but_offset, hold_for, hold_before}
 use Rattle.tg_canon.specs.mirror.Canon.{in_front_of, side_by_side, argument, over, over_two, over_all, with_one, with_two, assigning, acts, dropped}
-use Rattle.tg_canon.specs.mirror.Canon.{is_whole, Tested, compared, opposite, joined, choice, exit_where, wide_choice, deeper, inside, choose, lift}
-use Rattle.tg_canon.specs.mirror.Canon.{lift_all, condition, leave, linear, linear_all, statements_of, linearized}
+use Rattle.tg_canon.specs.mirror.Canon.{is_whole, Tested, compared, opposite, joined, choice, exit_where, wide_choice, deeper, inside, choose, hoist}
+use Rattle.tg_canon.specs.mirror.Canon.{hoist_all, condition, leave, linear, linear_all, statements_of, linearized}
 use Rattle.tg_canon.proofs.Always.{one_of_two, Always, give_is, next, made}
 use Rattle.tg_canon.proofs.Sides.{flat_or_effect, flat_without_effect}
 
@@ -163,29 +163,29 @@ in_front_is : (p : Part) (all : Parts) → PartIs p → PartsAre all → PartsAr
 in_front_is p all h l = record { canonical = one_of_two AreCanonical (is_nothing p.statement) l.canonical (h.canonical, l.canonical) }
 
 mutual
-  lift_is : (out : ℕ → ℕ) (x : Tx) → Always SideIs (lift out x)
-  lift_is out (Const n) = give_is (record { canonical = tt; flat = tt })
-  lift_is out (Address n) = give_is (record { canonical = tt; flat = tt })
-  lift_is out (Temp n) = give_is (record { canonical = tt; flat = tt })
-  lift_is out FrameAddress = give_is (record { canonical = tt; flat = tt })
-  lift_is out (Binary op x y) = two_of_words (lift out x) (lift out y) (over_two (Binary op)) (lift_is out x) (lift_is out y)
+  hoist_is : (out : ℕ → ℕ) (x : Tx) → Always SideIs (hoist out x)
+  hoist_is out (Const n) = give_is (record { canonical = tt; flat = tt })
+  hoist_is out (Address n) = give_is (record { canonical = tt; flat = tt })
+  hoist_is out (Temp n) = give_is (record { canonical = tt; flat = tt })
+  hoist_is out FrameAddress = give_is (record { canonical = tt; flat = tt })
+  hoist_is out (Binary op x y) = two_of_words (hoist out x) (hoist out y) (over_two (Binary op)) (hoist_is out x) (hoist_is out y)
       (λ a t. record { canonical = t.canonical; flat = (t.left, t.right) })
-  lift_is out (Load x) = one_of_word (lift out x) (over Load) (lift_is out x) (λ a w. record { canonical = w.canonical; flat = w.flat })
-  lift_is out (LoadByte x) = one_of_word (lift out x) (over LoadByte) (lift_is out x) (λ a w. record { canonical = w.canonical; flat = w.flat })
-  lift_is out (Call f xs) = made (lift_all out xs) (over_all (Call f)) (lift_all_is out xs) (λ a w. record { canonical = w.canonical; flat = w.flat })
-  lift_is out (Service n x) = one_of_word (lift out x) (over (Service n)) (lift_is out x) (λ a w. record { canonical = w.canonical; flat = w.flat })
-  lift_is out (After s x) = next (lift out x) (λ a. linear out s >>= (λ p. give (behind p a))) (lift_is out x)
+  hoist_is out (Load x) = one_of_word (hoist out x) (over Load) (hoist_is out x) (λ a w. record { canonical = w.canonical; flat = w.flat })
+  hoist_is out (LoadByte x) = one_of_word (hoist out x) (over LoadByte) (hoist_is out x) (λ a w. record { canonical = w.canonical; flat = w.flat })
+  hoist_is out (Call f xs) = made (hoist_all out xs) (over_all (Call f)) (hoist_all_is out xs) (λ a w. record { canonical = w.canonical; flat = w.flat })
+  hoist_is out (Service n x) = one_of_word (hoist out x) (over (Service n)) (hoist_is out x) (λ a w. record { canonical = w.canonical; flat = w.flat })
+  hoist_is out (After s x) = next (hoist out x) (λ a. linear out s >>= (λ p. give (behind p a))) (hoist_is out x)
       (λ a w. made (linear out s) (λ p. behind p a) (linear_is out s)
       (λ p h. record { canonical = first_then_canonical p.statement a.front.statement h.canonical w.canonical; flat = w.flat }))
 
-  lift_all_is : (out : ℕ → ℕ) (xs : Txs) → Always ArgumentsAre (lift_all out xs)
-  lift_all_is out no_txs = give_is (record { canonical = tt; flat = tt })
-  lift_all_is out (tx x xs) = next (lift_all out xs) (λ all. word (lift out x) >>= (λ a. argument a all)) (lift_all_is out xs)
-      (λ all h. next (word (lift out x)) (λ a. argument a all) (word_is (lift out x) (lift_is out x)) (λ a w. argument_is a all w h))
+  hoist_all_is : (out : ℕ → ℕ) (xs : Txs) → Always ArgumentsAre (hoist_all out xs)
+  hoist_all_is out no_txs = give_is (record { canonical = tt; flat = tt })
+  hoist_all_is out (tx x xs) = next (hoist_all out xs) (λ all. word (hoist out x) >>= (λ a. argument a all)) (hoist_all_is out xs)
+      (λ all h. next (word (hoist out x)) (λ a. argument a all) (word_is (hoist out x) (hoist_is out x)) (λ a w. argument_is a all w h))
 
   condition_is : (out : ℕ → ℕ) (c : Cond) → Always TestedIs (condition out c)
-  condition_is out (Compare rel x y) = two_of_words (lift out x) (lift out y) (compared (Compare rel)) (lift_is out x)
-      (lift_is out y) (λ a t. record { canonical = t.canonical; flat = (t.left, t.right) })
+  condition_is out (Compare rel x y) = two_of_words (hoist out x) (hoist out y) (compared (Compare rel)) (hoist_is out x)
+      (hoist_is out y) (λ a t. record { canonical = t.canonical; flat = (t.left, t.right) })
   condition_is out (Not c) = made (condition out c) opposite (condition_is out c) (λ t h. record { canonical = h.canonical; flat = h.flat })
   condition_is out (Both c d) = next (condition out d) (λ u. condition out c >>= (λ t. give (joined Both t u)))
       (condition_is out d) (λ u h. made (condition out c) (λ t. joined Both t u) (condition_is out c) (λ t l. both_are t u l h))
@@ -193,8 +193,8 @@ mutual
       (condition_is out d) (λ u h. made (condition out c) (λ t. joined Either t u) (condition_is out c) (λ t l. either_are t u l h))
 
   leave_is : (out : ℕ → ℕ) (w : Bool) (k : ℕ) (c : Cond) → Always PartIs (leave out w k c)
-  leave_is out w k (Compare rel x y) = two_of_words (lift out x) (lift out y) (λ ab. exit_where w k (compared (Compare rel) ab))
-      (lift_is out x) (lift_is out y) (λ a t. exit_canonical w k (compared (Compare rel) a) (record { canonical = t.canonical; flat = (t.left, t.right) }))
+  leave_is out w k (Compare rel x y) = two_of_words (hoist out x) (hoist out y) (λ ab. exit_where w k (compared (Compare rel) ab))
+      (hoist_is out x) (hoist_is out y) (λ a t. exit_canonical w k (compared (Compare rel) a) (record { canonical = t.canonical; flat = (t.left, t.right) }))
   leave_is out true k (Not c) = leave_is out false k c
   leave_is out false k (Not c) = leave_is out true k c
   leave_is out false k (Both c d) = tests_are (leave out false k c) (leave out false k d) (λ p. p) (leave_is out false k c) (leave_is out false k d) (λ p h. h)
@@ -205,13 +205,13 @@ mutual
       block (leave_is _ true 0 c) (leave_is _ false (k + 1) d) block_is
 
   linear_is : (out : ℕ → ℕ) (s : Ts) → Always PartIs (linear out s)
-  linear_is out (Move i x) = made (lift out x) (with_one (λ v. assigning i (Move i v))) (lift_is out x)
+  linear_is out (Move i x) = made (hoist out x) (with_one (λ v. assigning i (Move i v))) (hoist_is out x)
       (λ a w. record { canonical = first_then_canonical a.front.statement (Move i a.rest) w.canonical w.flat })
-  linear_is out (Store x y) = two_of_words (lift out x) (lift out y) (with_two Store) (lift_is out x) (lift_is out y)
+  linear_is out (Store x y) = two_of_words (hoist out x) (hoist out y) (with_two Store) (hoist_is out x) (hoist_is out y)
       (λ a t. record { canonical = first_then_canonical a.front.statement (Store a.left a.right) t.canonical (t.left, t.right) })
-  linear_is out (StoreByte x y) = two_of_words (lift out x) (lift out y) (with_two StoreByte) (lift_is out x) (lift_is out y)
+  linear_is out (StoreByte x y) = two_of_words (hoist out x) (hoist out y) (with_two StoreByte) (hoist_is out x) (hoist_is out y)
       (λ a t. record { canonical = first_then_canonical a.front.statement (StoreByte a.left a.right) t.canonical (t.left, t.right) })
-  linear_is out (Do x) = made (lift out x) (with_one dropped) (lift_is out x)
+  linear_is out (Do x) = made (hoist out x) (with_one dropped) (hoist_is out x)
       (λ a w. record { canonical = first_then_canonical a.front.statement (dropped a.rest).statement w.canonical (dropped_canonical a.rest w.flat) })
   linear_is out (If c s t) =
       choose_is (is_whole c) _ _
@@ -226,7 +226,7 @@ mutual
   linear_is out (Break k) = give_is (record { canonical = tt })
   linear_is out (Fault n) = give_is (record { canonical = tt })
   linear_is out (Seq ss) = made (linear_all out ss) in_turn (linear_all_is out ss) (λ all h. record { canonical = h.canonical })
-  linear_is out (Return x) = one_of_word (lift out x) (with_one (λ v. still (Return v))) (lift_is out x)
+  linear_is out (Return x) = one_of_word (hoist out x) (with_one (λ v. still (Return v))) (hoist_is out x)
       (λ a w. record { canonical = first_then_canonical a.front.statement (Return a.rest) w.canonical w.flat })
 
   linear_all_is : (out : ℕ → ℕ) (ss : Stms) → Always PartsAre (linear_all out ss)

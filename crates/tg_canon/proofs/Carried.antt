@@ -15,7 +15,7 @@ use Rattle.tg_tree.specs.Actions.{World, Temps, Around, Acts, Go, charged, with_
 use Rattle.tg_tree.proofs.NamesPassing.{TxPasses, TxsPass, CondPasses, TsPasses, StmsPass}
 use Rattle.tg_canon.specs.mirror.Drawing.{Draws, Drawn, give, ◌>>=◌}
 use Rattle.tg_canon.specs.mirror.Canon.{Part, still, nothing, is_nothing, first_then, ◌before◌, Parts, in_front, Hoisted, Arguments, no_arguments, whole}
-use Rattle.tg_canon.specs.mirror.Canon.{is_effect, word, in_front_of, acts, dropped, is_whole, choice, wide_choice, deeper, inside, choose, lift, lift_all}
+use Rattle.tg_canon.specs.mirror.Canon.{is_effect, word, in_front_of, acts, dropped, is_whole, choice, wide_choice, deeper, inside, choose, hoist, hoist_all}
 use Rattle.tg_canon.specs.mirror.Canon.{condition, leave, linear, linear_all}
 use Rattle.tg_canon.proofs.Naming.{IsBelow}
 use Rattle.tg_canon.proofs.Growing.{in_front_grows}
@@ -26,7 +26,7 @@ use Rattle.tg_canon.proofs.Steady.{Occurs}
 use Rattle.tg_canon.proofs.Splits.{outs_more, backs_more, IsSplit, IsDone, does_nothing}
 use Rattle.tg_canon.proofs.Sides.{flat_or_effect}
 use Rattle.tg_canon.proofs.Helds.{IsOwned, owned_both, owned_none, owned_one}
-use Rattle.tg_canon.proofs.Words.{spare, units_most, LiftIs, WordIs, word_is, PairIs, pair_is}
+use Rattle.tg_canon.proofs.Words.{spare, units_most, HoistIs, WordIs, word_is, PairIs, pair_is}
 use Rattle.tg_canon.proofs.Dones.{after_split, move_done, dropped_done, return_done, stores_done, choice_done, break_done, fault_done, AllDone}
 use Rattle.tg_canon.proofs.Dones.{none_done, more_done, sequence_done, GoesOn, loop_done}
 use Rattle.tg_canon.proofs.Tests.{TestIs, not_is, and_is, or_is, compare_is, JoinsPay, extra, extra_there, LeftIs, exit_left, chain_left, block_left}
@@ -73,7 +73,7 @@ module _ (z : Scene) (out : ℕ → ℕ) where
       ((e : Around) (go : Go ℕ) (w : World) (t t' : Temps) → ((i : ℕ) → i < z.own → t' i ≡ t i) → tree_value z x e go w t ≡ mixed_value z x e
       (λ v w1 t1. go v w1 t) w t') →
       expression_length Canonical x ≤ expression_length Trees x → expression_needs in_canonical x + 1 ≤ expression_needs in_trees x →
-      LiftIs z out x k (whole x) k
+      HoistIs z out x k (whole x) k
   leaf x k f s p reads same long large = record {
     split = record {
       runs = λ J r a o o' b b' go next kept outs backs hyp w t t' near.
@@ -151,11 +151,11 @@ module _ (z : Scene) (out : ℕ → ℕ) where
         grows = pairs.grows;
       }
 
-  binary_lift : (op : Bin) (x y : Tx) (first from : ℕ) (b h : Hoisted) (to : ℕ) → WordIs z out y first b from → from ≤ to →
+  binary_hoist : (op : Bin) (x y : Tx) (first from : ℕ) (b h : Hoisted) (to : ℕ) → WordIs z out y first b from → from ≤ to →
       PairIs z out x (tree_value z y) (mixed_value z b.rest) b.front (operator_units op y + hoisted_units Trees (is_flat y))
       (operator_units op b.rest + 0) first from h to →
-      LiftIs z out (Binary op x y) first (record { front = h.front before b.front; rest = Binary op h.rest b.rest }) to
-  binary_lift op x y first from b h to right le pairs = record {
+      HoistIs z out (Binary op x y) first (record { front = h.front before b.front; rest = Binary op h.rest b.rest }) to
+  binary_hoist op x y first from b h to right le pairs = record {
     split = record {
       runs = λ J r a o o' c c' go next kept outs backs hyp. pairs.split.runs J r a o o' c c'
           (λ q w1 t1. with_given (operate op q.0 q.1) w1 (λ v. go v w1 t1)) next kept outs backs hyp;
@@ -171,9 +171,9 @@ module _ (z : Scene) (out : ℕ → ℕ) where
     grows = pairs.grows;
   }
 
-  load_lift : (x : Tx) (from : ℕ) (a : Hoisted) (to : ℕ) → WordIs z out x from a to →
-      LiftIs z out (Load x) from (record { front = a.front; rest = Load a.rest }) to
-  load_lift x from a to h = record {
+  load_hoist : (x : Tx) (from : ℕ) (a : Hoisted) (to : ℕ) → WordIs z out x from a to →
+      HoistIs z out (Load x) from (record { front = a.front; rest = Load a.rest }) to
+  load_hoist x from a to h = record {
     split = under (tree_value z x) (mixed_value z a.rest) a.front from to 1 1 0 (λ u. read_memory (λ m. load m u)) (omega arith)
         (λ v e go w t t1. refl) h.split;
     side = h.flat;
@@ -187,9 +187,9 @@ module _ (z : Scene) (out : ℕ → ℕ) where
     grows = h.grows;
   }
 
-  load_byte_lift : (x : Tx) (from : ℕ) (a : Hoisted) (to : ℕ) → WordIs z out x from a to →
-      LiftIs z out (LoadByte x) from (record { front = a.front; rest = LoadByte a.rest }) to
-  load_byte_lift x from a to h = record {
+  load_byte_hoist : (x : Tx) (from : ℕ) (a : Hoisted) (to : ℕ) → WordIs z out x from a to →
+      HoistIs z out (LoadByte x) from (record { front = a.front; rest = LoadByte a.rest }) to
+  load_byte_hoist x from a to h = record {
     split = under (tree_value z x) (mixed_value z a.rest) a.front from to 1 1 0 (λ u. read_memory (λ m. load_byte m u)) (omega arith)
         (λ v e go w t t1. refl) h.split;
     side = h.flat;
@@ -203,9 +203,9 @@ module _ (z : Scene) (out : ℕ → ℕ) where
     grows = h.grows;
   }
 
-  service_lift : (n : ℕ) (x : Tx) (from : ℕ) (a : Hoisted) (to : ℕ) → WordIs z out x from a to →
-      LiftIs z out (Service n x) from (record { front = a.front; rest = Service n a.rest }) to
-  service_lift n x from a to h = record {
+  service_hoist : (n : ℕ) (x : Tx) (from : ℕ) (a : Hoisted) (to : ℕ) → WordIs z out x from a to →
+      HoistIs z out (Service n x) from (record { front = a.front; rest = Service n a.rest }) to
+  service_hoist n x from a to h = record {
     split = under (tree_value z x) (mixed_value z a.rest) a.front from to 7 5 2 (λ u. ask z.room n u) (omega arith) (λ v e go w t t1. refl) h.split;
     side = h.flat;
     none = λ f. cc;
@@ -218,9 +218,9 @@ module _ (z : Scene) (out : ℕ → ℕ) where
     grows = h.grows;
   }
 
-  call_lift : (label : ℕ) (xs : Txs) (from : ℕ) (a : Arguments) (to : ℕ) → ArgumentsAre xs from a to →
-      LiftIs z out (Call label xs) from (record { front = a.front; rest = Call label a.rest }) to
-  call_lift label xs from a to h = record {
+  call_hoist : (label : ℕ) (xs : Txs) (from : ℕ) (a : Arguments) (to : ℕ) → ArgumentsAre xs from a to →
+      HoistIs z out (Call label xs) from (record { front = a.front; rest = Call label a.rest }) to
+  call_hoist label xs from a to h = record {
     split = under (tree_values z xs) (mixed_values z a.rest) a.front from to 4 2 2
         (λ vs e go w t. z.enter label vs (e.activation.base - e.activation.size) (λ v w1. go v w1 t) w) (omega arith) (λ v e go w t t1. refl) h.split;
     side = h.flat;
@@ -234,9 +234,9 @@ module _ (z : Scene) (out : ℕ → ℕ) where
     grows = h.grows;
   }
 
-  after_lift : (s : Ts) (x : Tx) (first from : ℕ) (a : Hoisted) (p : Part) (to : ℕ) → LiftIs z out x first a from → PartIs s from p to →
-      LiftIs z out (After s x) first (record { front = p before a.front; rest = a.rest }) to
-  after_lift s x first from a p to h l = record {
+  after_hoist : (s : Ts) (x : Tx) (first from : ℕ) (a : Hoisted) (p : Part) (to : ℕ) → HoistIs z out x first a from → PartIs s from p to →
+      HoistIs z out (After s x) first (record { front = p before a.front; rest = a.rest }) to
+  after_hoist s x first from a p to h l = record {
     split = after_split z out s p (tree_value z x) (mixed_value z a.rest) (spare a.rest) a.front first from to h.split l.done h.grows l.grows;
     side = h.side;
     none = λ f. cc;
@@ -281,17 +281,17 @@ module _ (z : Scene) (out : ℕ → ℕ) where
 
 module _ (z : Scene) (pay : JoinsPay) (again : (out : ℕ → ℕ) (s : Ts) (k : ℕ) → TsPasses (IsBelow z.own) s → z.own ≤ k →
     GoesOn z out s (linear (inside out) s k).it k (linear (inside out) s k).next) where
-  abbrev LiftedAt : (out : ℕ → ℕ) → Tx → ℕ → Type 1
-  LiftedAt out x k = LiftIs z out x k (lift out x k).it (lift out x k).next
+  abbrev HoistedAt : (out : ℕ → ℕ) → Tx → ℕ → Type 1
+  HoistedAt out x k = HoistIs z out x k (hoist out x k).it (hoist out x k).next
 
   abbrev WordAt : (out : ℕ → ℕ) → Tx → ℕ → Type 1
-  WordAt out x k = WordIs z out x k (word (lift out x) k).it (word (lift out x) k).next
+  WordAt out x k = WordIs z out x k (word (hoist out x) k).it (word (hoist out x) k).next
 
-  word_at : (out : ℕ → ℕ) (x : Tx) (k : ℕ) → z.own ≤ k → LiftedAt out x k → WordAt out x k
-  word_at out x k le h = word_is z out x k (lift out x k).it (lift out x k).next le h
+  word_at : (out : ℕ → ℕ) (x : Tx) (k : ℕ) → z.own ≤ k → HoistedAt out x k → WordAt out x k
+  word_at out x k le h = word_is z out x k (hoist out x k).it (hoist out x k).next le h
 
   abbrev ArgumentsAt : (out : ℕ → ℕ) → Txs → ℕ → Type 1
-  ArgumentsAt out xs k = ArgumentsAre z out xs k (lift_all out xs k).it (lift_all out xs k).next
+  ArgumentsAt out xs k = ArgumentsAre z out xs k (hoist_all out xs k).it (hoist_all out xs k).next
 
   abbrev PartAt : (out : ℕ → ℕ) → Ts → ℕ → Type 1
   PartAt out s k = PartIs z out s k (linear out s k).it (linear out s k).next
@@ -306,12 +306,12 @@ module _ (z : Scene) (pay : JoinsPay) (again : (out : ℕ → ℕ) (s : Ts) (k :
   LeftAt out when n c k = LeftIs z out when n c k (leave out when n c k).it (leave out when n c k).next
 
   -- two words, side by side, where the second is drawn first
-  module _ (out : ℕ → ℕ) (x y : Tx) (k : ℕ) (le : z.own ≤ k) (ly : LiftedAt out y k) (lx : (j : ℕ) → z.own ≤ j → LiftedAt out x j) where
+  module _ (out : ℕ → ℕ) (x y : Tx) (k : ℕ) (le : z.own ≤ k) (ly : HoistedAt out y k) (lx : (j : ℕ) → z.own ≤ j → HoistedAt out x j) where
     abbrev second : Drawn Hoisted
-    second = word (lift out y) k
+    second = word (hoist out y) k
 
     abbrev first : Drawn Hoisted
-    first = word (lift out x) second.next
+    first = word (hoist out x) second.next
 
     abbrev beside : Drawn Hoisted
     beside = in_front_of second.it.front first.it first.next
@@ -333,11 +333,11 @@ module _ (z : Scene) (pay : JoinsPay) (again : (out : ℕ → ℕ) (s : Ts) (k :
         h.split h.owned le h.grows (λ e. f)
         (λ e. g (hoisted_counts (is_nothing second.it.front.statement) (is_flat y) h.none e))
 
-    binary_at : (op : Bin) → LiftedAt out (Binary op x y) k
+    binary_at : (op : Bin) → HoistedAt out (Binary op x y) k
     binary_at op =
         let h = second_is in
         let n = h.units op in
-        binary_lift z out op x y k second.next second.it beside.it beside.next h pairs_grow
+        binary_hoist z out op x y k second.next second.it beside.it beside.next h pairs_grow
         (pair_at (operator_units op y + hoisted_units Trees (is_flat y)) (operator_units op second.it.rest + 0) (omega arith) (λ e. omega arith))
 
     compare_at : (rel : Rel) → TestAt out (Compare rel x y) k
@@ -364,16 +364,16 @@ module _ (z : Scene) (pay : JoinsPay) (again : (out : ℕ → ℕ) (s : Ts) (k :
         (stores_done z out x y k second.next beside.it second.it beside.next (1 + hoisted_units Trees (is_flat y)) 1 stored_pair h.flat store_byte
         (StoreByte beside.it.rest second.it.rest) refl (λ e next w t. refl)) refl refl refl refl
 
-  call_at : (out : ℕ → ℕ) (label : ℕ) (xs : Txs) (k : ℕ) → ArgumentsAre z out xs k (lift_all out xs k).it (lift_all out xs k).next →
-      LiftedAt out (Call label xs) k
-  call_at out label xs k h = call_lift z out label xs k (lift_all out xs k).it (lift_all out xs k).next h
+  call_at : (out : ℕ → ℕ) (label : ℕ) (xs : Txs) (k : ℕ) → ArgumentsAre z out xs k (hoist_all out xs k).it (hoist_all out xs k).next →
+      HoistedAt out (Call label xs) k
+  call_at out label xs k h = call_hoist z out label xs k (hoist_all out xs k).it (hoist_all out xs k).next h
 
-  arguments_at : (out : ℕ → ℕ) (x : Tx) (xs : Txs) (k : ℕ) → z.own ≤ k → ArgumentsAt out xs k → ((j : ℕ) → z.own ≤ j → LiftedAt out x j) →
+  arguments_at : (out : ℕ → ℕ) (x : Tx) (xs : Txs) (k : ℕ) → z.own ≤ k → ArgumentsAt out xs k → ((j : ℕ) → z.own ≤ j → HoistedAt out x j) →
       ArgumentsAt out (tx x xs) k
   arguments_at out x xs k le rest lx =
-      let all = lift_all out xs k in
+      let all = hoist_all out xs k in
       let up : z.own ≤ all.next = (let g = rest.grows in omega arith) in
-      let a = word (lift out x) all.next in
+      let a = word (hoist out x) all.next in
       let hx = word_at out x all.next up (lx all.next up) in
       let d = in_front_of all.it.front a.it a.next in
       let pairs = pair_is z out x (tree_values z xs) (mixed_values z all.it.rest) all.it.front (argument_units Trees xs) 4
@@ -381,12 +381,12 @@ module _ (z : Scene) (pay : JoinsPay) (again : (out : ℕ → ℕ) (s : Ts) (k :
       (λ e. let n = hoisted_counts (is_nothing all.it.front.statement) (are_flat xs) rest.none e in omega arith) in
       more_arguments z out x xs k all.next all.it d.it d.next rest pairs
 
-  after_at : (out : ℕ → ℕ) (s : Ts) (x : Tx) (k : ℕ) → z.own ≤ k → LiftedAt out x k → ((j : ℕ) → z.own ≤ j → PartAt out s j) → LiftedAt out (After s x) k
+  after_at : (out : ℕ → ℕ) (s : Ts) (x : Tx) (k : ℕ) → z.own ≤ k → HoistedAt out x k → ((j : ℕ) → z.own ≤ j → PartAt out s j) → HoistedAt out (After s x) k
   after_at out s x k le h hs =
-      let a = lift out x k in
+      let a = hoist out x k in
       let up : z.own ≤ a.next = (let g = h.grows in omega arith) in
       let p = linear out s a.next in
-      after_lift z out s x k a.next a.it p.it p.next h (hs a.next up)
+      after_hoist z out s x k a.next a.it p.it p.next h (hs a.next up)
 
   sequence_at : (out : ℕ → ℕ) (ss : Stms) (k : ℕ) → PartsAt out ss k → PartAt out (Seq ss) k
   sequence_at out ss k h =
@@ -400,9 +400,9 @@ module _ (z : Scene) (pay : JoinsPay) (again : (out : ℕ → ℕ) (s : Ts) (k :
       }
 
   -- statements
-  move_at : (out : ℕ → ℕ) (i : ℕ) (x : Tx) (k : ℕ) → i < z.own → LiftedAt out x k → PartAt out (Move i x) k
+  move_at : (out : ℕ → ℕ) (i : ℕ) (x : Tx) (k : ℕ) → i < z.own → HoistedAt out x k → PartAt out (Move i x) k
   move_at out i x k lt l =
-      let a = lift out x k in
+      let a = hoist out x k in
       record {
         done = move_done z out x k a.it a.next l i;
         owned = owned_both z.own a.it.front.least a.it.front.greatest i i l.owned (owned_one z.own i lt);
@@ -412,9 +412,9 @@ module _ (z : Scene) (pay : JoinsPay) (again : (out : ℕ → ℕ) (s : Ts) (k :
         grows = l.grows;
       }
 
-  do_at : (out : ℕ → ℕ) (x : Tx) (k : ℕ) → LiftedAt out x k → PartAt out (Do x) k
+  do_at : (out : ℕ → ℕ) (x : Tx) (k : ℕ) → HoistedAt out x k → PartAt out (Do x) k
   do_at out x k l =
-      let a = lift out x k in
+      let a = hoist out x k in
       let f = dropped_counts a.it.rest in
       let c = in_turn_counts a.it.front.statement (dropped a.it.rest).statement in
       record {
@@ -427,7 +427,7 @@ module _ (z : Scene) (pay : JoinsPay) (again : (out : ℕ → ℕ) (s : Ts) (k :
 
   return_at : (out : ℕ → ℕ) (x : Tx) (k : ℕ) → WordAt out x k → PartAt out (Return x) k
   return_at out x k l =
-      let a = word (lift out x) k in
+      let a = word (hoist out x) k in
       record {
         done = return_done z out x k a.it a.next l;
         owned = owned_both z.own a.it.front.least a.it.front.greatest 4294967295 0 l.owned (owned_none z.own);
@@ -586,27 +586,29 @@ module _ (z : Scene) (pay : JoinsPay) (again : (out : ℕ → ℕ) (s : Ts) (k :
       exit_left z out (Compare rel x y) k t.it t.next refl h when n
 
   mutual
-    lift_at : (x : Tx) (out : ℕ → ℕ) (k : ℕ) → TxPasses (IsBelow z.own) x → z.own ≤ k → LiftedAt out x k
-    lift_at (Const n) out k h le = leaf z out (Const n) k tt refl refl (λ i o. absurd o) (λ e go w t t' a. refl) (omega arith) (omega arith)
-    lift_at (Address n) out k h le = leaf z out (Address n) k tt refl refl (λ i o. absurd o) (λ e go w t t' a. refl) (omega arith) (omega arith)
-    lift_at (Temp j) out k h le =
+    hoist_at : (x : Tx) (out : ℕ → ℕ) (k : ℕ) → TxPasses (IsBelow z.own) x → z.own ≤ k → HoistedAt out x k
+    hoist_at (Const n) out k h le = leaf z out (Const n) k tt refl refl (λ i o. absurd o) (λ e go w t t' a. refl) (omega arith) (omega arith)
+    hoist_at (Address n) out k h le = leaf z out (Address n) k tt refl refl (λ i o. absurd o) (λ e go w t t' a. refl) (omega arith) (omega arith)
+    hoist_at (Temp j) out k h le =
         let lt : j < z.own = ltb-true j z.own h in
         leaf z out (Temp j) k tt refl refl (λ i o. omega (arith, o)) (λ e go w t t' a. ap (λ o. charged 0 (with_word o w (λ v. go v w t))) (sym (a j lt)))
         (omega arith) (omega arith)
-    lift_at FrameAddress out k h le = leaf z out FrameAddress k tt refl refl (λ i o. absurd o) (λ e go w t t' a. refl) (omega arith) (omega arith)
-    lift_at (Binary op x y) out k h le = binary_at out x y k le (lift_at y out k h.1 le) (λ j lj. lift_at x out j h.0 lj) op
-    lift_at (Load x) out k h le = load_lift z out x k (word (lift out x) k).it (word (lift out x) k).next (word_at out x k le (lift_at x out k h le))
-    lift_at (LoadByte x) out k h le = load_byte_lift z out x k (word (lift out x) k).it (word (lift out x) k).next (word_at out x k le (lift_at x out k h le))
-    lift_at (Call label xs) out k h le = call_at out label xs k (lift_all_at xs out k h.1 le)
-    lift_at (Service n x) out k h le = service_lift z out n x k (word (lift out x) k).it (word (lift out x) k).next (word_at out x k le (lift_at x out k h.1 le))
-    lift_at (After s x) out k h le = after_at out s x k le (lift_at x out k h.1 le) (λ j lj. linear_at s out j h.0 lj)
+    hoist_at FrameAddress out k h le = leaf z out FrameAddress k tt refl refl (λ i o. absurd o) (λ e go w t t' a. refl) (omega arith) (omega arith)
+    hoist_at (Binary op x y) out k h le = binary_at out x y k le (hoist_at y out k h.1 le) (λ j lj. hoist_at x out j h.0 lj) op
+    hoist_at (Load x) out k h le = load_hoist z out x k (word (hoist out x) k).it (word (hoist out x) k).next (word_at out x k le (hoist_at x out k h le))
+    hoist_at (LoadByte x) out k h le =
+        load_byte_hoist z out x k (word (hoist out x) k).it (word (hoist out x) k).next (word_at out x k le (hoist_at x out k h le))
+    hoist_at (Call label xs) out k h le = call_at out label xs k (hoist_all_at xs out k h.1 le)
+    hoist_at (Service n x) out k h le =
+        service_hoist z out n x k (word (hoist out x) k).it (word (hoist out x) k).next (word_at out x k le (hoist_at x out k h.1 le))
+    hoist_at (After s x) out k h le = after_at out s x k le (hoist_at x out k h.1 le) (λ j lj. linear_at s out j h.0 lj)
 
-    lift_all_at : (xs : Txs) (out : ℕ → ℕ) (k : ℕ) → TxsPass (IsBelow z.own) xs → z.own ≤ k → ArgumentsAt out xs k
-    lift_all_at no_txs out k h le = no_arguments_are z out k
-    lift_all_at (tx x xs) out k h le = arguments_at out x xs k le (lift_all_at xs out k h.1 le) (λ j lj. lift_at x out j h.0 lj)
+    hoist_all_at : (xs : Txs) (out : ℕ → ℕ) (k : ℕ) → TxsPass (IsBelow z.own) xs → z.own ≤ k → ArgumentsAt out xs k
+    hoist_all_at no_txs out k h le = no_arguments_are z out k
+    hoist_all_at (tx x xs) out k h le = arguments_at out x xs k le (hoist_all_at xs out k h.1 le) (λ j lj. hoist_at x out j h.0 lj)
 
     condition_at : (c : Cond) (out : ℕ → ℕ) (k : ℕ) → CondPasses (IsBelow z.own) c → is_whole c ≡ true → z.own ≤ k → TestAt out c k
-    condition_at (Compare rel x y) out k h e le = compare_at out x y k le (lift_at y out k h.1 le) (λ j lj. lift_at x out j h.0 lj) rel
+    condition_at (Compare rel x y) out k h e le = compare_at out x y k le (hoist_at y out k h.1 le) (λ j lj. hoist_at x out j h.0 lj) rel
     condition_at (Not c) out k h e le = not_is z out c k (condition out c k).it (condition out c k).next (condition_at c out k h e le)
     condition_at (Both c d) out k h e le =
         let f = both_true (is_whole c) (is_flat_condition d) e in
@@ -617,7 +619,7 @@ module _ (z : Scene) (pay : JoinsPay) (again : (out : ℕ → ℕ) (s : Ts) (k :
 
     leave_at : (c : Cond) (when : Bool) (out : ℕ → ℕ) (n k : ℕ) → CondPasses (IsBelow z.own) c → z.own ≤ k → LeftAt out when n c k
     leave_at (Compare rel x y) when out n k h le = exit_at out when n rel x y k
-        (compare_at out x y k le (lift_at y out k h.1 le) (λ j lj. lift_at x out j h.0 lj) rel)
+        (compare_at out x y k le (hoist_at y out k h.1 le) (λ j lj. hoist_at x out j h.0 lj) rel)
     leave_at (Not c) when out n k h le = left_opposite z out when n c k (leave out (not when) n c k).it (leave out (not when) n c k).next
         (leave_at c (not when) out n k h le)
     leave_at (Both c d) false out n k h le = and_chain out c d n k le (leave_at d false out n k h.1 le) (λ j lj. leave_at c false out n j h.0 lj)
@@ -628,10 +630,10 @@ module _ (z : Scene) (pay : JoinsPay) (again : (out : ℕ → ℕ) (s : Ts) (k :
         (λ j lj. leave_at c true (deeper 1 out) 0 j h.0 lj)
 
     pub linear_at : (s : Ts) (out : ℕ → ℕ) (k : ℕ) → TsPasses (IsBelow z.own) s → z.own ≤ k → PartAt out s k
-    linear_at (Move i x) out k h le = move_at out i x k (ltb-true i z.own h.0) (lift_at x out k h.1 le)
-    linear_at (Store x y) out k h le = store_at out x y k le (lift_at y out k h.1 le) (λ j lj. lift_at x out j h.0 lj)
-    linear_at (StoreByte x y) out k h le = store_byte_at out x y k le (lift_at y out k h.1 le) (λ j lj. lift_at x out j h.0 lj)
-    linear_at (Do x) out k h le = do_at out x k (lift_at x out k h le)
+    linear_at (Move i x) out k h le = move_at out i x k (ltb-true i z.own h.0) (hoist_at x out k h.1 le)
+    linear_at (Store x y) out k h le = store_at out x y k le (hoist_at y out k h.1 le) (λ j lj. hoist_at x out j h.0 lj)
+    linear_at (StoreByte x y) out k h le = store_byte_at out x y k le (hoist_at y out k h.1 le) (λ j lj. hoist_at x out j h.0 lj)
+    linear_at (Do x) out k h le = do_at out x k (hoist_at x out k h le)
     linear_at (If c s t) out k h le =
         if_by out c s t k (is_whole c) (λ e. whole_if out c s t k le (linear_at t out k h.2 le) (λ j lj. linear_at s out j h.1 lj)
         (λ j lj. condition_at c out j h.0 e lj))
@@ -653,7 +655,7 @@ module _ (z : Scene) (pay : JoinsPay) (again : (out : ℕ → ℕ) (s : Ts) (k :
       grows = omega arith;
     }
     linear_at (Seq ss) out k h le = sequence_at out ss k (linear_all_at ss out k h le)
-    linear_at (Return x) out k h le = return_at out x k (word_at out x k le (lift_at x out k h le))
+    linear_at (Return x) out k h le = return_at out x k (word_at out x k le (hoist_at x out k h le))
 
     linear_all_at : (ss : Stms) (out : ℕ → ℕ) (k : ℕ) → StmsPass (IsBelow z.own) ss → z.own ≤ k → PartsAt out ss k
     linear_all_at no_stms out k h le = record {

@@ -11,18 +11,19 @@ use Rattle.tg_tree.specs.glue.Lists.{txs_of, stms_of}
 use Rattle.tg_tree.proofs.ListLaws.{plain_tx-Call, plain_ts-Seq}
 use Rattle.tg_tree.specs.glue.Plain.{plain_tx, plain_cond, plain_ts}
 use Rattle.tg_canon.specs.mirror.Drawing.{Draws, DrawsFrom}
-use Rattle.tg_canon.specs.mirror.Canon.{Part, Hoisted, Two, Tested, word, lift, condition, leave, linear, operands}
+use Rattle.tg_canon.specs.mirror.Canon.{Part, Hoisted, Two, Tested, word, hoist, condition, leave, linear, operands}
 
 -- what equal trees draw
 alike : {A Tree : Type 0} (draw : Tree → Draws A) {s t : Tree} {k l : ℕ} {a : A} → s ≡ t → DrawsFrom (draw t) k a l → DrawsFrom (draw s) k a l
 alike draw {k = k} e g = record { is = ap (λ t. draw t k) e ∙ g.is }
 
-pub lifts_as : (out : ℕ → ℕ) {x y : CodeTx} {k l : ℕ} {a : Hoisted} → x ≡ y → DrawsFrom (lift out (plain_tx y)) k a l → DrawsFrom (lift out (plain_tx x)) k a l
-lifts_as out e g = alike (λ x. lift out (plain_tx x)) e g
+pub hoists_as : (out : ℕ → ℕ) {x y : CodeTx} {k l : ℕ} {a : Hoisted} → x ≡ y → DrawsFrom (hoist out (plain_tx y)) k a l →
+    DrawsFrom (hoist out (plain_tx x)) k a l
+hoists_as out e g = alike (λ x. hoist out (plain_tx x)) e g
 
-pub word_as : (out : ℕ → ℕ) {x y : CodeTx} {k l : ℕ} {a : Hoisted} → x ≡ y → DrawsFrom (word (lift out (plain_tx y))) k a l →
-    DrawsFrom (word (lift out (plain_tx x))) k a l
-word_as out e g = alike (λ x. word (lift out (plain_tx x))) e g
+pub word_as : (out : ℕ → ℕ) {x y : CodeTx} {k l : ℕ} {a : Hoisted} → x ≡ y → DrawsFrom (word (hoist out (plain_tx y))) k a l →
+    DrawsFrom (word (hoist out (plain_tx x))) k a l
+word_as out e g = alike (λ x. word (hoist out (plain_tx x))) e g
 
 pub both_as : (out : ℕ → ℕ) {x x' y y' : CodeTx} {k l : ℕ} {both : Two} → x ≡ x' → y ≡ y' → DrawsFrom (operands out (plain_tx x') (plain_tx y')) k both l →
     DrawsFrom (operands out (plain_tx x) (plain_tx y)) k both l
@@ -41,8 +42,8 @@ goes_as out e g = alike (λ s. linear out (plain_ts s)) e g
 
 -- a call, and statements in turn
 pub call_as : (out : ℕ → ℕ) {x : CodeTx} (label : Label) (xs : CodeTxs) {k l : ℕ} {a : Hoisted} → x ≡ Call label xs →
-    DrawsFrom (lift out (tree.Call label.0 (txs_of xs.items.items))) k a l → DrawsFrom (lift out (plain_tx x)) k a l
-call_as out label xs {k = k} e g = record { is = ap (λ x. lift out x k) (ap plain_tx e ∙ plain_tx-Call label xs) ∙ g.is }
+    DrawsFrom (hoist out (tree.Call label.0 (txs_of xs.items.items))) k a l → DrawsFrom (hoist out (plain_tx x)) k a l
+call_as out label xs {k = k} e g = record { is = ap (λ x. hoist out x k) (ap plain_tx e ∙ plain_tx-Call label xs) ∙ g.is }
 
 pub sequence_as : (out : ℕ → ℕ) {s : CodeTs} (ss : CodeStms) {k l : ℕ} {p : Part} → s ≡ Seq ss →
     DrawsFrom (linear out (tree.Seq (stms_of ss.items.items))) k p l → DrawsFrom (linear out (plain_ts s)) k p l

@@ -9,8 +9,8 @@ use Rattle.tg_canon.specs.mirror.Drawing.{Draws, give, ◌>>=◌}
 use Rattle.tg_canon.specs.mirror.Canon.{Part, still, nothing, is_nothing, pair, first_then, ◌before◌, loop_of, block, Parts, no_parts, in_front, in_turn}
 use Rattle.tg_canon.specs.mirror.Canon.{Hoisted, Two, Arguments, behind, hold, is_effect, hold_effect, word, commutes, hold_unless, hold_but_offset, hold_for}
 use Rattle.tg_canon.specs.mirror.Canon.{hold_before, in_front_of, side_by_side, argument, over, over_two, over_all, with_one, with_two, assigning, acts}
-use Rattle.tg_canon.specs.mirror.Canon.{dropped, is_whole, Tested, compared, opposite, joined, choice, exit_where, wide_choice, deeper, inside, choose, lift}
-use Rattle.tg_canon.specs.mirror.Canon.{lift_all, condition, leave, linear, linear_all, statements_of, linearized}
+use Rattle.tg_canon.specs.mirror.Canon.{dropped, is_whole, Tested, compared, opposite, joined, choice, exit_where, wide_choice, deeper, inside, choose, hoist}
+use Rattle.tg_canon.specs.mirror.Canon.{hoist_all, condition, leave, linear, linear_all, statements_of, linearized}
 use Rattle.tg_canon.proofs.Always.{one_of_two, Always, give_is, next, made}
 
 -- Inside so many loops.
@@ -18,7 +18,7 @@ module _ (n : ℕ) where
   record Within (p : Part) : Type 0 where
     part : BreaksWithin n p.statement
 
-  record LiftedWithin (a : Hoisted) : Type 0 where
+  record HoistedWithin (a : Hoisted) : Type 0 where
     front : BreaksWithin n a.front.statement
     rest : BreaksWithinTx n a.rest
 
@@ -38,31 +38,31 @@ module _ (n : ℕ) where
   first_then_within s t p q =
       one_of_two (BreaksWithin n) (is_nothing s) q (one_of_two (BreaksWithin n) (is_nothing t) p (p, (q, tt)))
 
-  hold_within : (x : Tx) → BreaksWithinTx n x → Always LiftedWithin (hold x)
+  hold_within : (x : Tx) → BreaksWithinTx n x → Always HoistedWithin (hold x)
   hold_within x h = record { at = λ k. record { front = h; rest = tt } }
 
-  behind_within : (p : Part) (a : Hoisted) → BreaksWithin n p.statement → LiftedWithin a → LiftedWithin (behind p a)
+  behind_within : (p : Part) (a : Hoisted) → BreaksWithin n p.statement → HoistedWithin a → HoistedWithin (behind p a)
   behind_within p a h w = record { front = first_then_within p.statement a.front.statement h w.front; rest = w.rest }
 
-  hold_effect_within : (b : Bool) (a : Hoisted) → LiftedWithin a → Always LiftedWithin (hold_effect b a)
+  hold_effect_within : (b : Bool) (a : Hoisted) → HoistedWithin a → Always HoistedWithin (hold_effect b a)
   hold_effect_within true a w = next (hold a.rest) (λ h. give (behind a.front h)) (hold_within a.rest w.rest) (λ h v. give_is (behind_within a.front h w.front v))
   hold_effect_within false a w = give_is w
 
-  word_within : (m : Draws Hoisted) → Always LiftedWithin m → Always LiftedWithin (word m)
+  word_within : (m : Draws Hoisted) → Always HoistedWithin m → Always HoistedWithin (word m)
   word_within m h = next m (λ a. hold_effect (is_effect a.rest) a) h (λ a w. hold_effect_within (is_effect a.rest) a w)
 
-  hold_unless_within : (b : Bool) (x : Tx) → BreaksWithinTx n x → Always LiftedWithin (hold_unless b x)
+  hold_unless_within : (b : Bool) (x : Tx) → BreaksWithinTx n x → Always HoistedWithin (hold_unless b x)
   hold_unless_within true x h = give_is (record { front = tt; rest = h })
   hold_unless_within false x h = hold_within x h
 
   hold_but_offset_within : (b : Bool) (p : Part) (op : Bin) (x y : Tx) → BreaksWithinTx n x → BreaksWithinTx n y →
-      Always LiftedWithin (hold_but_offset b p op x y)
+      Always HoistedWithin (hold_but_offset b p op x y)
   hold_but_offset_within true p op x y hx hy =
       next (hold_unless (commutes p x) x) (λ a. give (record { front = a.front; rest = Binary op a.rest y }))
       (hold_unless_within (commutes p x) x hx) (λ a w. give_is (record { front = w.front; rest = (w.rest, hy) }))
   hold_but_offset_within false p op x y hx hy = hold_within (Binary op x y) (hx, hy)
 
-  hold_for_within : (p : Part) (x : Tx) → BreaksWithinTx n x → Always LiftedWithin (hold_for p x)
+  hold_for_within : (p : Part) (x : Tx) → BreaksWithinTx n x → Always HoistedWithin (hold_for p x)
   hold_for_within p (Binary op x y) h = hold_but_offset_within _ p op x y h.0 h.1
   hold_for_within p (Const i) h = hold_unless_within (commutes p (Const i)) (Const i) h
   hold_for_within p (Address i) h = hold_unless_within (commutes p (Address i)) (Address i) h
@@ -74,32 +74,32 @@ module _ (n : ℕ) where
   hold_for_within p (Service i x) h = hold_unless_within (commutes p (Service i x)) (Service i x) h
   hold_for_within p (After s x) h = hold_unless_within (commutes p (After s x)) (After s x) h
 
-  in_front_of_within : (b : Bool) (p : Part) (a : Hoisted) → LiftedWithin a → Always LiftedWithin (hold_before b p a)
+  in_front_of_within : (b : Bool) (p : Part) (a : Hoisted) → HoistedWithin a → Always HoistedWithin (hold_before b p a)
   in_front_of_within true p a w = give_is w
   in_front_of_within false p a w = next (hold_for p a.rest) (λ h. give (behind a.front h)) (hold_for_within p a.rest w.rest)
       (λ h v. give_is (behind_within a.front h w.front v))
 
-  side_by_side_within : (a b : Hoisted) → LiftedWithin a → LiftedWithin b → Always TwoWithin (side_by_side a b)
+  side_by_side_within : (a b : Hoisted) → HoistedWithin a → HoistedWithin b → Always TwoWithin (side_by_side a b)
   side_by_side_within a b v w =
       next (in_front_of b.front a) (λ h. give (record { front = h.front before b.front; left = h.rest; right = b.rest }))
       (in_front_of_within _ b.front a v)
       (λ h u. give_is (record { front = first_then_within h.front.statement b.front.statement u.front w.front; left = u.rest; right = w.rest }))
 
-  argument_within : (a : Hoisted) (all : Arguments) → LiftedWithin a → AllWithin all → Always AllWithin (argument a all)
+  argument_within : (a : Hoisted) (all : Arguments) → HoistedWithin a → AllWithin all → Always AllWithin (argument a all)
   argument_within a all v w =
       next (in_front_of all.front a) (λ h. give (record { front = h.front before all.front; rest = tx h.rest all.rest }))
       (in_front_of_within _ all.front a v)
       (λ h u. give_is (record { front = first_then_within h.front.statement all.front.statement u.front w.front; rest = (u.rest, w.rest) }))
 
-  two_within : {B : Type 0} {Q : B → Type 0} (m l : Draws Hoisted) (f : Two → B) → Always LiftedWithin m → Always LiftedWithin l →
+  two_within : {B : Type 0} {Q : B → Type 0} (m l : Draws Hoisted) (f : Two → B) → Always HoistedWithin m → Always HoistedWithin l →
       ((a : Two) → TwoWithin a → Q (f a)) →
       Always Q (word l >>= (λ b. word m >>= (λ a. side_by_side a b >>= (λ ab. give (f ab)))))
   two_within m l f hm hl g =
       next (word l) _ (word_within l hl)
       (λ b w. next (word m) _ (word_within m hm) (λ a v. next (side_by_side a b) _ (side_by_side_within a b v w) (λ ab t. give_is (g ab t))))
 
-  one_within : {B : Type 0} {Q : B → Type 0} (m : Draws Hoisted) (f : Hoisted → B) → Always LiftedWithin m →
-      ((a : Hoisted) → LiftedWithin a → Q (f a)) → Always Q (word m >>= (λ a. give (f a)))
+  one_within : {B : Type 0} {Q : B → Type 0} (m : Draws Hoisted) (f : Hoisted → B) → Always HoistedWithin m →
+      ((a : Hoisted) → HoistedWithin a → Q (f a)) → Always Q (word m >>= (λ a. give (f a)))
   one_within m f hm g = next (word m) _ (word_within m hm) (λ a w. give_is (g a w))
 
   in_front_within : (p : Part) (all : Parts) → Within p → PartsWithin all → PartsWithin (in_front p all)
@@ -165,33 +165,33 @@ tests_within : (n n' : ℕ) (m l : Draws Part) (f : Part → Part) → Always (W
 tests_within n n' m l f hm hl hf = next l _ hl (λ q hq. next m _ hm (λ p hp. give_is (hf (p before q) (before_within n' p q hp hq))))
 
 mutual
-  lift_within : (loops n : ℕ) (out : ℕ → ℕ) (x : Tx) → Leads loops n out → BreaksWithinTx loops x → Always (LiftedWithin n) (lift out x)
-  lift_within loops n out (Const i) o h = give_is (record { front = tt; rest = tt })
-  lift_within loops n out (Address i) o h = give_is (record { front = tt; rest = tt })
-  lift_within loops n out (Temp i) o h = give_is (record { front = tt; rest = tt })
-  lift_within loops n out FrameAddress o h = give_is (record { front = tt; rest = tt })
-  lift_within loops n out (Binary op x y) o h = two_within n (lift out x) (lift out y) (over_two (Binary op))
-      (lift_within loops n out x o h.0) (lift_within loops n out y o h.1) (λ a t. record { front = t.front; rest = (t.left, t.right) })
-  lift_within loops n out (Load x) o h = one_within n (lift out x) (over Load) (lift_within loops n out x o h)
+  hoist_within : (loops n : ℕ) (out : ℕ → ℕ) (x : Tx) → Leads loops n out → BreaksWithinTx loops x → Always (HoistedWithin n) (hoist out x)
+  hoist_within loops n out (Const i) o h = give_is (record { front = tt; rest = tt })
+  hoist_within loops n out (Address i) o h = give_is (record { front = tt; rest = tt })
+  hoist_within loops n out (Temp i) o h = give_is (record { front = tt; rest = tt })
+  hoist_within loops n out FrameAddress o h = give_is (record { front = tt; rest = tt })
+  hoist_within loops n out (Binary op x y) o h = two_within n (hoist out x) (hoist out y) (over_two (Binary op))
+      (hoist_within loops n out x o h.0) (hoist_within loops n out y o h.1) (λ a t. record { front = t.front; rest = (t.left, t.right) })
+  hoist_within loops n out (Load x) o h = one_within n (hoist out x) (over Load) (hoist_within loops n out x o h)
       (λ a w. record { front = w.front; rest = w.rest })
-  lift_within loops n out (LoadByte x) o h = one_within n (lift out x) (over LoadByte) (lift_within loops n out x o h)
+  hoist_within loops n out (LoadByte x) o h = one_within n (hoist out x) (over LoadByte) (hoist_within loops n out x o h)
       (λ a w. record { front = w.front; rest = w.rest })
-  lift_within loops n out (Call f xs) o h = made (lift_all out xs) (over_all (Call f)) (lift_all_within loops n out xs o h)
+  hoist_within loops n out (Call f xs) o h = made (hoist_all out xs) (over_all (Call f)) (hoist_all_within loops n out xs o h)
       (λ a w. record { front = w.front; rest = w.rest })
-  lift_within loops n out (Service i x) o h = one_within n (lift out x) (over (Service i)) (lift_within loops n out x o h)
+  hoist_within loops n out (Service i x) o h = one_within n (hoist out x) (over (Service i)) (hoist_within loops n out x o h)
       (λ a w. record { front = w.front; rest = w.rest })
-  lift_within loops n out (After s x) o h = next (lift out x) (λ a. linear out s >>= (λ p. give (behind p a)))
-      (lift_within loops n out x o h.1) (λ a w. made (linear out s) (λ p. behind p a) (linear_within loops n out s o h.0) (λ p l. behind_within n p a l.part w))
+  hoist_within loops n out (After s x) o h = next (hoist out x) (λ a. linear out s >>= (λ p. give (behind p a)))
+      (hoist_within loops n out x o h.1) (λ a w. made (linear out s) (λ p. behind p a) (linear_within loops n out s o h.0) (λ p l. behind_within n p a l.part w))
 
-  lift_all_within : (loops n : ℕ) (out : ℕ → ℕ) (xs : Txs) → Leads loops n out → BreaksWithinTxs loops xs → Always (AllWithin n) (lift_all out xs)
-  lift_all_within loops n out no_txs o h = give_is (record { front = tt; rest = tt })
-  lift_all_within loops n out (tx x xs) o h = next (lift_all out xs) (λ all. word (lift out x) >>= (λ a. argument a all))
-      (lift_all_within loops n out xs o h.1) (λ all l. next (word (lift out x)) (λ a. argument a all)
-      (word_within n (lift out x) (lift_within loops n out x o h.0)) (λ a w. argument_within n a all w l))
+  hoist_all_within : (loops n : ℕ) (out : ℕ → ℕ) (xs : Txs) → Leads loops n out → BreaksWithinTxs loops xs → Always (AllWithin n) (hoist_all out xs)
+  hoist_all_within loops n out no_txs o h = give_is (record { front = tt; rest = tt })
+  hoist_all_within loops n out (tx x xs) o h = next (hoist_all out xs) (λ all. word (hoist out x) >>= (λ a. argument a all))
+      (hoist_all_within loops n out xs o h.1) (λ all l. next (word (hoist out x)) (λ a. argument a all)
+      (word_within n (hoist out x) (hoist_within loops n out x o h.0)) (λ a w. argument_within n a all w l))
 
   condition_within : (loops n : ℕ) (out : ℕ → ℕ) (c : Cond) → Leads loops n out → BreaksWithinCond loops c → Always (TestedWithin n) (condition out c)
-  condition_within loops n out (Compare rel x y) o h = two_within n (lift out x) (lift out y) (compared (Compare rel))
-      (lift_within loops n out x o h.0) (lift_within loops n out y o h.1) (λ a t. record { front = t.front; condition = (t.left, t.right) })
+  condition_within loops n out (Compare rel x y) o h = two_within n (hoist out x) (hoist out y) (compared (Compare rel))
+      (hoist_within loops n out x o h.0) (hoist_within loops n out y o h.1) (λ a t. record { front = t.front; condition = (t.left, t.right) })
   condition_within loops n out (Not c) o h = made (condition out c) opposite (condition_within loops n out c o h)
       (λ t l. record { front = l.front; condition = l.condition })
   condition_within loops n out (Both c d) o h = next (condition out d) (λ u. condition out c >>= (λ t. give (joined Both t u)))
@@ -203,8 +203,8 @@ mutual
 
   leave_within : (loops n : ℕ) (out : ℕ → ℕ) (w : Bool) (k : ℕ) (c : Cond) → Leads loops n out → k < n →
       BreaksWithinCond loops c → Always (Within n) (leave out w k c)
-  leave_within loops n out w k (Compare rel x y) o lt h = two_within n (lift out x) (lift out y)
-      (λ ab. exit_where w k (compared (Compare rel) ab)) (lift_within loops n out x o h.0) (lift_within loops n out y o h.1)
+  leave_within loops n out w k (Compare rel x y) o lt h = two_within n (hoist out x) (hoist out y)
+      (λ ab. exit_where w k (compared (Compare rel) ab)) (hoist_within loops n out x o h.0) (hoist_within loops n out y o h.1)
       (λ a t. exit_within n w k (compared (Compare rel) a) lt (record { front = t.front; condition = (t.left, t.right) }))
   leave_within loops n out true k (Not c) o lt h = leave_within loops n out false k c o lt h
   leave_within loops n out false k (Not c) o lt h = leave_within loops n out true k c o lt h
@@ -220,15 +220,15 @@ mutual
       (leave_within loops (n + 1) (deeper 1 out) false (k + 1) d (one_deeper loops n out o) (omega arith) h.1) (block_within n)
 
   linear_within : (loops n : ℕ) (out : ℕ → ℕ) (s : Ts) → Leads loops n out → BreaksWithin loops s → Always (Within n) (linear out s)
-  linear_within loops n out (Move i x) o h = made (lift out x) (with_one (λ v. assigning i (Move i v)))
-      (lift_within loops n out x o h) (λ a w. record { part = first_then_within n a.front.statement (Move i a.rest) w.front w.rest })
-  linear_within loops n out (Store x y) o h = two_within n (lift out x) (lift out y) (with_two Store)
-      (lift_within loops n out x o h.0) (lift_within loops n out y o h.1)
+  linear_within loops n out (Move i x) o h = made (hoist out x) (with_one (λ v. assigning i (Move i v)))
+      (hoist_within loops n out x o h) (λ a w. record { part = first_then_within n a.front.statement (Move i a.rest) w.front w.rest })
+  linear_within loops n out (Store x y) o h = two_within n (hoist out x) (hoist out y) (with_two Store)
+      (hoist_within loops n out x o h.0) (hoist_within loops n out y o h.1)
       (λ a t. record { part = first_then_within n a.front.statement (Store a.left a.right) t.front (t.left, t.right) })
-  linear_within loops n out (StoreByte x y) o h = two_within n (lift out x) (lift out y) (with_two StoreByte)
-      (lift_within loops n out x o h.0) (lift_within loops n out y o h.1)
+  linear_within loops n out (StoreByte x y) o h = two_within n (hoist out x) (hoist out y) (with_two StoreByte)
+      (hoist_within loops n out x o h.0) (hoist_within loops n out y o h.1)
       (λ a t. record { part = first_then_within n a.front.statement (StoreByte a.left a.right) t.front (t.left, t.right) })
-  linear_within loops n out (Do x) o h = made (lift out x) (with_one dropped) (lift_within loops n out x o h)
+  linear_within loops n out (Do x) o h = made (hoist out x) (with_one dropped) (hoist_within loops n out x o h)
       (λ a w. record { part = first_then_within n a.front.statement (dropped a.rest).statement w.front (dropped_within n a.rest w.rest) })
   linear_within loops n out (If c s t) o h =
       choose_within n (is_whole c) _ _
@@ -246,8 +246,8 @@ mutual
   linear_within loops n out (Break k) o h = give_is (record { part = o.lead k h })
   linear_within loops n out (Fault i) o h = give_is (record { part = tt })
   linear_within loops n out (Seq ss) o h = made (linear_all out ss) in_turn (linear_all_within loops n out ss o h) (λ all l. record { part = l.list })
-  linear_within loops n out (Return x) o h = one_within n (lift out x) (with_one (λ v. still (Return v)))
-      (lift_within loops n out x o h) (λ a w. record { part = first_then_within n a.front.statement (Return a.rest) w.front w.rest })
+  linear_within loops n out (Return x) o h = one_within n (hoist out x) (with_one (λ v. still (Return v)))
+      (hoist_within loops n out x o h) (λ a w. record { part = first_then_within n a.front.statement (Return a.rest) w.front w.rest })
 
   linear_all_within : (loops n : ℕ) (out : ℕ → ℕ) (ss : Stms) → Leads loops n out → BreaksWithinStms loops ss → Always (PartsWithin n) (linear_all out ss)
   linear_all_within loops n out no_stms o h = give_is (record { list = tt })
@@ -301,7 +301,7 @@ mutual
   linear_ends : (out : ℕ → ℕ) (s : Ts) → EndsFunction s → Always Ends (linear out s)
   linear_ends out (Fault n) h = give_is (record { ends = tt })
   linear_ends out (Return x) h =
-      record { at = λ k. record { ends = first_then_ends (word (lift out x) k).it.front.statement (Return (word (lift out x) k).it.rest) tt } }
+      record { at = λ k. record { ends = first_then_ends (word (hoist out x) k).it.front.statement (Return (word (hoist out x) k).it.rest) tt } }
   linear_ends out (Seq ss) h = made (linear_all out ss) in_turn (linear_all_end out ss h) (λ all l. record { ends = l.ends })
   linear_ends out (Move i x) h = absurd h
   linear_ends out (Store x y) h = absurd h

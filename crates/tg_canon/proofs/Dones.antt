@@ -20,7 +20,7 @@ use Rattle.tg_canon.proofs.Splits.{Known, Beside, KeptBy, kept_within, kept_firs
 use Rattle.tg_canon.proofs.Splits.{outs_more, backs_more, IsSplit, IsDone, does_nothing, does_in_turn}
 use Rattle.tg_canon.proofs.Sides.{flat_or_effect, flat_without_effect}
 use Rattle.tg_canon.proofs.Helds.{fixed_runs, effect_runs}
-use Rattle.tg_canon.proofs.Words.{spare, LiftIs, WordIs, both_before, both_rest, PairIs}
+use Rattle.tg_canon.proofs.Words.{spare, HoistIs, WordIs, both_before, both_rest, PairIs}
 
 no_effect : (x : Tx) → acts x ≡ false → is_effect x ≡ false
 no_effect (Const _) e = refl
@@ -84,7 +84,7 @@ module _ (z : Scene) (out : ℕ → ℕ) where
   }
 
   -- Moves, returns and what isn't wanted, of what is hoisted.
-  module _ (x : Tx) (from : ℕ) (a : Hoisted) (to : ℕ) (l : LiftIs z out x from a to) where
+  module _ (x : Tx) (from : ℕ) (a : Hoisted) (to : ℕ) (l : HoistIs z out x from a to) where
     sides : (k : ℕ) (r : ℕ) (act : Activation) (o o' : Out) (b b' : Back) (w : World) (t : Temps) (g g' : Go ℕ) →
         ((v : ℕ) (w1 : World) → Sim r z.fuel (g v w1 t) (g' v w1 t)) →
         Sim r z.fuel ((pay k >> mixed_value z a.rest) (around act o b) g w t) ((pay k >> then_value z a.rest) (around act o' b') g' w t)

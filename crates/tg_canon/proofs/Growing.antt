@@ -8,7 +8,7 @@ use Rattle.tg_canon.specs.mirror.Canon.{Part, still, assigning, is_nothing, ◌b
 use Rattle.tg_canon.specs.mirror.Canon.{no_arguments, whole, behind, hold, is_effect, hold_effect, word, commutes, hold_unless, is_constant, is_sum}
 use Rattle.tg_canon.specs.mirror.Canon.{hold_but_offset, hold_for, hold_before, in_front_of, side_by_side, argument, over, over_two, over_all, with_one}
 use Rattle.tg_canon.specs.mirror.Canon.{with_two, dropped, is_whole, compared, opposite, joined, choice, exit_where, wide_choice, deeper, inside, choose}
-use Rattle.tg_canon.specs.mirror.Canon.{lift, lift_all, condition, leave, linear, linear_all, operands, linearized}
+use Rattle.tg_canon.specs.mirror.Canon.{hoist, hoist_all, condition, leave, linear, linear_all, operands, linearized}
 
 pub record Grows {A : Type 0} (m : Draws A) : Type 0 where
   pub at : (k : ℕ) → k ≤ (m k).next
@@ -93,35 +93,35 @@ choose_grows true m n g h = g
 choose_grows false m n g h = h
 
 mutual
-  pub lift_grows : (out : ℕ → ℕ) (x : Tx) → Grows (lift out x)
-  lift_grows out (Const n) = stays_at (whole (Const n))
-  lift_grows out (Address n) = stays_at (whole (Address n))
-  lift_grows out (Temp i) = stays_at (whole (Temp i))
-  lift_grows out FrameAddress = stays_at (whole FrameAddress)
-  lift_grows out (Binary op x y) = made (operands out x y) (over_two (Binary op))
-      (operands_grow (lift out x) (lift out y) (lift_grows out x) (lift_grows out y))
-  lift_grows out (Load x) = made (word (lift out x)) (over Load) (word_grows (lift out x) (lift_grows out x))
-  lift_grows out (LoadByte x) = made (word (lift out x)) (over LoadByte) (word_grows (lift out x) (lift_grows out x))
-  lift_grows out (Call f xs) = made (lift_all out xs) (over_all (Call f)) (lift_all_grows out xs)
-  lift_grows out (Service n x) = made (word (lift out x)) (over (Service n)) (word_grows (lift out x) (lift_grows out x))
-  lift_grows out (After s x) = in_turn_grow (lift out x) (linear out s) (λ a p. behind p a) (lift_grows out x) (linear_grows out s)
+  pub hoist_grows : (out : ℕ → ℕ) (x : Tx) → Grows (hoist out x)
+  hoist_grows out (Const n) = stays_at (whole (Const n))
+  hoist_grows out (Address n) = stays_at (whole (Address n))
+  hoist_grows out (Temp i) = stays_at (whole (Temp i))
+  hoist_grows out FrameAddress = stays_at (whole FrameAddress)
+  hoist_grows out (Binary op x y) = made (operands out x y) (over_two (Binary op))
+      (operands_grow (hoist out x) (hoist out y) (hoist_grows out x) (hoist_grows out y))
+  hoist_grows out (Load x) = made (word (hoist out x)) (over Load) (word_grows (hoist out x) (hoist_grows out x))
+  hoist_grows out (LoadByte x) = made (word (hoist out x)) (over LoadByte) (word_grows (hoist out x) (hoist_grows out x))
+  hoist_grows out (Call f xs) = made (hoist_all out xs) (over_all (Call f)) (hoist_all_grows out xs)
+  hoist_grows out (Service n x) = made (word (hoist out x)) (over (Service n)) (word_grows (hoist out x) (hoist_grows out x))
+  hoist_grows out (After s x) = in_turn_grow (hoist out x) (linear out s) (λ a p. behind p a) (hoist_grows out x) (linear_grows out s)
 
-  pub lift_all_grows : (out : ℕ → ℕ) (xs : Txs) → Grows (lift_all out xs)
-  lift_all_grows out no_txs = stays_at no_arguments
-  lift_all_grows out (tx x xs) =
-      next (lift_all out xs) (λ all. word (lift out x) >>= λ a. argument a all) (lift_all_grows out xs)
-      (λ all. next (word (lift out x)) (λ a. argument a all) (word_grows (lift out x) (lift_grows out x)) (λ a. argument_grows a all))
+  pub hoist_all_grows : (out : ℕ → ℕ) (xs : Txs) → Grows (hoist_all out xs)
+  hoist_all_grows out no_txs = stays_at no_arguments
+  hoist_all_grows out (tx x xs) =
+      next (hoist_all out xs) (λ all. word (hoist out x) >>= λ a. argument a all) (hoist_all_grows out xs)
+      (λ all. next (word (hoist out x)) (λ a. argument a all) (word_grows (hoist out x) (hoist_grows out x)) (λ a. argument_grows a all))
 
   pub condition_grows : (out : ℕ → ℕ) (c : Cond) → Grows (condition out c)
   condition_grows out (Compare rel x y) = made (operands out x y) (compared (Compare rel))
-      (operands_grow (lift out x) (lift out y) (lift_grows out x) (lift_grows out y))
+      (operands_grow (hoist out x) (hoist out y) (hoist_grows out x) (hoist_grows out y))
   condition_grows out (Not c) = made (condition out c) opposite (condition_grows out c)
   condition_grows out (Both c d) = in_turn_grow (condition out d) (condition out c) (λ u t. joined Both t u) (condition_grows out d) (condition_grows out c)
   condition_grows out (Either c d) = in_turn_grow (condition out d) (condition out c) (λ u t. joined Either t u) (condition_grows out d) (condition_grows out c)
 
   pub leave_grows : (out : ℕ → ℕ) (w : Bool) (n : ℕ) (c : Cond) → Grows (leave out w n c)
   leave_grows out w n (Compare rel x y) =
-      made (operands out x y) (λ ab. exit_where w n (compared (Compare rel) ab)) (operands_grow (lift out x) (lift out y) (lift_grows out x) (lift_grows out y))
+      made (operands out x y) (λ ab. exit_where w n (compared (Compare rel) ab)) (operands_grow (hoist out x) (hoist out y) (hoist_grows out x) (hoist_grows out y))
   leave_grows out w n (Not c) = leave_grows out (not w) n c
   leave_grows out false n (Both c d) = in_turn_grow (leave out false n d) (leave out false n c) (λ q p. p before q)
       (leave_grows out false n d) (leave_grows out false n c)
@@ -137,11 +137,11 @@ mutual
       (leave_grows (deeper 1 out) true 0 c)
 
   pub linear_grows : (out : ℕ → ℕ) (s : Ts) → Grows (linear out s)
-  linear_grows out (Move i x) = made (lift out x) (with_one (λ v. assigning i (Move i v))) (lift_grows out x)
-  linear_grows out (Store x y) = made (operands out x y) (with_two Store) (operands_grow (lift out x) (lift out y) (lift_grows out x) (lift_grows out y))
+  linear_grows out (Move i x) = made (hoist out x) (with_one (λ v. assigning i (Move i v))) (hoist_grows out x)
+  linear_grows out (Store x y) = made (operands out x y) (with_two Store) (operands_grow (hoist out x) (hoist out y) (hoist_grows out x) (hoist_grows out y))
   linear_grows out (StoreByte x y) = made (operands out x y) (with_two StoreByte)
-      (operands_grow (lift out x) (lift out y) (lift_grows out x) (lift_grows out y))
-  linear_grows out (Do x) = made (lift out x) (with_one dropped) (lift_grows out x)
+      (operands_grow (hoist out x) (hoist out y) (hoist_grows out x) (hoist_grows out y))
+  linear_grows out (Do x) = made (hoist out x) (with_one dropped) (hoist_grows out x)
   linear_grows out (If c s t) =
       choose_grows (is_whole c) (linear out t >>= λ q. linear out s >>= λ p. condition out c >>= λ u. give (choice u p q))
       (linear (deeper 1 out) t >>= λ q. linear (deeper 2 out) s >>= λ p. leave (deeper 2 out) false 0 c >>= λ u. give (wide_choice u p q))
@@ -152,7 +152,7 @@ mutual
   linear_grows out (Break n) = stays_at (still (Break (out n)))
   linear_grows out (Fault n) = stays_at (still (Fault n))
   linear_grows out (Seq ss) = made (linear_all out ss) in_turn (linear_all_grows out ss)
-  linear_grows out (Return x) = made (word (lift out x)) (with_one (λ v. still (Return v))) (word_grows (lift out x) (lift_grows out x))
+  linear_grows out (Return x) = made (word (hoist out x)) (with_one (λ v. still (Return v))) (word_grows (hoist out x) (hoist_grows out x))
 
   pub linear_all_grows : (out : ℕ → ℕ) (ss : Stms) → Grows (linear_all out ss)
   linear_all_grows out no_stms = stays_at no_parts

@@ -11,12 +11,12 @@ use Rattle.tg_canon.specs.mirror.Drawing.{Draws, give, ◌>>=◌}
 use Rattle.tg_canon.specs.mirror.Canon.{Part, still, nothing, is_nothing, first_then, ◌before◌, loop_of, block, Parts, in_front, in_turn, Hoisted, Two}
 use Rattle.tg_canon.specs.mirror.Canon.{Arguments, behind, hold, is_effect, hold_effect, word, commutes, hold_unless, hold_but_offset, hold_for, hold_before}
 use Rattle.tg_canon.specs.mirror.Canon.{in_front_of, side_by_side, argument, over, over_two, over_all, with_one, with_two, assigning, acts, dropped}
-use Rattle.tg_canon.specs.mirror.Canon.{is_whole, Tested, compared, opposite, joined, choice, exit_where, wide_choice, deeper, inside, choose, lift}
-use Rattle.tg_canon.specs.mirror.Canon.{lift_all, condition, leave, linear, linear_all, statements_of, linearized}
+use Rattle.tg_canon.specs.mirror.Canon.{is_whole, Tested, compared, opposite, joined, choice, exit_where, wide_choice, deeper, inside, choose, hoist}
+use Rattle.tg_canon.specs.mirror.Canon.{hoist_all, condition, leave, linear, linear_all, statements_of, linearized}
 use Rattle.tg_canon.specs.laws.Laws.{AllowsDrawn, AreTempsBelow}
 use Rattle.tg_canon.proofs.Always.{one_of_two}
 use Rattle.tg_canon.proofs.Growing as growing
-use Rattle.tg_canon.proofs.Growing.{Grows, two, hold_effect_grows, word_grows, side_by_side_grows, argument_grows, lift_grows, condition_grows}
+use Rattle.tg_canon.proofs.Growing.{Grows, two, hold_effect_grows, word_grows, side_by_side_grows, argument_grows, hoist_grows, condition_grows}
 use Rattle.tg_canon.proofs.Growing.{leave_grows, linear_grows, linearized_grows}
 
 -- The test passes the temporaries from one number up to another.
@@ -47,7 +47,7 @@ module _ (allowed : Named → Bool) (from top : ℕ) (drawn : AllowsDrawn allowe
   record PartPasses (p : Part) : Type 0 where
     part : TsPasses Passes p.statement
 
-  record LiftedPasses (a : Hoisted) : Type 0 where
+  record HoistedPasses (a : Hoisted) : Type 0 where
     front : TsPasses Passes a.front.statement
     rest : TxPasses Passes a.rest
 
@@ -71,34 +71,34 @@ module _ (allowed : Named → Bool) (from top : ℕ) (drawn : AllowsDrawn allowe
   first_then_passes s t p q =
       one_of_two (TsPasses Passes) (is_nothing s) q (one_of_two (TsPasses Passes) (is_nothing t) p (p, (q, tt)))
 
-  hold_passes : (x : Tx) → TxPasses Passes x → Keeps LiftedPasses (hold x)
+  hold_passes : (x : Tx) → TxPasses Passes x → Keeps HoistedPasses (hold x)
   hold_passes x h = record {
     at = λ k low high. let up : k + 1 ≤ top = high in let it : Passes (temporary k) = drawn k low (omega arith) in
         record { front = (it, h); rest = it };
   }
 
-  behind_passes : (p : Part) (a : Hoisted) → TsPasses Passes p.statement → LiftedPasses a → LiftedPasses (behind p a)
+  behind_passes : (p : Part) (a : Hoisted) → TsPasses Passes p.statement → HoistedPasses a → HoistedPasses (behind p a)
   behind_passes p a h w = record { front = first_then_passes p.statement a.front.statement h w.front; rest = w.rest }
 
-  hold_effect_passes : (b : Bool) (a : Hoisted) → LiftedPasses a → Keeps LiftedPasses (hold_effect b a)
+  hold_effect_passes : (b : Bool) (a : Hoisted) → HoistedPasses a → Keeps HoistedPasses (hold_effect b a)
   hold_effect_passes true a w = made (hold a.rest) (behind a.front) (hold_passes a.rest w.rest) (λ h v. behind_passes a.front h w.front v)
   hold_effect_passes false a w = given w
 
-  word_passes : (m : Draws Hoisted) → Grows m → Keeps LiftedPasses m → Keeps LiftedPasses (word m)
+  word_passes : (m : Draws Hoisted) → Grows m → Keeps HoistedPasses m → Keeps HoistedPasses (word m)
   word_passes m g h = next m (λ a. hold_effect (is_effect a.rest) a) g (λ a. hold_effect_grows (is_effect a.rest) a) h (λ a w. hold_effect_passes (is_effect a.rest) a w)
 
-  hold_unless_passes : (b : Bool) (x : Tx) → TxPasses Passes x → Keeps LiftedPasses (hold_unless b x)
+  hold_unless_passes : (b : Bool) (x : Tx) → TxPasses Passes x → Keeps HoistedPasses (hold_unless b x)
   hold_unless_passes true x h = given (record { front = tt; rest = h })
   hold_unless_passes false x h = hold_passes x h
 
   hold_but_offset_passes : (b : Bool) (p : Part) (op : Bin) (x y : Tx) → TxPasses Passes x → TxPasses Passes y →
-      Keeps LiftedPasses (hold_but_offset b p op x y)
+      Keeps HoistedPasses (hold_but_offset b p op x y)
   hold_but_offset_passes true p op x y hx hy =
       made (hold_unless (commutes p x) x) (λ a. record { front = a.front; rest = Binary op a.rest y })
       (hold_unless_passes (commutes p x) x hx) (λ a w. record { front = w.front; rest = (w.rest, hy) })
   hold_but_offset_passes false p op x y hx hy = hold_passes (Binary op x y) (hx, hy)
 
-  hold_for_passes : (p : Part) (x : Tx) → TxPasses Passes x → Keeps LiftedPasses (hold_for p x)
+  hold_for_passes : (p : Part) (x : Tx) → TxPasses Passes x → Keeps HoistedPasses (hold_for p x)
   hold_for_passes p (Binary op x y) h = hold_but_offset_passes _ p op x y h.0 h.1
   hold_for_passes p (Const i) h = hold_unless_passes (commutes p (Const i)) (Const i) h
   hold_for_passes p (Address i) h = hold_unless_passes (commutes p (Address i)) (Address i) h
@@ -110,25 +110,25 @@ module _ (allowed : Named → Bool) (from top : ℕ) (drawn : AllowsDrawn allowe
   hold_for_passes p (Service i x) h = hold_unless_passes (commutes p (Service i x)) (Service i x) h
   hold_for_passes p (After s x) h = hold_unless_passes (commutes p (After s x)) (After s x) h
 
-  hold_before_passes : (b : Bool) (p : Part) (a : Hoisted) → LiftedPasses a → Keeps LiftedPasses (hold_before b p a)
+  hold_before_passes : (b : Bool) (p : Part) (a : Hoisted) → HoistedPasses a → Keeps HoistedPasses (hold_before b p a)
   hold_before_passes true p a w = given w
   hold_before_passes false p a w = made (hold_for p a.rest) (behind a.front) (hold_for_passes p a.rest w.rest) (λ h v. behind_passes a.front h w.front v)
 
-  side_by_side_passes : (a b : Hoisted) → LiftedPasses a → LiftedPasses b → Keeps TwoPass (side_by_side a b)
+  side_by_side_passes : (a b : Hoisted) → HoistedPasses a → HoistedPasses b → Keeps TwoPass (side_by_side a b)
   side_by_side_passes a b v w =
       made (in_front_of b.front a) (λ h. record { front = h.front before b.front; left = h.rest; right = b.rest })
       (hold_before_passes _ b.front a v)
       (λ h u. record { front = first_then_passes h.front.statement b.front.statement u.front w.front; left = u.rest; right = w.rest })
 
-  argument_passes : (a : Hoisted) (all : Arguments) → LiftedPasses a → ArgumentsPass all → Keeps ArgumentsPass (argument a all)
+  argument_passes : (a : Hoisted) (all : Arguments) → HoistedPasses a → ArgumentsPass all → Keeps ArgumentsPass (argument a all)
   argument_passes a all v w =
       made (in_front_of all.front a) (λ h. record { front = h.front before all.front; rest = tx h.rest all.rest })
       (hold_before_passes _ all.front a v)
       (λ h u. record { front = first_then_passes h.front.statement all.front.statement u.front w.front; rest = (u.rest, w.rest) })
 
   -- two words, and one
-  two_pass : {B : Type 0} {Q : B → Type 0} (m l : Draws Hoisted) (f : Two → B) → Grows m → Grows l → Keeps LiftedPasses m →
-      Keeps LiftedPasses l → ((a : Two) → TwoPass a → Q (f a)) →
+  two_pass : {B : Type 0} {Q : B → Type 0} (m l : Draws Hoisted) (f : Two → B) → Grows m → Grows l → Keeps HoistedPasses m →
+      Keeps HoistedPasses l → ((a : Two) → TwoPass a → Q (f a)) →
       Keeps Q (word l >>= (λ b. word m >>= (λ a. side_by_side a b >>= (λ ab. give (f ab)))))
   two_pass m l f gm gl hm hl g =
       next (word l) (λ b. word m >>= (λ a. side_by_side a b >>= (λ ab. give (f ab)))) (word_grows l gl)
@@ -138,8 +138,8 @@ module _ (allowed : Named → Bool) (from top : ℕ) (drawn : AllowsDrawn allowe
       (λ a. growing.made (side_by_side a b) f (side_by_side_grows a b)) (word_passes m gm hm) (λ a v.
       made (side_by_side a b) f (side_by_side_passes a b v w) g))
 
-  one_passes : {B : Type 0} {Q : B → Type 0} (m : Draws Hoisted) (f : Hoisted → B) → Grows m → Keeps LiftedPasses m →
-      ((a : Hoisted) → LiftedPasses a → Q (f a)) → Keeps Q (word m >>= (λ a. give (f a)))
+  one_passes : {B : Type 0} {Q : B → Type 0} (m : Draws Hoisted) (f : Hoisted → B) → Grows m → Keeps HoistedPasses m →
+      ((a : Hoisted) → HoistedPasses a → Q (f a)) → Keeps Q (word m >>= (λ a. give (f a)))
   one_passes m f gm hm g = made (word m) f (word_passes m gm hm) g
 
   -- one thing drawn after another
@@ -184,35 +184,36 @@ module _ (allowed : Named → Bool) (from top : ℕ) (drawn : AllowsDrawn allowe
   dropped_passes x h = one_of_two (TsPasses Passes) (acts x) h tt
 
   mutual
-    lift_passes : (out : ℕ → ℕ) (x : Tx) → TxPasses Passes x → Keeps LiftedPasses (lift out x)
-    lift_passes out (Const i) h = given (record { front = tt; rest = h })
-    lift_passes out (Address i) h = given (record { front = tt; rest = h })
-    lift_passes out (Temp i) h = given (record { front = tt; rest = h })
-    lift_passes out FrameAddress h = given (record { front = tt; rest = tt })
-    lift_passes out (Binary op x y) h = two_pass (lift out x) (lift out y) (over_two (Binary op)) (lift_grows out x)
-        (lift_grows out y) (lift_passes out x h.0) (lift_passes out y h.1) (λ a t. record { front = t.front; rest = (t.left, t.right) })
-    lift_passes out (Load x) h = one_passes (lift out x) (over Load) (lift_grows out x) (lift_passes out x h) (λ a w. record { front = w.front; rest = w.rest })
-    lift_passes out (LoadByte x) h = one_passes (lift out x) (over LoadByte) (lift_grows out x) (lift_passes out x h)
+    hoist_passes : (out : ℕ → ℕ) (x : Tx) → TxPasses Passes x → Keeps HoistedPasses (hoist out x)
+    hoist_passes out (Const i) h = given (record { front = tt; rest = h })
+    hoist_passes out (Address i) h = given (record { front = tt; rest = h })
+    hoist_passes out (Temp i) h = given (record { front = tt; rest = h })
+    hoist_passes out FrameAddress h = given (record { front = tt; rest = tt })
+    hoist_passes out (Binary op x y) h = two_pass (hoist out x) (hoist out y) (over_two (Binary op)) (hoist_grows out x)
+        (hoist_grows out y) (hoist_passes out x h.0) (hoist_passes out y h.1) (λ a t. record { front = t.front; rest = (t.left, t.right) })
+    hoist_passes out (Load x) h =
+        one_passes (hoist out x) (over Load) (hoist_grows out x) (hoist_passes out x h) (λ a w. record { front = w.front; rest = w.rest })
+    hoist_passes out (LoadByte x) h = one_passes (hoist out x) (over LoadByte) (hoist_grows out x) (hoist_passes out x h)
         (λ a w. record { front = w.front; rest = w.rest })
-    lift_passes out (Call f xs) h = made (lift_all out xs) (over_all (Call f)) (lift_all_pass out xs h.1)
+    hoist_passes out (Call f xs) h = made (hoist_all out xs) (over_all (Call f)) (hoist_all_pass out xs h.1)
         (λ a w. record { front = w.front; rest = (h.0, w.rest) })
-    lift_passes out (Service i x) h = one_passes (lift out x) (over (Service i)) (lift_grows out x) (lift_passes out x h.1)
+    hoist_passes out (Service i x) h = one_passes (hoist out x) (over (Service i)) (hoist_grows out x) (hoist_passes out x h.1)
         (λ a w. record { front = w.front; rest = (h.0, w.rest) })
-    lift_passes out (After s x) h = in_turn_pass (lift out x) (linear out s) (λ a p. behind p a) (lift_grows out x)
-        (linear_grows out s) (lift_passes out x h.1) (linear_passes out s h.0) (λ a p w l. behind_passes p a l.part w)
+    hoist_passes out (After s x) h = in_turn_pass (hoist out x) (linear out s) (λ a p. behind p a) (hoist_grows out x)
+        (linear_grows out s) (hoist_passes out x h.1) (linear_passes out s h.0) (λ a p w l. behind_passes p a l.part w)
 
-    lift_all_pass : (out : ℕ → ℕ) (xs : Txs) → TxsPass Passes xs → Keeps ArgumentsPass (lift_all out xs)
-    lift_all_pass out no_txs h = given (record { front = tt; rest = tt })
-    lift_all_pass out (tx x xs) h =
-        next (lift_all out xs) (λ all. word (lift out x) >>= (λ a. argument a all)) (growing.lift_all_grows out xs)
-        (λ all. growing.next (word (lift out x)) (λ a. argument a all) (word_grows (lift out x) (lift_grows out x)) (λ a. argument_grows a all))
-        (lift_all_pass out xs h.1) (λ all l.
-        next (word (lift out x)) (λ a. argument a all) (word_grows (lift out x) (lift_grows out x)) (λ a. argument_grows a all)
-        (word_passes (lift out x) (lift_grows out x) (lift_passes out x h.0)) (λ a w. argument_passes a all w l))
+    hoist_all_pass : (out : ℕ → ℕ) (xs : Txs) → TxsPass Passes xs → Keeps ArgumentsPass (hoist_all out xs)
+    hoist_all_pass out no_txs h = given (record { front = tt; rest = tt })
+    hoist_all_pass out (tx x xs) h =
+        next (hoist_all out xs) (λ all. word (hoist out x) >>= (λ a. argument a all)) (growing.hoist_all_grows out xs)
+        (λ all. growing.next (word (hoist out x)) (λ a. argument a all) (word_grows (hoist out x) (hoist_grows out x)) (λ a. argument_grows a all))
+        (hoist_all_pass out xs h.1) (λ all l.
+        next (word (hoist out x)) (λ a. argument a all) (word_grows (hoist out x) (hoist_grows out x)) (λ a. argument_grows a all)
+        (word_passes (hoist out x) (hoist_grows out x) (hoist_passes out x h.0)) (λ a w. argument_passes a all w l))
 
     condition_passes : (out : ℕ → ℕ) (c : Cond) → CondPasses Passes c → Keeps TestedPasses (condition out c)
-    condition_passes out (Compare rel x y) h = two_pass (lift out x) (lift out y) (compared (Compare rel)) (lift_grows out x)
-        (lift_grows out y) (lift_passes out x h.0) (lift_passes out y h.1) (λ a t. record { front = t.front; condition = (t.left, t.right) })
+    condition_passes out (Compare rel x y) h = two_pass (hoist out x) (hoist out y) (compared (Compare rel)) (hoist_grows out x)
+        (hoist_grows out y) (hoist_passes out x h.0) (hoist_passes out y h.1) (λ a t. record { front = t.front; condition = (t.left, t.right) })
     condition_passes out (Not c) h = made (condition out c) opposite (condition_passes out c h) (λ t l. record { front = l.front; condition = l.condition })
     condition_passes out (Both c d) h = in_turn_pass (condition out d) (condition out c) (λ u t. joined Both t u)
         (condition_grows out d) (condition_grows out c) (condition_passes out d h.1) (condition_passes out c h.0) (λ u t l m. both_pass t u m l)
@@ -220,8 +221,8 @@ module _ (allowed : Named → Bool) (from top : ℕ) (drawn : AllowsDrawn allowe
         (condition_grows out d) (condition_grows out c) (condition_passes out d h.1) (condition_passes out c h.0) (λ u t l m. either_passes t u m l)
 
     leave_passes : (out : ℕ → ℕ) (w : Bool) (k : ℕ) (c : Cond) → CondPasses Passes c → Keeps PartPasses (leave out w k c)
-    leave_passes out w k (Compare rel x y) h = two_pass (lift out x) (lift out y) (λ ab. exit_where w k (compared (Compare rel) ab))
-        (lift_grows out x) (lift_grows out y) (lift_passes out x h.0) (lift_passes out y h.1)
+    leave_passes out w k (Compare rel x y) h = two_pass (hoist out x) (hoist out y) (λ ab. exit_where w k (compared (Compare rel) ab))
+        (hoist_grows out x) (hoist_grows out y) (hoist_passes out x h.0) (hoist_passes out y h.1)
         (λ a t. exit_passes w k (compared (Compare rel) a) (record { front = t.front; condition = (t.left, t.right) }))
     leave_passes out true k (Not c) h = leave_passes out false k c h
     leave_passes out false k (Not c) h = leave_passes out true k c h
@@ -242,15 +243,15 @@ module _ (allowed : Named → Bool) (from top : ℕ) (drawn : AllowsDrawn allowe
         (λ q p l m. block_passes (p before q) (before_passes p q m l))
 
     linear_passes : (out : ℕ → ℕ) (s : Ts) → TsPasses Passes s → Keeps PartPasses (linear out s)
-    linear_passes out (Move i x) h = made (lift out x) (with_one (λ v. assigning i (Move i v))) (lift_passes out x h.1)
+    linear_passes out (Move i x) h = made (hoist out x) (with_one (λ v. assigning i (Move i v))) (hoist_passes out x h.1)
         (λ a w. record { part = first_then_passes a.front.statement (Move i a.rest) w.front (h.0, w.rest) })
-    linear_passes out (Store x y) h = two_pass (lift out x) (lift out y) (with_two Store) (lift_grows out x) (lift_grows out y)
-        (lift_passes out x h.0) (lift_passes out y h.1)
+    linear_passes out (Store x y) h = two_pass (hoist out x) (hoist out y) (with_two Store) (hoist_grows out x) (hoist_grows out y)
+        (hoist_passes out x h.0) (hoist_passes out y h.1)
         (λ a t. record { part = first_then_passes a.front.statement (Store a.left a.right) t.front (t.left, t.right) })
-    linear_passes out (StoreByte x y) h = two_pass (lift out x) (lift out y) (with_two StoreByte) (lift_grows out x)
-        (lift_grows out y) (lift_passes out x h.0) (lift_passes out y h.1)
+    linear_passes out (StoreByte x y) h = two_pass (hoist out x) (hoist out y) (with_two StoreByte) (hoist_grows out x)
+        (hoist_grows out y) (hoist_passes out x h.0) (hoist_passes out y h.1)
         (λ a t. record { part = first_then_passes a.front.statement (StoreByte a.left a.right) t.front (t.left, t.right) })
-    linear_passes out (Do x) h = made (lift out x) (with_one dropped) (lift_passes out x h)
+    linear_passes out (Do x) h = made (hoist out x) (with_one dropped) (hoist_passes out x h)
         (λ a w. record { part = first_then_passes a.front.statement (dropped a.rest).statement w.front (dropped_passes a.rest w.rest) })
     linear_passes out (If c s t) h =
         choose_passes (is_whole c) _ _
@@ -269,8 +270,8 @@ module _ (allowed : Named → Bool) (from top : ℕ) (drawn : AllowsDrawn allowe
     linear_passes out (Break k) h = given (record { part = tt })
     linear_passes out (Fault i) h = given (record { part = h })
     linear_passes out (Seq ss) h = made (linear_all out ss) in_turn (linear_all_pass out ss h) (λ all l. record { part = l.list })
-    linear_passes out (Return x) h = one_passes (lift out x) (with_one (λ v. still (Return v))) (lift_grows out x)
-        (lift_passes out x h) (λ a w. record { part = first_then_passes a.front.statement (Return a.rest) w.front w.rest })
+    linear_passes out (Return x) h = one_passes (hoist out x) (with_one (λ v. still (Return v))) (hoist_grows out x)
+        (hoist_passes out x h) (λ a w. record { part = first_then_passes a.front.statement (Return a.rest) w.front w.rest })
 
     linear_all_pass : (out : ℕ → ℕ) (ss : Stms) → StmsPass Passes ss → Keeps PartsPass (linear_all out ss)
     linear_all_pass out no_stms h = given (record { list = tt })

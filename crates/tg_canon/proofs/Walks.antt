@@ -6,7 +6,7 @@ use Rattle.tg_tree.specs.declared.trees.Ts.{Ts as CodeTs}
 use Rattle.tg_tree.specs.glue.Plain.{plain_tx, plain_ts}
 use Rattle.tg_tree.specs.glue.Lists.{txs_of, stms_of}
 use Rattle.tg_canon.specs.mirror.Drawing.{Draws, give, ◌>>=◌, DrawsFrom}
-use Rattle.tg_canon.specs.mirror.Canon.{Part, Parts, no_parts, in_front, Hoisted, Arguments, no_arguments, word, argument, lift, lift_all, linear, linear_all}
+use Rattle.tg_canon.specs.mirror.Canon.{Part, Parts, no_parts, in_front, Hoisted, Arguments, no_arguments, word, argument, hoist, hoist_all, linear, linear_all}
 use Rattle.tg_canon.proofs.Steps.{given, on, ends, same}
 
 -- all are those that are left and then these, of which this was drawn
@@ -44,7 +44,7 @@ abbrev pub StatementsWalked : (out : ℕ → ℕ) → (whole : List CodeTs) → 
 StatementsWalked out whole k left all l = Walked stms_of (linear_all out) whole k left all l
 
 abbrev pub ArgumentsWalked : (out : ℕ → ℕ) → (whole : List CodeTx) → (before : ℕ) → (left : List CodeTx) → Arguments → (after : ℕ) → Type 0
-ArgumentsWalked out whole k left all l = Walked txs_of (lift_all out) whole k left all l
+ArgumentsWalked out whole k left all l = Walked txs_of (hoist_all out) whole k left all l
 
 pub statements_begin : (out : ℕ → ℕ) (ss : List CodeTs) {k : ℕ} {all : Parts} → all ≡ no_parts → StatementsWalked out ss k ss all k
 statements_begin out ss e = begins ss (same (given _ _) e)
@@ -59,7 +59,7 @@ pub arguments_begin : (out : ℕ → ℕ) (xs : List CodeTx) {k : ℕ} {all : Ar
 arguments_begin out xs e = begins xs (same (given _ _) e)
 
 pub argument_more : (out : ℕ → ℕ) {whole old left : List CodeTx} (x : CodeTx) {k l m n : ℕ} {all more : Arguments} {a : Hoisted} →
-    ArgumentsWalked out whole k old all l → old ≡ left ++ x ∷ [] → DrawsFrom (word (lift out (plain_tx x))) l a m →
+    ArgumentsWalked out whole k old all l → old ≡ left ++ x ∷ [] → DrawsFrom (word (hoist out (plain_tx x))) l a m →
     DrawsFrom (argument a all) m more n → ArgumentsWalked out whole k left more n
 argument_more out x {all = all} w e g h =
-    goes_on x w e (on (λ rest. word (lift out (plain_tx x)) >>= λ a. argument a rest) w.gives (on (λ a. argument a all) g h))
+    goes_on x w e (on (λ rest. word (hoist out (plain_tx x)) >>= λ a. argument a rest) w.gives (on (λ a. argument a all) g h))

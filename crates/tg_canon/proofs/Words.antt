@@ -115,7 +115,7 @@ both_nothing s t p q = ap (λ b. is_nothing (if b then t else if is_nothing t th
 
 module _ (z : Scene) where
   -- what is hoisted of an expression; a word
-  pub record LiftIs (out : ℕ → ℕ) (x : Tx) (from : ℕ) (a : Hoisted) (to : ℕ) : Type 1 where
+  pub record HoistIs (out : ℕ → ℕ) (x : Tx) (from : ℕ) (a : Hoisted) (to : ℕ) : Type 1 where
     pub split : IsSplit z out (tree_value z x) (spare a.rest) a.front (mixed_value z a.rest) from to
     pub side : IsFlatOrEffect a.rest
     pub none : is_flat x ≡ true → is_nothing a.front.statement ≡ true
@@ -138,7 +138,7 @@ module _ (z : Scene) where
     pub room : takes a.front.statement + expression_needs in_canonical a.rest + holdable z.own a.rest + to ≤ expression_needs in_trees x + from
     pub grows : from ≤ to
 
-  module _ (out : ℕ → ℕ) (x : Tx) (from : ℕ) (a : Hoisted) (to : ℕ) (above : z.own ≤ from) (l : LiftIs out x from a to) where
+  module _ (out : ℕ → ℕ) (x : Tx) (from : ℕ) (a : Hoisted) (to : ℕ) (above : z.own ≤ from) (l : HoistIs out x from a to) where
     effect_word : (d : Drawn Hoisted) (b : Bool) → is_effect a.rest ≡ b → d ≡ hold_effect b a to →
         WordIs out x from (hold_effect b a to).it (hold_effect b a to).next
     effect_word d false e p = record {

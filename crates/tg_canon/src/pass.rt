@@ -41,8 +41,8 @@ fn descend(height: u32) -> Result<u32, Memory>
 
 // What is hoisted out of an expression, and what is left of it.
 #[cycle(canon)]
-fn lift(x: Tx, supply: &mut Supply, breaks: &Breaks, height: u32) -> Result<Hoisted, Memory>
-    ensures { IfOk result (λ a. DrawsFrom (canon.lift (leads breaks.now) (plain_tx x))
+fn hoist(x: Tx, supply: &mut Supply, breaks: &Breaks, height: u32) -> Result<Hoisted, Memory>
+    ensures { IfOk result (λ a. DrawsFrom (canon.hoist (leads breaks.now) (plain_tx x))
         supply.old.next (plain_hoisted a) supply.new.next) }
 {
     let lower = descend(height)?;
@@ -53,27 +53,27 @@ fn lift(x: Tx, supply: &mut Supply, breaks: &Breaks, height: u32) -> Result<Hois
         Tx::FrameAddress => Ok(whole(supply.alloc, Tx::FrameAddress)),
         Tx::Binary(op, x, y) => {
             let (x, y) = (Box::into_inner(x), Box::into_inner(y));
-            let both = lift_both(x, y, supply, breaks, lower)?;
+            let both = hoist_both(x, y, supply, breaks, lower)?;
             Ok(operate(supply.alloc, op, both)?)
         }
         Tx::Load(x) => {
-            let a = lift_word(Box::into_inner(x), supply, breaks, lower)?;
+            let a = hoist_word(Box::into_inner(x), supply, breaks, lower)?;
             Ok(load_from(supply.alloc, a)?)
         }
         Tx::LoadByte(x) => {
-            let a = lift_word(Box::into_inner(x), supply, breaks, lower)?;
+            let a = hoist_word(Box::into_inner(x), supply, breaks, lower)?;
             Ok(load_byte_from(supply.alloc, a)?)
         }
         Tx::Call(label, xs) => {
-            let all = lift_all(xs, supply, breaks, lower)?;
+            let all = hoist_all(xs, supply, breaks, lower)?;
             Ok(call_of(label, all))
         }
         Tx::Service(number, x) => {
-            let a = lift_word(Box::into_inner(x), supply, breaks, lower)?;
+            let a = hoist_word(Box::into_inner(x), supply, breaks, lower)?;
             Ok(serve(supply.alloc, number, a)?)
         }
         Tx::After(s, x) => {
-            let a = lift(Box::into_inner(x), supply, breaks, lower)?;
+            let a = hoist(Box::into_inner(x), supply, breaks, lower)?;
             let p = linear(Box::into_inner(s), supply, breaks, lower)?;
             Ok(behind(supply.alloc, p, a)?)
         }
@@ -82,18 +82,18 @@ fn lift(x: Tx, supply: &mut Supply, breaks: &Breaks, height: u32) -> Result<Hois
 
 // The same, as a word.
 #[cycle(canon)]
-fn lift_word(x: Tx, supply: &mut Supply, breaks: &Breaks, height: u32) -> Result<Hoisted, Memory>
-    ensures { IfOk result (λ a. DrawsFrom (canon.word (canon.lift (leads breaks.now) (plain_tx x)))
+fn hoist_word(x: Tx, supply: &mut Supply, breaks: &Breaks, height: u32) -> Result<Hoisted, Memory>
+    ensures { IfOk result (λ a. DrawsFrom (canon.word (canon.hoist (leads breaks.now) (plain_tx x)))
         supply.old.next (plain_hoisted a) supply.new.next) }
 {
     let lower = descend(height)?;
-    let a = lift(x, supply, breaks, lower)?;
+    let a = hoist(x, supply, breaks, lower)?;
     Ok(word(supply, a)?)
 }
 
 // Two words side by side, the right one hoisted first: this is no walk of its own into a part.
 #[cycle(canon)]
-fn lift_both(
+fn hoist_both(
     left: Tx,
     right: Tx,
     supply: &mut Supply,
@@ -104,27 +104,27 @@ fn lift_both(
         (canon.operands (leads breaks.now) (plain_tx left) (plain_tx right))
         supply.old.next (plain_two both) supply.new.next) }
 {
-    let b = lift_word(right, supply, breaks, height)?;
-    let a = lift_word(left, supply, breaks, height)?;
+    let b = hoist_word(right, supply, breaks, height)?;
+    let a = hoist_word(left, supply, breaks, height)?;
     Ok(side_by_side(supply, a, b)?)
 }
 
 // A call's arguments, from the last to the first.
 #[cycle(canon)]
-fn lift_all(
+fn hoist_all(
     mut xs: Txs,
     supply: &mut Supply,
     breaks: &Breaks,
     height: u32,
 ) -> Result<Arguments, Memory>
-    ensures { IfOk result (λ all. DrawsFrom (canon.lift_all (leads breaks.now)
+    ensures { IfOk result (λ all. DrawsFrom (canon.hoist_all (leads breaks.now)
         (txs_of xs.items.items))
         supply.old.next (plain_arguments all) supply.new.next) }
 {
     let lower = descend(height)?;
     let mut all = no_arguments(supply.alloc);
     while let Some(x) = xs.items.pop() {
-        let a = lift_word(x, supply, breaks, lower)?;
+        let a = hoist_word(x, supply, breaks, lower)?;
         all = argument(supply, a, all)?;
     }
     Ok(all)
@@ -145,7 +145,7 @@ fn condition(
     match test {
         Cond::Compare(rel, x, y) => {
             let (x, y) = (Box::into_inner(x), Box::into_inner(y));
-            let both = lift_both(x, y, supply, breaks, lower)?;
+            let both = hoist_both(x, y, supply, breaks, lower)?;
             Ok(compare_both(supply.alloc, rel, both)?)
         }
         Cond::Not(c) => {
@@ -183,7 +183,7 @@ fn leave(
     match test {
         Cond::Compare(rel, x, y) => {
             let (x, y) = (Box::into_inner(x), Box::into_inner(y));
-            let both = lift_both(x, y, supply, breaks, lower)?;
+            let both = hoist_both(x, y, supply, breaks, lower)?;
             let t = compare_both(supply.alloc, rel, both)?;
             Ok(t.exit_where(supply.alloc, when, loops)?)
         }
@@ -228,19 +228,19 @@ fn linear(s: Ts, supply: &mut Supply, breaks: &Breaks, height: u32) -> Result<Pa
     let lower = descend(height)?;
     match s {
         Ts::Move(temp, x) => {
-            let a = lift(x, supply, breaks, lower)?;
+            let a = hoist(x, supply, breaks, lower)?;
             Ok(move_to(supply.alloc, temp, a)?)
         }
         Ts::Store(x, y) => {
-            let both = lift_both(x, y, supply, breaks, lower)?;
+            let both = hoist_both(x, y, supply, breaks, lower)?;
             Ok(store(supply.alloc, both)?)
         }
         Ts::StoreByte(x, y) => {
-            let both = lift_both(x, y, supply, breaks, lower)?;
+            let both = hoist_both(x, y, supply, breaks, lower)?;
             Ok(store_byte(supply.alloc, both)?)
         }
         Ts::Do(x) => {
-            let a = lift(x, supply, breaks, lower)?;
+            let a = hoist(x, supply, breaks, lower)?;
             Ok(drop_value(supply.alloc, a)?)
         }
         Ts::If(test, this, other) => {
@@ -275,7 +275,7 @@ fn linear(s: Ts, supply: &mut Supply, breaks: &Breaks, height: u32) -> Result<Pa
             Ok(all.in_turn())
         }
         Ts::Return(x) => {
-            let a = lift_word(x, supply, breaks, lower)?;
+            let a = hoist_word(x, supply, breaks, lower)?;
             Ok(return_of(supply.alloc, a)?)
         }
     }

@@ -125,13 +125,13 @@ compiles_whole rule notes body functions literals codes ps all text tree apart j
 
 -- a function with such canonical statements, cut into blocks that are laid in traces
 abbrev with_statements : Function Ts → Drawn Stms → Function (List Linear)
-with_statements f lifted = record {
+with_statements f hoisted = record {
   label = f.label;
   params = f.params;
   slots = f.slots;
-  temps = lifted.next;
+  temps = hoisted.next;
   out = f.out;
-  body = traced (blocks_of lifted.it);
+  body = traced (blocks_of hoisted.it);
 }
 
 -- canonical statements, blocks and traces give flat code
@@ -139,12 +139,12 @@ pub flattens : (frame new : Frame) (body : Ts) (statements : Stms) (blocks : Lis
     DrawsFrom (linearized body) frame.temps statements new.temps →
     new.label ≡ frame.label → new.params ≡ frame.params → new.slots ≡ frame.slots → new.out ≡ frame.out → blocks ≡ blocks_of statements → flat ≡ traced blocks →
     plain_function new flat ≡ flattened (plain_function frame body)
-flattens frame new body statements blocks flat lifted label params slots out cut laid =
+flattens frame new body statements blocks flat hoisted label params slots out cut laid =
     let one : Function (List Linear) = plain_function new flat in
     let lines : flat ≡ traced (blocks_of statements) = laid ∙ ap traced cut in
     let named : one ≡ with_statements (plain_function frame body) (record { it = statements; next = new.temps }) =
     λ i. record { label = (label i).0; params = params i; slots = slots i; temps = new.temps; out = out i; body = lines i } in
-    named ∙ ap (λ (d : Drawn Stms). with_statements (plain_function frame body) d) (sym lifted.is)
+    named ∙ ap (λ (d : Drawn Stms). with_statements (plain_function frame body) d) (sym hoisted.is)
 
 flat_label : (f : Function Ts) → (flattened f).label ≡ f.label
 flat_label f = refl

@@ -48,10 +48,10 @@ names_ignore_operands p =
 
 -- the law of all passes
 pub names_no_more : canon.NamesStay → trace.NamesStay → munch.NamesStay → AllocationsKeepTests → CodeNamesNoMore
-names_no_more lifts lays picks keeps p temps zeros f h rule a c =
-    let lifted = linearized f.body f.temps in
-    let canonical = lifts p f.body f.temps h (λ i low high. temps i) in
-    let flat = lays p lifted.it zeros canonical in
+names_no_more hoists lays picks keeps p temps zeros f h rule a c =
+    let hoisted = linearized f.body f.temps in
+    let canonical = hoists p f.body f.temps h (λ i low high. temps i) in
+    let flat = lays p hoisted.it zeros canonical in
     let P : List Instr → Type 0 = λ code. IsTrue (list_all (names_allowed p) code) in
     keeps rule c.code c.frame a c.allocation (names_allowed p) (names_ignore_operands p)
     (subst P (sym c.chooses.list) (picks p (flattened f) flat))

@@ -90,15 +90,15 @@ all_below n xs h (constant k) c = refl
 flat_marked : GivesClosed → trace.BlocksAreWhole → trace.CodeIsWellMarked → (f : Function Ts) → IsClosed f.body →
     IsWellMarked (flattened f).body
 flat_marked closed whole marked f h =
-    let lifted = linearized f.body f.temps in
-    marked (blocks_of lifted.it) (whole lifted.it (closed f.body f.temps h))
+    let hoisted = linearized f.body f.temps in
+    marked (blocks_of hoisted.it) (whole hoisted.it (closed f.body f.temps h))
 
 flat_drawn : TempsStay → trace.NamesStay → (f : Function Ts) → HasItsTemps names f →
     HasItsTemps (λ e. named_flat e []) (flattened f)
 flat_drawn stay kept f h i c =
-    let lifted = linearized f.body f.temps in
-    let below = all_below lifted.next (named_stms lifted.it []) (stay f.body f.temps h) in
-    ltb-true i lifted.next (kept (is_below lifted.next) lifted.it refl below (temporary i) c)
+    let hoisted = linearized f.body f.temps in
+    let below = all_below hoisted.next (named_stms hoisted.it []) (stay f.body f.temps h) in
+    ltb-true i hoisted.next (kept (is_below hoisted.next) hoisted.it refl below (temporary i) c)
 
 pub flat_code : GivesClosed → TempsStay → trace.BlocksAreWhole → trace.CodeIsWellMarked → trace.NamesStay →
     FlatCodeIsWellMarked

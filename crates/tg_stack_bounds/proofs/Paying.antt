@@ -42,7 +42,7 @@ use Rattle.tg_translate_laws.proofs.Spreading.{less_ts, given_back_most}
 use Rattle.tg_translate_laws.proofs.Sizing.{most_arguments, made_length, made_needs, place_length, place_needs, held_length, held_needs, followed_size}
 use Rattle.tg_translate_laws.proofs.Sizing.{put_size, dropped_size, test_size, statement_size, deliver_size, behind_size, tested_size, chosen_size}
 use Rattle.tg_translate_laws.proofs.Sizing.{own_place_size, read_size, store_size, operand_size, read_held_size, field_size, element_size, routine_size}
-use Rattle.tg_translate_laws.proofs.Sizing.{comparison_size, binary_size, product_size, divide_size, quotient_size, count_size, lifted_at_most}
+use Rattle.tg_translate_laws.proofs.Sizing.{comparison_size, binary_size, product_size, divide_size, quotient_size, count_size, hoisted_at_most}
 use Rattle.tg_translate_laws.proofs.Sizing.{arguments_at_most}
 use Rattle.tg_stack_bounds.proofs.Leading.{LevelTable, Keeps, Crosses}
 use Rattle.tg_stack_bounds.proofs.Giving.{Gives, bind, then_quiet, given, weaken, any_fresh, any_arms, any_declared, IsPaidBody}
@@ -379,7 +379,7 @@ module _ (table : LevelTable) where
   callee_paid n c most at xs (Some callee) h l p =
       let e = h callee refl in
       let k = frame_out_size c.link_in_slot (c.level - callee.level) in
-      let j = lifted_at_most (are_flat xs) in
+      let j = hoisted_at_most (are_flat xs) in
       let i = arguments_at_most xs in
       (omega (arith, e, l, k.0, j, i, p.0), omega (arith, e, l, k.1, p.1))
   callee_paid n c most at xs None h l p = (omega arith, omega arith)

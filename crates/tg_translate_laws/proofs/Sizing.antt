@@ -70,9 +70,9 @@ abbrev pub place_needs : Storage → ℕ
 place_needs (in_temp t) = 0
 place_needs (at_address ss a) = stms_needs ss + tx_needs a
 
-pub lifted_at_most : (b : Bool) → hoisted_units Trees b ≤ 2
-lifted_at_most true = omega arith
-lifted_at_most false = omega arith
+pub hoisted_at_most : (b : Bool) → hoisted_units Trees b ≤ 2
+hoisted_at_most true = omega arith
+hoisted_at_most false = omega arith
 
 joined_at_most : (b : Bool) → joined_units Trees b ≤ 31
 joined_at_most true = omega arith
@@ -95,7 +95,7 @@ joined_size (tx y xs) x = let h = joined_size xs x in (omega (arith, h.0), omega
 
 pub arguments_at_most : (xs : Txs) → txs_length xs ≤ most_arguments xs
 arguments_at_most no_txs = omega arith
-arguments_at_most (tx x xs) = let h = arguments_at_most xs in let k = lifted_at_most (are_flat xs) in omega (arith, h, k)
+arguments_at_most (tx x xs) = let h = arguments_at_most xs in let k = hoisted_at_most (are_flat xs) in omega (arith, h, k)
 
 -- What is made, as its place wants it.
 
@@ -214,9 +214,9 @@ pub store_size : (ss : Stms) (a x : Tx) →
     (ts_length (store_at ss a x) ≤ stms_length ss + (tx_length a + (tx_length x + 3))) ×
     (ts_needs (store_at ss a x) ≤ stms_needs ss + (tx_needs a + tx_needs x)) ×
     (ts_depth (store_at ss a x) ≤ max (stms_depth ss) (max (tx_depth a) (tx_depth x)) + 2)
-store_size no_stms a x = let h = lifted_at_most (is_flat x) in (omega (arith, h), omega arith, omega arith)
+store_size no_stms a x = let h = hoisted_at_most (is_flat x) in (omega (arith, h), omega arith, omega arith)
 store_size (stm s ss) a x =
-    let h = lifted_at_most (is_flat x) in
+    let h = hoisted_at_most (is_flat x) in
     let k = followed_size (stm s ss) (Store a x) in
     (omega (arith, h, k.0), omega (arith, k.1), omega (arith, k.2))
 
@@ -335,7 +335,7 @@ routine_size one xs = let h = arguments_at_most xs in (omega (arith, h), omega a
 pub make_array_size : (x y : Tx) →
     (tx_length (make_array x y) ≤ tx_length x + (tx_length y + 16)) × (tx_needs (make_array x y) ≤ tx_needs x + (tx_needs y + 7)) ×
     (tx_depth (make_array x y) ≤ max (tx_depth x) (tx_depth y) + 1)
-make_array_size x y = let h = lifted_at_most (are_flat (tx y no_txs)) in (omega (arith, h), omega arith, omega arith)
+make_array_size x y = let h = hoisted_at_most (are_flat (tx y no_txs)) in (omega (arith, h), omega arith, omega arith)
 
 -- Operators.
 
@@ -343,12 +343,12 @@ pub comparison_size : (o : Op) (of_strings : Bool) (x y : Tx) →
     (cond_length (comparison o of_strings x y) ≤ tx_length x + (tx_length y + 22)) ×
     (cond_needs (comparison o of_strings x y) ≤ tx_needs x + (tx_needs y + 15)) ×
     (cond_depth (comparison o of_strings x y) ≤ max (tx_depth x) (tx_depth y) + 2)
-comparison_size o true x y = let h = lifted_at_most (are_flat (tx y no_txs)) in (omega (arith, h), omega arith, omega arith)
-comparison_size o false x y = let h = lifted_at_most (is_flat y) in (omega (arith, h), omega arith, omega arith)
+comparison_size o true x y = let h = hoisted_at_most (are_flat (tx y no_txs)) in (omega (arith, h), omega arith, omega arith)
+comparison_size o false x y = let h = hoisted_at_most (is_flat y) in (omega (arith, h), omega arith, omega arith)
 
 pub binary_size : (x y : Tx) →
     (tx_length (Binary bin.AddTrap x y) ≤ tx_length x + (tx_length y + 3)) × (tx_length (Binary bin.SubTrap x y) ≤ tx_length x + (tx_length y + 3))
-binary_size x y = let h = lifted_at_most (is_flat y) in (omega (arith, h), omega (arith, h))
+binary_size x y = let h = hoisted_at_most (is_flat y) in (omega (arith, h), omega (arith, h))
 
 product_check_size : (p : ℕ) (l r : Operand) →
     (ts_length (product_check (operand l) (operand r) (Temp p)) ≤ tx_length (operand l) + (tx_length (operand r) + 34)) ×
@@ -398,7 +398,7 @@ quotient_check_size (Kept t) (Kept u) = (omega arith, omega arith, omega arith)
 pub divide_size : (x y : Tx) → (tx_length (Binary bin.Div x y) ≤ tx_length x + (tx_length y + 4)) ×
     (tx_needs (Binary bin.Div x y) ≤ tx_needs x + (tx_needs y + 2)) ×
     (tx_depth (Binary bin.Div x y) ≤ max (tx_depth x) (tx_depth y) + 1)
-divide_size x y = let h = lifted_at_most (is_flat y) in (omega (arith, h), omega arith, omega arith)
+divide_size x y = let h = hoisted_at_most (is_flat y) in (omega (arith, h), omega arith, omega arith)
 
 divided_size : (l r : Operand) →
     (tx_length (Binary bin.Div (operand l) (operand r)) ≤ tx_length (operand l) + (tx_length (operand r) + 2)) ×
@@ -430,7 +430,7 @@ negated_size k false = (omega arith, omega arith, omega arith)
 
 minus_size : (x : Tx) → (tx_length (Binary bin.SubTrap (Const 0) x) ≤ tx_length x + 5) × (tx_needs (Binary bin.SubTrap (Const 0) x) ≤ tx_needs x + 4) ×
     (tx_depth (Binary bin.SubTrap (Const 0) x) ≤ tx_depth x + 2)
-minus_size x = let h = lifted_at_most (is_flat x) in (omega (arith, h), omega arith, omega arith)
+minus_size x = let h = hoisted_at_most (is_flat x) in (omega (arith, h), omega arith, omega arith)
 
 pub negation_size : (x : Tx) → (tx_length (negation x) ≤ tx_length x + 5) × (tx_needs (negation x) ≤ tx_needs x + 4) ×
     (tx_depth (negation x) ≤ tx_depth x + 2)
@@ -486,7 +486,7 @@ pub declared_size : (c : Within) (xs : Txs) (callee : Option Callee) → c.level
     (tx_depth (call_declared c xs callee) ≤ max 65 (txs_depth xs) + 1)
 declared_size c xs (Some callee) l =
     let h = frame_at_size c callee.level l in
-    let j = lifted_at_most (are_flat xs) in
+    let j = hoisted_at_most (are_flat xs) in
     let k = arguments_at_most xs in
     (omega (arith, h.0, j, k), omega (arith, h.1), omega (arith, h.2))
 declared_size c xs None l = (omega arith, omega arith, omega arith)

@@ -282,42 +282,42 @@ choose false m n = n
 -- The pass. A break of the body that leaves k loops and one more is one out of `out k` and one more
 -- here.
 abbrev mutual
-  pub lift : (out : ℕ → ℕ) → Tx → Draws Hoisted
-  lift out (Const n) = give (whole (Const n))
-  lift out (Address label) = give (whole (Address label))
-  lift out (Temp i) = give (whole (Temp i))
-  lift out FrameAddress = give (whole FrameAddress)
-  lift out (Binary op x y) = do
-    ab ← two_words (lift out x) (lift out y)
+  pub hoist : (out : ℕ → ℕ) → Tx → Draws Hoisted
+  hoist out (Const n) = give (whole (Const n))
+  hoist out (Address label) = give (whole (Address label))
+  hoist out (Temp i) = give (whole (Temp i))
+  hoist out FrameAddress = give (whole FrameAddress)
+  hoist out (Binary op x y) = do
+    ab ← two_words (hoist out x) (hoist out y)
     give (over_two (Binary op) ab)
-  lift out (Load x) = do
-    a ← word (lift out x)
+  hoist out (Load x) = do
+    a ← word (hoist out x)
     give (over Load a)
-  lift out (LoadByte x) = do
-    a ← word (lift out x)
+  hoist out (LoadByte x) = do
+    a ← word (hoist out x)
     give (over LoadByte a)
-  lift out (Call f xs) = do
-    all ← lift_all out xs
+  hoist out (Call f xs) = do
+    all ← hoist_all out xs
     give (over_all (Call f) all)
-  lift out (Service n x) = do
-    a ← word (lift out x)
+  hoist out (Service n x) = do
+    a ← word (hoist out x)
     give (over (Service n) a)
-  lift out (After s x) = do
-    a ← lift out x
+  hoist out (After s x) = do
+    a ← hoist out x
     p ← linear out s
     give (behind p a)
 
-  pub lift_all : (out : ℕ → ℕ) → Txs → Draws Arguments
-  lift_all out no_txs = give no_arguments
-  lift_all out (tx x xs) = do
-    all ← lift_all out xs
-    a ← word (lift out x)
+  pub hoist_all : (out : ℕ → ℕ) → Txs → Draws Arguments
+  hoist_all out no_txs = give no_arguments
+  hoist_all out (tx x xs) = do
+    all ← hoist_all out xs
+    a ← word (hoist out x)
     argument a all
 
   -- a whole condition
   pub condition : (out : ℕ → ℕ) → Cond → Draws Tested
   condition out (Compare rel x y) = do
-    ab ← two_words (lift out x) (lift out y)
+    ab ← two_words (hoist out x) (hoist out y)
     give (compared (Compare rel) ab)
   condition out (Not c) = do
     t ← condition out c
@@ -334,7 +334,7 @@ abbrev mutual
   -- any condition, part by part
   pub leave : (out : ℕ → ℕ) → (when : Bool) → (loops : ℕ) → Cond → Draws Part
   leave out w k (Compare rel x y) = do
-    ab ← two_words (lift out x) (lift out y)
+    ab ← two_words (hoist out x) (hoist out y)
     give (exit_where w k (compared (Compare rel) ab))
   leave out w k (Not c) = leave out (not w) k c
   leave out false k (Both c d) = do
@@ -356,16 +356,16 @@ abbrev mutual
 
   pub linear : (out : ℕ → ℕ) → Ts → Draws Part
   linear out (Move i x) = do
-    a ← lift out x
+    a ← hoist out x
     give (with_one (λ v. assigning i (Move i v)) a)
   linear out (Store x y) = do
-    ab ← two_words (lift out x) (lift out y)
+    ab ← two_words (hoist out x) (hoist out y)
     give (with_two Store ab)
   linear out (StoreByte x y) = do
-    ab ← two_words (lift out x) (lift out y)
+    ab ← two_words (hoist out x) (hoist out y)
     give (with_two StoreByte ab)
   linear out (Do x) = do
-    a ← lift out x
+    a ← hoist out x
     give (with_one dropped a)
   linear out (If c s t) = choose (is_whole c)
       (do
@@ -387,7 +387,7 @@ abbrev mutual
     all ← linear_all out ss
     give (in_turn all)
   linear out (Return x) = do
-    a ← word (lift out x)
+    a ← word (hoist out x)
     give (with_one (λ v. still (Return v)) a)
 
   pub linear_all : (out : ℕ → ℕ) → Stms → Draws Parts
@@ -399,7 +399,7 @@ abbrev mutual
 
 -- two operands as words
 abbrev pub operands : (out : ℕ → ℕ) → (left right : Tx) → Draws Two
-operands out x y = two_words (lift out x) (lift out y)
+operands out x y = two_words (hoist out x) (hoist out y)
 
 -- the statements of a body in canonical form, drawing temporaries from a number on
 abbrev pub statements_of : Ts → Stms

@@ -46,7 +46,7 @@ use Rattle.tg_translate_proof.specs.glue.Shown.{evaluates}
 use Rattle.tg_translate_proof.proofs.state.TranslationStates.{made_in, state_in, after_inv, later_none, later_on, later_value}
 use Rattle.tg_translate_proof.proofs.invariant.Cases.{by_made, source_of, grows_on, value_follows}
 use Rattle.tg_translate_proof.proofs.invariant.Parts.{StatesGrow, more, paid, extends_on, ready_part}
-use Rattle.tg_translate_proof.proofs.expressions.BinarySides.{lifted_small}
+use Rattle.tg_translate_proof.proofs.expressions.BinarySides.{hoisted_small}
 use Rattle.tg_translate_proof.proofs.state.ValueWords.{stands_fit, fits_has_values}
 use Rattle.tg_translate_proof.proofs.expressions.LValueAddress.{IsAt, is_at_grows, AddressIs, Premises, PlaceSituation, PlaceShown, place_source, locates}
 use Rattle.tg_translate_proof.proofs.expressions.LValueAccess.{write_at}
@@ -275,7 +275,7 @@ module _ (P : Program) (set : Setting P) (premises : Premises P) (grow : StatesG
           let source : Run Source = rest_run (locates P v x.p.env evaluated x.out) x.s in
           let stores : ℕ → Go ℕ = λ u z w2 t2. with_memory (store w2.memory u z) w2 (λ w3. next w3 t2) in
           let go' : Go ℕ = λ u w1 t1. value_runs P x.p y x.p.around (stores u) w1 t1 in
-          let small = lifted_small (is_flat y) in
+          let small = hoisted_small (is_flat y) in
           let to_end : Later s1 x.τ = later_on s1 s2 x.τ l2 (later_on s2 s3 x.τ l3 l34) in
           let place = place_at P set premises grow n sp v e show_v show_e x (at_address b a) s1 made to_end in
           store_runs P x.p (x.r + 256) n source hd.before (held_address hd.address) y next x.w x.t

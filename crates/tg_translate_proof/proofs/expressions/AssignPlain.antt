@@ -37,7 +37,7 @@ use Rattle.tg_translate_proof.specs.glue.Shown.{Shown, IsShown, Situation, Follo
 use Rattle.tg_translate_proof.proofs.state.TranslationStates.{made_in, state_in, after_inv, later_none, later_on, later_value}
 use Rattle.tg_translate_proof.proofs.invariant.Cases.{by_made, source_of, worked, grows_none, grows_on}
 use Rattle.tg_translate_proof.proofs.invariant.Parts.{StatesGrow, Piece, Moment, Behind, more, paid, extends_none, extends_on, sub_value, sub_arm, ready_part}
-use Rattle.tg_translate_proof.proofs.expressions.BinarySides.{lifted_small}
+use Rattle.tg_translate_proof.proofs.expressions.BinarySides.{hoisted_small}
 use Rattle.tg_translate_proof.proofs.state.ValueWords.{stands_fit, fits_has_values}
 use Rattle.tg_translate_proof.proofs.state.Keys.{some_same}
 use Rattle.tg_translate_proof.proofs.state.HomeWrites.{temp_written}
@@ -153,7 +153,7 @@ module _ (P : Program) (set : Setting P) (premises : Premises P) (grow : StatesG
         let source : Run Source = rest_run (locates P v x.p.env with_location x.out) x.s in
         let stores : ℕ → Go ℕ = λ u z w2 t2. with_memory (store w2.memory u z) w2 (λ w3. next w3 t2) in
         let go' : Go ℕ = λ u w1 t1. value_runs P x.p y x.p.around (stores u) w1 t1 in
-        let small = lifted_small (is_flat y) in
+        let small = hoisted_small (is_flat y) in
         store_runs P x.p (x.r + 256) n source before a y next x.w x.t
         (more P (x.r + 150 + j) (x.r + 256) n source (statements_run P x.p before x.p.around (λ w1 t1. charged j (value_runs P x.p a x.p.around go' w1 t1)) x.w x.t) (omega (arith, small))
         (follows j go'

@@ -46,7 +46,7 @@ use Rattle.tg_translate_proof.proofs.invariant.Cases.{by_made, wanted_of, worked
 use Rattle.tg_translate_proof.proofs.expressions.BinaryLeft.{LeftSide, plain_left, binary_by}
 use Rattle.tg_translate_proof.proofs.invariant.Parts.{StatesGrow, more, paid, stop_follows}
 use Rattle.tg_translate_proof.proofs.state.ValueWords.{stands_int, int_has_values}
-use Rattle.tg_translate_proof.proofs.expressions.BinarySides.{Sides, sides_of, sides_follow, lifted_small}
+use Rattle.tg_translate_proof.proofs.expressions.BinarySides.{Sides, sides_of, sides_follow, hoisted_small}
 use Rattle.tg_translate_proof.proofs.expressions.BinaryPlusMinus.{within_small, piece_a, piece_b}
 use Rattle.tg_translate_proof.proofs.invariant.HeldOperands.{OperandIs, operand_follows}
 use Rattle.tg_translate_proof.proofs.expressions.Let.{joined_runs}
@@ -125,7 +125,7 @@ module _ (P : Program) (set : Setting P) (grow : StatesGrow P) where
       FollowsHere P (q + 7) n (rest_run (ends (ended by_overflow)) s) (statement_runs P p overflow p.around next w t)
   overflow_follows p q n s next w t input =
       let c : Run Source = rest_run (ends (ended by_overflow)) s in
-      let small = lifted_small (is_flat (Const least_int)) in
+      let small = hoisted_small (is_flat (Const least_int)) in
       let added : Go ℕ = λ z w2 t2. with_given (exactly (exact_sum least_int z)) w2 (λ r. next w2 t2) in
       worked P (q + 7) (q + 7) 0 n c _ (omega arith)
       (worked P (q + 4) (q + 7) (1 + hoisted_units Trees (is_flat (Const least_int))) n c _ (omega (arith, small))
@@ -141,7 +141,7 @@ module _ (P : Program) (set : Setting P) (grow : StatesGrow P) where
   zero_checked : (p : Part) (r : Operand) (z q n : ℕ) (c : Run Source) (next : Next) (w : World) (t : Temps) → OperandIs r z t → FollowsHere P q n c (check_ends p (Fault 7) next (z == 0) w t) →
       FollowsHere P (q + 14) n c (statement_runs P p (zero_check (operand r)) p.around next w t)
   zero_checked p r z q n c next w t is f =
-      let small = lifted_small (is_flat (Const 0)) in
+      let small = hoisted_small (is_flat (Const 0)) in
       worked P (q + 10) (q + 14) 4 n c _ (omega arith)
       (worked P (q + 2 + 2) (q + 10) (4 + hoisted_units Trees (is_flat (Const 0))) n c _ (omega (arith, small))
       (operand_follows P set grow p r z (q + 2) n c (λ k w1 t1. value_runs P p (Const 0) p.around (λ j w2 t2. check_ends p (Fault 7) next (k == j) w2 t2) w1 t1) w t is
@@ -152,7 +152,7 @@ module _ (P : Program) (set : Setting P) (grow : StatesGrow P) where
       FollowsHere P q n c (check_ends p overflow next (z == minus_one && u == least_int) w t) →
       FollowsHere P (q + 55) n c (statement_runs P p (quotient_check (operand l) (operand r)) p.around next w t)
   least_checked p l r u z q n c next w t is_l is_r f =
-      let small = lifted_small (is_flat (Const minus_one)) in
+      let small = hoisted_small (is_flat (Const minus_one)) in
       let joined = joined_small (is_flat_condition (Compare rel.Equal (operand l) (Const least_int))) in
       worked P (q + 51) (q + 55) 4 n c _ (omega arith)
       (worked P (q + 20) (q + 51) (joined_units Trees (is_flat_condition (Compare rel.Equal (operand l) (Const least_int)))) n c _ (omega (arith, joined))
@@ -166,7 +166,7 @@ module _ (P : Program) (set : Setting P) (grow : StatesGrow P) where
 
       by : (b : Bool) → FollowsHere P q n c (check_ends p overflow next (b && u == least_int) w t) → FollowsHere P (q + 10) n c (second b w t)
       by true g =
-          let small = lifted_small (is_flat (Const least_int)) in
+          let small = hoisted_small (is_flat (Const least_int)) in
           worked P (q + 2 + 2) (q + 10) (4 + hoisted_units Trees (is_flat (Const least_int))) n c _ (omega (arith, small))
           (operand_follows P set grow p l u (q + 2) n c (λ k w1 t1. value_runs P p (Const least_int) p.around (λ j w2 t2. check_ends p overflow next (k == j) w2 t2) w1 t1) w t is_l
           (worked P q (q + 2) 2 n c _ (omega arith) g))
@@ -176,7 +176,7 @@ module _ (P : Program) (set : Setting P) (grow : StatesGrow P) where
   divided : (p : Part) (l r : Operand) (u k q n : ℕ) (c : Run Source) (go' : Go ℕ) (w : World) (t : Temps) → OperandIs l u t → OperandIs r (suc k) t →
       FollowsHere P q n c (go' (quot u (suc k)) w t) → FollowsHere P (q + 8) n c (value_runs P p (tree.Binary bin.Div (operand l) (operand r)) p.around go' w t)
   divided p l r u k q n c go' w t is_l is_r f =
-      let small = lifted_small (is_flat (operand r)) in
+      let small = hoisted_small (is_flat (operand r)) in
       worked P (q + 2 + 2) (q + 8) (2 + hoisted_units Trees (is_flat (operand r))) n c _ (omega (arith, small))
       (operand_follows P set grow p l u (q + 2) n c (λ i w1 t1. value_runs P p (operand r) p.around (λ j w2 t2. with_given (operate bin.Div i j) w2 (λ v. go' v w2 t2)) w1 t1) w t is_l
       (operand_follows P set grow p r (suc k) q n c (λ j w2 t2. with_given (operate bin.Div u j) w2 (λ v. go' v w2 t2)) w t is_r
@@ -344,7 +344,7 @@ module _ (P : Program) (set : Setting P) (grow : StatesGrow P) where
           (value_runs P x.p (tree.Binary bin.Div q.left (Const (suc k))) x.p.around go' x.w x.t)
       number_follows q is last onward =
           let source : Run Source = rest_run (evaluates P a x.p.env (λ v. evaluates P b x.p.env (λ y. divides v y) x.out) x.out) x.s in
-          let small = lifted_small (is_flat (Const (suc k))) in
+          let small = hoisted_small (is_flat (Const (suc k))) in
           worked P (x.r + 240 + 4) (x.r + 256) (2 + hoisted_units Trees (is_flat (Const (suc k)))) n source (number_run q.left (suc k == 0)) (omega (arith, small))
           (subst (λ o. FollowsHere P (x.r + 240 + 4) n source (number_run q.left o)) (sym (eqb-suc-zero k))
           (subst (λ o. FollowsHere P (x.r + 240 + 4) n source (chosen_run q.left o)) (eq-eqb (suc k) (suc k) refl)

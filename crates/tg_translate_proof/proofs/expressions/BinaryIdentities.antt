@@ -46,7 +46,7 @@ use Rattle.tg_translate_proof.proofs.state.TranslationStates.{after_inv, state_i
 use Rattle.tg_translate_proof.proofs.invariant.Cases.{by_made, worked, truth_is_set}
 use Rattle.tg_translate_proof.proofs.expressions.BinaryLeft.{LeftSide, plain_left}
 use Rattle.tg_translate_proof.proofs.invariant.Parts.{StatesGrow, Piece, Behind, at_begin, more, paid}
-use Rattle.tg_translate_proof.proofs.expressions.BinarySides.{Sides, sides_of, sides_follow, lifted_small}
+use Rattle.tg_translate_proof.proofs.expressions.BinarySides.{Sides, sides_of, sides_follow, hoisted_small}
 use Rattle.tg_translate_proof.proofs.state.ValueWords.{told_truth}
 use Rattle.tg_translate_proof.proofs.expressions.BinaryStringComparisons.{both_made, made_both, wants_value, operates, source_both, functions_are}
 
@@ -205,7 +205,7 @@ module _ (P : Program) (set : Setting P) (grow : StatesGrow P) (n : ℕ) (sp : S
       source_is (λ i. refl)
       (paid P x.r n sides_run whole
       (worked P (x.r + 246 + 4) (x.r + 256) (4 + hoisted_units Trees (is_flat q.right)) n sides_run _
-      (let small = lifted_small (is_flat q.right) in omega (arith, small))
+      (let small = hoisted_small (is_flat q.right) in omega (arith, small))
       (sides_follow P set grow n E_ a b left_side x makes q ta tb
       (record { begun = tt; typed = piece_a.typed; words = piece_a.words; covers = piece_a.covers; may_assign = piece_a.may_assign }) piece_b (alike_left ta tb alike) (alike_right ta tb alike)
       (subst (λ s. Later q.τb s) (ap state_in q.whole) (later_none q.τb)) (x.r + 246) (omega arith) goes_on

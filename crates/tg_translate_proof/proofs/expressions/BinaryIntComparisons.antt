@@ -33,7 +33,7 @@ use Rattle.tg_translate_proof.proofs.invariant.Cases.{by_made, worked, truth_is_
 use Rattle.tg_translate_proof.proofs.expressions.BinaryLeft.{LeftSide, plain_left, binary_by}
 use Rattle.tg_translate_proof.proofs.invariant.Parts.{StatesGrow, more, paid}
 use Rattle.tg_translate_proof.proofs.state.ValueWords.{stands_int, int_has_values, told_truth}
-use Rattle.tg_translate_proof.proofs.expressions.BinarySides.{Sides, sides_of, sides_follow, lifted_small}
+use Rattle.tg_translate_proof.proofs.expressions.BinarySides.{Sides, sides_of, sides_follow, hoisted_small}
 use Rattle.tg_translate_proof.proofs.expressions.BinaryPlusMinus.{piece_a, piece_b, operates}
 
 module _ (P : Program) (set : Setting P) (grow : StatesGrow P) (n : ℕ) (sp : Span) (at : ℕ) (a b : Exp) (show_a : LeftSide P n a) (show_b : Shown P n b)
@@ -61,7 +61,7 @@ module _ (P : Program) (set : Setting P) (grow : StatesGrow P) (n : ℕ) (sp : S
         Onward P {A = Bool} n (x.r + left_over) x.p x.h x.types (λ g v t. IsTold x.wanted v x.ty t) x.go go' →
         FollowsHere P (x.r + 256) n sides_run (test_runs P x.p (tree.Compare one q.left q.right) x.p.around go' x.w x.t)
     compared one same q go' onward =
-        worked P (x.r + 246 + 4) (x.r + 256) (4 + hoisted_units Trees (is_flat q.right)) n sides_run _ (let small = lifted_small (is_flat q.right) in omega (arith, small))
+        worked P (x.r + 246 + 4) (x.r + 256) (4 + hoisted_units Trees (is_flat q.right)) n sides_run _ (let small = hoisted_small (is_flat q.right) in omega (arith, small))
         (sides_follow P set grow n E_ a b show_a x F_ q int_type int_type
         (piece_a P set grow n sp o at a b show_a show_b x begun is_int type_a type_b) (piece_b P set grow n sp o at a b show_a show_b x begun is_int type_a type_b) int_has_values int_has_values
         (subst (λ s. Later q.τb s) (ap state_in q.whole) (later_none q.τb)) (x.r + 246) (omega arith) goes_on (λ u k w2 t2. go' (holds one u k) w2 t2)

@@ -46,7 +46,7 @@ use Rattle.tg_translate_proof.proofs.invariant.Cases.{by_made, wanted_of, worked
 use Rattle.tg_translate_proof.proofs.expressions.BinaryLeft.{LeftSide, plain_left, binary_by}
 use Rattle.tg_translate_proof.proofs.invariant.Parts.{StatesGrow, Piece, LeftPiece, Behind, at_begin, more, paid, stop_follows}
 use Rattle.tg_translate_proof.proofs.state.ValueWords.{stands_int, int_has_values, told_truth}
-use Rattle.tg_translate_proof.proofs.expressions.BinarySides.{Sides, sides_of, sides_follow, lifted_small, may_left, may_right}
+use Rattle.tg_translate_proof.proofs.expressions.BinarySides.{Sides, sides_of, sides_follow, hoisted_small, may_left, may_right}
 
 word_small : (z : ℤ) → is_word z ≡ true → unsigned z < 2 ^ 32
 word_small (pos n) h = grind (arith, common_steps, ints)
@@ -110,7 +110,7 @@ module _ (P : Program) (set : Setting P) (grow : StatesGrow P) where
       by_made P n E x (value (tree.Binary bin.AddTrap q.left q.right)) q.τb q.whole tt
       (λ go' onward.
       paid P x.r n _ _
-      (worked P (x.r + 249 + 4) (x.r + 256) (1 + hoisted_units Trees (is_flat q.right)) n _ _ (let small = lifted_small (is_flat q.right) in omega (arith, small))
+      (worked P (x.r + 249 + 4) (x.r + 256) (1 + hoisted_units Trees (is_flat q.right)) n _ _ (let small = hoisted_small (is_flat q.right) in omega (arith, small))
       (sum_follows n sp op.Plus at a b show_a show_b x begun is_int type_a type_b bin.AddTrap exact_sum (λ u v. refl) (λ u v w e. within_small (signed u +ℤ signed v) w e) q go' onward)))
 
   pub minus_by : (n : ℕ) (sp : Span) (at : ℕ) (a b : Exp) (left : LeftSide P n a) → Shown P n b →
@@ -122,7 +122,7 @@ module _ (P : Program) (set : Setting P) (grow : StatesGrow P) where
       by_made P n E x (value (tree.Binary bin.SubTrap q.left q.right)) q.τb q.whole tt
       (λ go' onward.
       paid P x.r n _ _
-      (worked P (x.r + 249 + 4) (x.r + 256) (1 + hoisted_units Trees (is_flat q.right)) n _ _ (let small = lifted_small (is_flat q.right) in omega (arith, small))
+      (worked P (x.r + 249 + 4) (x.r + 256) (1 + hoisted_units Trees (is_flat q.right)) n _ _ (let small = hoisted_small (is_flat q.right) in omega (arith, small))
       (sum_follows n sp op.Minus at a b show_a show_b x begun is_int type_a type_b bin.SubTrap exact_difference (λ u v. refl) (λ u v w e. within_small (signed u -ℤ signed v) w e) q go' onward)))
 
   pub plus_shown : (n : ℕ) (sp : Span) (at : ℕ) (a b : Exp) → Shown P n a → Shown P n b → (x : Situation P n (Binary sp op.Plus at a b)) →

@@ -33,9 +33,9 @@ use Rattle.tg_translate_proof.proofs.invariant.Parts.{extends_on}
 use Rattle.tg_translate_proof.proofs.invariant.Cases.{grows_on}
 use Rattle.tg_translate_proof.proofs.state.ValueWords.{stands_grows}
 
-pub lifted_small : (b : Bool) → hoisted_units Trees b ≤ 2
-lifted_small true = omega arith
-lifted_small false = omega arith
+pub hoisted_small : (b : Bool) → hoisted_units Trees b ≤ 2
+hoisted_small true = omega arith
+hoisted_small false = omega arith
 
 pub both_true : (a b : Bool) → (a && b) ≡ true → (a ≡ true) × (b ≡ true)
 both_true true b e = (refl, e)

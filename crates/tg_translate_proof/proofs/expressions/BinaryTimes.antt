@@ -1,5 +1,6 @@
 -- Products of ints: their upper word tells whether there is an exact one.
-use Rattle.std.proofs.Common.{◌≡◌, ◌≢◌, ℕ, ◌+◌, ◌*◌, ◌%◌, ◌^◌, ◌<◌, ◌≤◌, ◌==◌, List, Option, Some, None, Bool, true, false, refl, sym, ap, ◌∙◌, arith, subst, ℤ, pos, negsuc, ◌*ℤ◌, unsigned_abs, eqb-true, w32, w64}
+use Rattle.std.proofs.Common.{◌≡◌, ◌≢◌, ℕ, ◌+◌, ◌*◌, ◌%◌, ◌^◌, ◌<◌, ◌≤◌, ◌==◌, List, Option, Some, None, Bool, true, false, refl, sym, ap, ◌∙◌, arith, subst, ℤ}
+use Rattle.std.proofs.Common.{pos, negsuc, ◌*ℤ◌, unsigned_abs, eqb-true, w32, w64}
 use Rattle.std.specs.Prelude.{if◌then◌else◌, ◌||◌, not}
 use Rattle.std.specs.Int.{cast_unsigned, int_wrap}
 use Rattle.std.proofs.lemmas.Int.{ints, wrapping_mul-bits, of_z-to_z}
@@ -42,7 +43,7 @@ use Rattle.tg_translate_proof.proofs.expressions.BinaryLeft.{LeftSide, plain_lef
 use Rattle.tg_translate_proof.proofs.invariant.Parts.{StatesGrow, more, paid}
 use Rattle.tg_translate_proof.proofs.state.Keys.{of_is_used}
 use Rattle.tg_translate_proof.proofs.state.ValueWords.{stands_int}
-use Rattle.tg_translate_proof.proofs.expressions.BinarySides.{sides_of, lifted_small}
+use Rattle.tg_translate_proof.proofs.expressions.BinarySides.{sides_of, hoisted_small}
 use Rattle.tg_translate_proof.proofs.invariant.HeldOperands.{OperandIs, operand_follows, Holding, holding, held_as, a_number, a_temp, always, another}
 use Rattle.tg_translate_proof.proofs.invariant.HeldOperands.{kept_later}
 use Rattle.tg_translate_proof.proofs.invariant.HeldLeft.{LeftHeld, as_number, as_variable, as_kept, left_operand, left_state}
@@ -150,10 +151,10 @@ module _ (P : Program) (set : Setting P) (grow : StatesGrow P) (n : ℕ) (sp : S
     words_multiplied g ms u z s w t l r gg ee hh hu hz il ir kl kr =
         let c : Run Source = rest_run (exact_value (exact_product u z)) s in
         let t2 : Temps = set_temp p (mul u z) t in
-        let small = lifted_small (is_flat (operand r)) in
+        let small = hoisted_small (is_flat (operand r)) in
         let shifted : Tx = tree.Binary bin.ShiftSigned (Temp p) (Const 31) in
-        let small2 = lifted_small (is_flat shifted) in
-        let small3 = lifted_small (is_flat (Const 31)) in
+        let small2 = hoisted_small (is_flat shifted) in
+        let small3 = hoisted_small (is_flat (Const 31)) in
         let ends_ : Bool → World → Temps → Run _ = λ d w3 t3. check_ends P set grow x.p overflow done_next d w3 t3 in
         let moved : ℕ → World → Temps → Run _ = λ v w3 t3. check_next l r w3 (set_temp p v t3) in
         let compared : Go ℕ = λ h w3 t3. value_runs P x.p shifted x.p.around (λ k w4 t4. ends_ (not (h == k)) w4 t4) w3 t3 in

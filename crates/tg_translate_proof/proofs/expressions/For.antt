@@ -51,7 +51,7 @@ use Rattle.tg_translate_proof.proofs.state.Keys.{put_place, put_here, by_key, in
 use Rattle.tg_translate_proof.proofs.state.HomeWrites.{not_written, is_fixed, is_nowhere_again}
 use Rattle.tg_translate_proof.proofs.program.VariableDeclaration.{Home_at, home_tabled, ready_with, extends_front}
 use Rattle.tg_translate_proof.proofs.state.ValueWords.{stands_int, int_has_values}
-use Rattle.tg_translate_proof.proofs.expressions.BinarySides.{lifted_small}
+use Rattle.tg_translate_proof.proofs.expressions.BinarySides.{hoisted_small}
 use Rattle.tg_translate_proof.proofs.invariant.Asked.{Standing, Asked, asked_value}
 use Rattle.tg_translate_proof.proofs.expressions.AssignPlain.{dropped_only}
 use Rattle.tg_translate_proof.proofs.invariant.HeldOperands.{OperandIs, Holding, always, held_as, operand_follows}
@@ -328,7 +328,7 @@ module _ (P : Program) (set : Setting P) (grow : StatesGrow P) (n : ℕ) (sp : S
           FollowsHere P (x.r + 150) n (rest_run (counts (less z u) z (length s.variables)) (add_variable (int u) s)) (statement_runs P x.p (counting l) x.p.around next w t)
       behind_both g ms s w t u z l gg ee hh small is there =
           let source : Run Source = rest_run (counts (less z u) z place) s2 in
-          let flat = lifted_small (is_flat (operand l)) in
+          let flat = hoisted_small (is_flat (operand l)) in
           worked P (x.r + 146) (x.r + 150) 4 n source _ (omega arith)
           (worked P (x.r + 130 + 2 + 2) (x.r + 146) (4 + hoisted_units Trees (is_flat (operand l))) n source _ (omega (arith, flat))
           (operand_follows P set grow x.p (Kept (record { 0 = bound })) z (x.r + 130 + 2) n source

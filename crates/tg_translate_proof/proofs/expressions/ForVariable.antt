@@ -24,7 +24,7 @@ use Rattle.tg_translate_proof.specs.glue.Situations.{Program, Part, with_temps, 
 use Rattle.tg_translate_proof.specs.glue.Shown.{FollowsHere}
 use Rattle.tg_translate_proof.proofs.invariant.Cases.{worked}
 use Rattle.tg_translate_proof.proofs.invariant.Parts.{more}
-use Rattle.tg_translate_proof.proofs.expressions.BinarySides.{lifted_small}
+use Rattle.tg_translate_proof.proofs.expressions.BinarySides.{hoisted_small}
 use Rattle.tg_translate_proof.proofs.state.Keys.{put_place, put_here, IsPut, put_is, same_is, Changed, changed_keeps, own_temps, get_front, get_last, get_set, get_other, set_length, lengths_grow, by_key}
 use Rattle.tg_translate_proof.proofs.state.HomeWrites.{Written, temp_written, slot_written}
 use Rattle.tg_translate_proof.proofs.state.StaticLinks.{slot_word}
@@ -76,7 +76,7 @@ module _ (P : Program) where
       let a : ℕ = slot p.scene.activation.base k in
       let at : base ≡ p.scene.activation.base = ap (λ o. o.base) same in
       let address : sub base (4 * (k + 1)) ≡ a = ap (λ o. sub o (4 * (k + 1))) at ∙ slot_word p.scene.activation.base k low small in
-      let flat = lifted_small (is_flat x) in
+      let flat = hoisted_small (is_flat x) in
       let stores : ℕ → Go ℕ = λ b v w2 t2. with_memory (store w2.memory b v) w2 (λ w3. next w3 t2) in
       let put_at : ℕ → Run Ran = λ b. value_runs P p x p.around (stores b) w t in
       let open_ = can a refl in

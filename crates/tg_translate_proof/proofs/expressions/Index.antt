@@ -43,7 +43,7 @@ use Rattle.tg_translate_proof.specs.glue.Shown.{Shown, FollowsHere, left_over, e
 use Rattle.tg_translate_proof.proofs.state.TranslationStates.{made_in, state_in, after_inv, later_none, later_on, later_value}
 use Rattle.tg_translate_proof.proofs.invariant.Cases.{worked}
 use Rattle.tg_translate_proof.proofs.invariant.Parts.{StatesGrow, more, paid, extends_none, ready_part, stop_follows}
-use Rattle.tg_translate_proof.proofs.expressions.BinarySides.{lifted_small, both_true}
+use Rattle.tg_translate_proof.proofs.expressions.BinarySides.{hoisted_small, both_true}
 use Rattle.tg_translate_proof.proofs.state.ValueWords.{int_has_values}
 use Rattle.tg_translate_proof.proofs.expressions.LValueAddress.{IsAt, an_element, Premises, PlaceSituation, PlaceShown, PlaceMayAssign, PlaceOnward}
 use Rattle.tg_translate_proof.proofs.expressions.LValueAddress.{StorageFollows, IsOwn, reads, locates, place_source, by_storage}
@@ -110,7 +110,7 @@ module _ (P : Program) (set : Setting P) (premises : Premises P) (grow : StatesG
       FollowsHere P q n c ((if not (nat_lt z len) then statement_runs P p (Fault 3) else statement_runs P p nothing_done) p.around next w t) →
       FollowsHere P (q + 16) n c (statement_runs P p (index_check (operand l) (operand o)) p.around next w t)
   checked p l o u z len q n c next w t is_l is_o has f =
-      let small = lifted_small (is_flat (Load (operand l))) in
+      let small = hoisted_small (is_flat (Load (operand l))) in
       worked P (q + 12) (q + 16) 4 n c _ (omega arith)
       (worked P (q + 5) (q + 12) (4 + hoisted_units Trees (is_flat (Load (operand l)))) n c _ (omega (arith, small))
       (more P (q + 3 + 2) (q + 5) n c _ (omega arith)
@@ -128,7 +128,7 @@ module _ (P : Program) (set : Setting P) (premises : Premises P) (grow : StatesG
       z < 2 ^ 26 → u + 4 + 4 * z < 2 ^ 32 →
       FollowsHere P q n c (go' (u + 4 + 4 * z) w t) → FollowsHere P (q + 14) n c (value_runs P p (element (operand l) (operand o)) p.around go' w t)
   addressed p l o u z q n c go' w t is_l is_o few fits f =
-      let small = lifted_small (is_flat (operand l)) in
+      let small = hoisted_small (is_flat (operand l)) in
       let sum : add (add (shift_left z (2 % 32)) u) 4 ≡ u + 4 + 4 * z = omega (arith, few, fits) in
       let last : ℕ → Go ℕ = λ z1 u1 w2 t2 i. works 2 (go' (add (add (shift_left z1 (2 % 32)) u1) 4) w2 t2 i) in
       let array : ℕ → World → Temps → Run Ran = λ z1 w1 t1. value_runs P p (operand l) p.around (last z1) w1 t1 in

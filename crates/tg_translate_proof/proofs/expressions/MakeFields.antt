@@ -25,7 +25,7 @@ use Rattle.tg_translate_proof.proofs.state.NewRecords.{words_block, record_block
 use Rattle.tg_translate_proof.proofs.expressions.Field.{plus_follows}
 use Rattle.tg_translate_proof.proofs.invariant.Cases.{worked}
 use Rattle.tg_translate_proof.proofs.invariant.Parts.{more}
-use Rattle.tg_translate_proof.proofs.expressions.BinarySides.{lifted_small}
+use Rattle.tg_translate_proof.proofs.expressions.BinarySides.{hoisted_small}
 
 -- the statements that store them
 abbrev pub own_stores : (record_ field : ℕ) → List Operand → Stms
@@ -78,8 +78,8 @@ module _ (P : Program) (p : Part) (n : ℕ) (c : Run Source) where
         let a = heap_base + length m.heap in
         let left : ℕ = 4 * length us + z in
         let zeros : 4 * suc (length us) + z ≡ suc (suc (suc (suc left))) = omega arith in
-        let small = lifted_small (is_flat (operand x)) in
-        let lifted = hoisted_units Trees (is_flat (operand x)) in
+        let small = hoisted_small (is_flat (operand x)) in
+        let hoisted = hoisted_units Trees (is_flat (operand x)) in
         let grown_ = length-append before (word_bytes u) in
         let w1 : World = with_heap m (before ++ 0 ∷ 0 ∷ 0 ∷ 0 ∷ replicate left 0) w in
         let w2 : World = with_heap m (before ++ (word_bytes u ++ replicate left 0)) w in
@@ -97,7 +97,7 @@ module _ (P : Program) (p : Part) (n : ℕ) (c : Run Source) where
         sym (append_assoc before (word_bytes u) (record_block us z))) f)) in
         subst (λ (j : ℕ). FollowsHere P (q + 12 * suc (length us)) n c
         (statements_run P p (own_stores r k (x ∷ xs)) p.around next (with_heap m (before ++ replicate j 0) w) t)) (sym zeros)
-        (worked P (Q + 2 + 3) (q + 12 * suc (length us)) (1 + lifted) n c (value_runs P p (plus (Temp r) (4 * k)) p.around go_at w1 t)
+        (worked P (Q + 2 + 3) (q + 12 * suc (length us)) (1 + hoisted) n c (value_runs P p (plus (Temp r) (4 * k)) p.around go_at w1 t)
         (omega (arith, small))
         (plus_follows P p r a (4 * k) (Q + 2) n c go_at w1 t there (omega (arith, room))
         (operand_has x u Q go_on w1 t have.0

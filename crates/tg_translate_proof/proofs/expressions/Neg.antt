@@ -36,7 +36,7 @@ use Rattle.tg_translate_proof.proofs.state.TranslationStates.{after_inv, state_i
 use Rattle.tg_translate_proof.proofs.invariant.Cases.{by_made, worked}
 use Rattle.tg_translate_proof.proofs.invariant.Parts.{StatesGrow, Piece, Behind, at_begin, sub_value, more, paid}
 use Rattle.tg_translate_proof.proofs.state.ValueWords.{stands_int, int_has_values}
-use Rattle.tg_translate_proof.proofs.expressions.BinarySides.{lifted_small}
+use Rattle.tg_translate_proof.proofs.expressions.BinarySides.{hoisted_small}
 use Rattle.tg_translate_proof.proofs.expressions.BinaryPlusMinus.{within_small, exactly_follows}
 
 -- but for the least int, an int has a negation
@@ -112,7 +112,7 @@ module _ (P : Program) (set : Setting P) (grow : StatesGrow P) (n : ℕ) (sp : S
             by_made P n E_ x (value (tree.Binary SubTrap (Const 0) y)) τ (sym (ap (λ z. drawn (value z) τ) is) ∙ whole) tt
             (λ go' onward.
             paid P x.r n _ _
-            (worked P (x.r + 253) (x.r + 256) (1 + hoisted_units Trees (is_flat y)) n _ _ (let small = lifted_small (is_flat y) in omega (arith, small))
+            (worked P (x.r + 253) (x.r + 256) (1 + hoisted_units Trees (is_flat y)) n _ _ (let small = hoisted_small (is_flat y) in omega (arith, small))
             (worked P (x.r + 244) (x.r + 253) 2 n _ _ (omega arith)
             (operand_follows y τ made last go' (λ u w t. with_given (exactly (exact_difference 0 u)) w (λ r. go' r w t)) onward (λ u w t small. refl)))))
         by y τ made whole last (a_number k y_is not_least is) =

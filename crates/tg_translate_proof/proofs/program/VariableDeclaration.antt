@@ -46,7 +46,7 @@ use Rattle.tg_translate_proof.proofs.state.TranslationStates.{made_in, state_in,
 use Rattle.tg_translate_proof.proofs.invariant.Cases.{worked, grows_none, grows_on}
 use Rattle.tg_translate_proof.proofs.invariant.Parts.{StatesGrow, more, paid, along_on, ready_part, extends_none, extends_on}
 use Rattle.tg_translate_proof.proofs.state.ValueWords.{stands_fit, fits_has_values}
-use Rattle.tg_translate_proof.proofs.expressions.BinarySides.{lifted_small}
+use Rattle.tg_translate_proof.proofs.expressions.BinarySides.{hoisted_small}
 use Rattle.tg_translate_proof.proofs.state.Keys.{put_place, put_here, by_key, depth_of, index_of, scene_put, get_front, get_last}
 use Rattle.tg_translate_proof.proofs.state.HomeWrites.{Written, temp_written, slot_written, begins, is_nowhere_again, is_free_again}
 use Rattle.tg_translate_proof.proofs.state.StaticLinks.{slot_word}
@@ -290,7 +290,7 @@ module _ (P : Program) (set : Setting P) where
           apart_temps = λ b lo hi f. cc;
         } in
         let source : Run Source = rest_run (evaluates P e k.p.env (new_place rest) k.out) k.s in
-        let flat = lifted_small (is_flat y) in
+        let flat = hoisted_small (is_flat y) in
         let at_base : k.p.around.activation.base ≡ base = ap (λ o. o.base) k.ready.activation in
         let address : sub k.p.around.activation.base (4 * (j + 1)) ≡ a = ap (λ o. sub o (4 * (j + 1))) at_base ∙ slot_word base j low (omega (arith, top, here)) in
         let stores : ℕ → Go ℕ = λ b z w2 t2. with_memory (store w2.memory b z) w2 (λ w3. next w3 t2) in

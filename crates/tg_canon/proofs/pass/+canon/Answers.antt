@@ -3,82 +3,82 @@ use Rattle.tg_tree.specs.glue.Plain.{plain_tx, plain_cond, plain_ts}
 use Rattle.tg_tree.specs.glue.Lists.{txs_of, stms_of}
 use Rattle.tg_canon.specs.mirror.Canon.{deeper, inside}
 use Rattle.tg_canon.specs.glue.Breaking.{leads}
-use Rattle.tg_canon.proofs.Arms.{constant_lifts, address_lifts, temporary_lifts, frame_lifts, binary_lifts, load_lifts, byte_lifts, call_lifts}
-use Rattle.tg_canon.proofs.Arms.{service_lifts, after_lifts, word_lifts, operands_lift, compare_tests, not_tests, both_tests, either_tests}
+use Rattle.tg_canon.proofs.Arms.{constant_hoists, address_hoists, temporary_hoists, frame_hoists, binary_hoists, load_hoists, byte_hoists, call_hoists}
+use Rattle.tg_canon.proofs.Arms.{service_hoists, after_hoists, word_hoists, operands_hoist, compare_tests, not_tests, both_tests, either_tests}
 use Rattle.tg_canon.proofs.Arms.{compare_leaves, not_leaves, move_goes, store_goes, store_byte_goes, do_goes, if_goes, if_goes_by_parts, loop_goes}
 use Rattle.tg_canon.proofs.Arms.{break_goes, fault_goes, sequence_goes, return_goes}
-use Rattle.tg_canon.proofs.Cases.{lifts_as, word_as, both_as, tests_as, leaves_as, goes_as, call_as, sequence_as}
+use Rattle.tg_canon.proofs.Cases.{hoists_as, word_as, both_as, tests_as, leaves_as, goes_as, call_as, sequence_as}
 use Rattle.tg_canon.proofs.Walks.{statements_begin, statement_more, arguments_begin, argument_more, ends_with, none_left}
 use Rattle.tg_canon.proofs.pass.+canon.Goals as goal
 
-pub lift-returns-in-Const : goal.lift-returns-in-Const
-lift-returns-in-Const t c =
-    lifts_as (leads c.args.breaks.now) c.in-Const.is (constant_lifts (leads c.args.breaks.now) c.in-Const.n c.whole.ensures)
+pub hoist-returns-in-Const : goal.hoist-returns-in-Const
+hoist-returns-in-Const t c =
+    hoists_as (leads c.args.breaks.now) c.in-Const.is (constant_hoists (leads c.args.breaks.now) c.in-Const.n c.whole.ensures)
 
-pub lift-returns-in-Address : goal.lift-returns-in-Address
-lift-returns-in-Address t c =
-    lifts_as (leads c.args.breaks.now) c.in-Address.is (address_lifts (leads c.args.breaks.now) c.in-Address.label.0 c.whole-in-Address.ensures)
+pub hoist-returns-in-Address : goal.hoist-returns-in-Address
+hoist-returns-in-Address t c =
+    hoists_as (leads c.args.breaks.now) c.in-Address.is (address_hoists (leads c.args.breaks.now) c.in-Address.label.0 c.whole-in-Address.ensures)
 
-pub lift-returns-in-Temp : goal.lift-returns-in-Temp
-lift-returns-in-Temp t c =
-    lifts_as (leads c.args.breaks.now) c.in-Temp.is (temporary_lifts (leads c.args.breaks.now) c.in-Temp.temp.0 c.whole-in-Temp.ensures)
+pub hoist-returns-in-Temp : goal.hoist-returns-in-Temp
+hoist-returns-in-Temp t c =
+    hoists_as (leads c.args.breaks.now) c.in-Temp.is (temporary_hoists (leads c.args.breaks.now) c.in-Temp.temp.0 c.whole-in-Temp.ensures)
 
-pub lift-returns-in-FrameAddress : goal.lift-returns-in-FrameAddress
-lift-returns-in-FrameAddress t c =
-    lifts_as (leads c.args.breaks.now) c.in-FrameAddress.is (frame_lifts (leads c.args.breaks.now) c.whole-in-FrameAddress.ensures)
+pub hoist-returns-in-FrameAddress : goal.hoist-returns-in-FrameAddress
+hoist-returns-in-FrameAddress t c =
+    hoists_as (leads c.args.breaks.now) c.in-FrameAddress.is (frame_hoists (leads c.args.breaks.now) c.whole-in-FrameAddress.ensures)
 
-pub lift-returns-in_ok-operate-in-Binary : goal.lift-returns-in_ok-operate-in-Binary
-lift-returns-in_ok-operate-in-Binary t c =
-    lifts_as (leads c.args.breaks.now) c.in-Binary.is (binary_lifts (leads c.args.breaks.now) c.in-Binary.op
+pub hoist-returns-in_ok-operate-in-Binary : goal.hoist-returns-in_ok-operate-in-Binary
+hoist-returns-in_ok-operate-in-Binary t c =
+    hoists_as (leads c.args.breaks.now) c.in-Binary.is (binary_hoists (leads c.args.breaks.now) c.in-Binary.op
     (plain_tx c.in-Binary.x.value) (plain_tx c.in-Binary.y.value)
     (both_as (leads c.args.breaks.now) (sym c.into_inner-x.ensures) (sym c.into_inner-y.ensures) c.in_ok-both-in-Binary.ensures)
     c.in_ok-operate-in-Binary.ensures)
 
-pub lift-returns-in_ok-load_from-in-Load : goal.lift-returns-in_ok-load_from-in-Load
-lift-returns-in_ok-load_from-in-Load t c =
-    lifts_as (leads c.args.breaks.now) c.in-Load.is (load_lifts (leads c.args.breaks.now) (plain_tx c.in-Load.x.value)
+pub hoist-returns-in_ok-load_from-in-Load : goal.hoist-returns-in_ok-load_from-in-Load
+hoist-returns-in_ok-load_from-in-Load t c =
+    hoists_as (leads c.args.breaks.now) c.in-Load.is (load_hoists (leads c.args.breaks.now) (plain_tx c.in-Load.x.value)
     (word_as (leads c.args.breaks.now) (sym c.into_inner.ensures) c.in_ok-a-in-Load.ensures) c.in_ok-load_from-in-Load.ensures)
 
-pub lift-returns-in_ok-load_byte_from-in-LoadByte : goal.lift-returns-in_ok-load_byte_from-in-LoadByte
-lift-returns-in_ok-load_byte_from-in-LoadByte t c =
-    lifts_as (leads c.args.breaks.now) c.in-LoadByte.is (byte_lifts (leads c.args.breaks.now) (plain_tx c.in-LoadByte.x.value)
+pub hoist-returns-in_ok-load_byte_from-in-LoadByte : goal.hoist-returns-in_ok-load_byte_from-in-LoadByte
+hoist-returns-in_ok-load_byte_from-in-LoadByte t c =
+    hoists_as (leads c.args.breaks.now) c.in-LoadByte.is (byte_hoists (leads c.args.breaks.now) (plain_tx c.in-LoadByte.x.value)
     (word_as (leads c.args.breaks.now) (sym c.into_inner-in-LoadByte.ensures) c.in_ok-a-in-LoadByte.ensures) c.in_ok-load_byte_from-in-LoadByte.ensures)
 
-pub lift-returns-in_ok-serve-in-Service : goal.lift-returns-in_ok-serve-in-Service
-lift-returns-in_ok-serve-in-Service t c =
-    lifts_as (leads c.args.breaks.now) c.in-Service.is (service_lifts (leads c.args.breaks.now) c.in-Service.number
+pub hoist-returns-in_ok-serve-in-Service : goal.hoist-returns-in_ok-serve-in-Service
+hoist-returns-in_ok-serve-in-Service t c =
+    hoists_as (leads c.args.breaks.now) c.in-Service.is (service_hoists (leads c.args.breaks.now) c.in-Service.number
     (plain_tx c.in-Service.x.value) (word_as (leads c.args.breaks.now) (sym c.into_inner-in-Service.ensures) c.in_ok-a-in-Service.ensures)
     c.in_ok-serve-in-Service.ensures)
 
-pub lift-returns-in_ok-all-in-Call : goal.lift-returns-in_ok-all-in-Call
-lift-returns-in_ok-all-in-Call t c =
+pub hoist-returns-in_ok-all-in-Call : goal.hoist-returns-in_ok-all-in-Call
+hoist-returns-in_ok-all-in-Call t c =
     call_as (leads c.args.breaks.now) c.in-Call.label c.in-Call.xs c.in-Call.is
-    (call_lifts (leads c.args.breaks.now) c.in-Call.label.0 (txs_of c.in-Call.xs.items.items) c.in_ok-all-in-Call.ensures c.call_of.ensures)
+    (call_hoists (leads c.args.breaks.now) c.in-Call.label.0 (txs_of c.in-Call.xs.items.items) c.in_ok-all-in-Call.ensures c.call_of.ensures)
 
-pub lift-returns-in_ok-behind-in-After : goal.lift-returns-in_ok-behind-in-After
-lift-returns-in_ok-behind-in-After t c =
-    lifts_as (leads c.args.breaks.now) c.in-After.is (after_lifts (leads c.args.breaks.now) (plain_ts c.in-After.s.value)
-    (plain_tx c.in-After.x.value) (lifts_as (leads c.args.breaks.now) (sym c.into_inner-in-After.ensures) c.in_ok-a-in-After.ensures)
+pub hoist-returns-in_ok-behind-in-After : goal.hoist-returns-in_ok-behind-in-After
+hoist-returns-in_ok-behind-in-After t c =
+    hoists_as (leads c.args.breaks.now) c.in-After.is (after_hoists (leads c.args.breaks.now) (plain_ts c.in-After.s.value)
+    (plain_tx c.in-After.x.value) (hoists_as (leads c.args.breaks.now) (sym c.into_inner-in-After.ensures) c.in_ok-a-in-After.ensures)
     (goes_as (leads c.args.breaks.now) (sym c.into_inner-in-After-2.ensures) c.in_ok-p-in-After.ensures) c.in_ok-behind-in-After.ensures)
 
-pub lift_word-returns : goal.lift_word-returns
-lift_word-returns t c =
-    word_lifts (leads c.args.breaks.now) (plain_tx c.args.x) c.in_ok-a.ensures c.in_ok-word.ensures
+pub hoist_word-returns : goal.hoist_word-returns
+hoist_word-returns t c =
+    word_hoists (leads c.args.breaks.now) (plain_tx c.args.x) c.in_ok-a.ensures c.in_ok-word.ensures
 
-pub lift_both-returns : goal.lift_both-returns
-lift_both-returns t c =
-    operands_lift (leads c.args.breaks.now) (plain_tx c.args.left) (plain_tx c.args.right) c.in_ok-b.ensures c.in_ok-a.ensures c.in_ok-side_by_side.ensures
+pub hoist_both-returns : goal.hoist_both-returns
+hoist_both-returns t c =
+    operands_hoist (leads c.args.breaks.now) (plain_tx c.args.left) (plain_tx c.args.right) c.in_ok-b.ensures c.in_ok-a.ensures c.in_ok-side_by_side.ensures
 
-pub lift_all-loop-x-init : goal.lift_all-loop-x-init
-lift_all-loop-x-init t c =
+pub hoist_all-loop-x-init : goal.hoist_all-loop-x-init
+hoist_all-loop-x-init t c =
     arguments_begin (leads c.args.breaks.now) c.args.xs.items.items c.no_arguments-all.ensures
 
-pub lift_all-loop-x-preserved : goal.lift_all-loop-x-preserved
-lift_all-loop-x-preserved t c =
+pub hoist_all-loop-x-preserved : goal.hoist_all-loop-x-preserved
+hoist_all-loop-x-preserved t c =
     argument_more (leads c.args.breaks.now) c.in-Some.x c.loop-x.invariant c.in-Some.ensures.items c.in_ok-a.ensures c.in_ok-all.ensures
 
-pub lift_all-returns : goal.lift_all-returns
-lift_all-returns t c =
+pub hoist_all-returns : goal.hoist_all-returns
+hoist_all-returns t c =
     ends_with c.loop-x.invariant (none_left c.loop-x.xs.items.items (sym c.loop-x.xs.items.ok.0 ∙ c.in_default.ensures.cases.0))
 
 pub condition-returns-in_ok-compare_both-in-Compare : goal.condition-returns-in_ok-compare_both-in-Compare

@@ -6,7 +6,7 @@ use Rattle.tg_compile.proofs.bodies.flatten.Goals as goal
 
 pub returns : goal.returns
 returns c =
-    let lifted = c.in_ok-statements.ensures in
+    let hoisted = c.in_ok-statements.ensures in
     flattens c.args.frame.now c.linearize.new.frame (plain_ts c.args.body) (stms_of c.in_ok-statements.statements.items)
-    (plain_blocks c.in_ok-cut.cut) (code_of c.in_ok-trace.field-0.items) lifted.statements lifted.label lifted.params
-    lifted.slots lifted.out c.in_ok-cut.ensures c.in_ok-trace.ensures
+    (plain_blocks c.in_ok-cut.cut) (code_of c.in_ok-trace.field-0.items) hoisted.statements hoisted.label hoisted.params
+    hoisted.slots hoisted.out c.in_ok-cut.ensures c.in_ok-trace.ensures
