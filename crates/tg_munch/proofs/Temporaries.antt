@@ -36,15 +36,15 @@ picked_draws : (n : ℕ) (b : Bool) {choice : Choice (Unit {0})} → Takes 0 n c
 picked_draws n true h = h
 picked_draws n false h = gives tt
 
-abbrev picked_needs : (picks : ℕ → Bool) → (i : ℕ) → Txs → ℕ
-picked_needs picks i no_txs = 0
-picked_needs picks i (tx x xs) = picked_needs (picks i) (1 + room x) + picked_needs picks (i + 1) xs
+abbrev all_picked_needs : (picks : ℕ → Bool) → (i : ℕ) → Txs → ℕ
+all_picked_needs picks i no_txs = 0
+all_picked_needs picks i (tx x xs) = picked_needs (picks i) (1 + room x) + all_picked_needs picks (i + 1) xs
 
 abbrev all_needs : Txs → ℕ
 all_needs no_txs = 0
 all_needs (tx x xs) = 1 + room x + all_needs xs
 
-anywhere_needs : (i : ℕ) (xs : Txs) → picked_needs is_anywhere i xs ≡ all_needs xs
+anywhere_needs : (i : ℕ) (xs : Txs) → all_picked_needs is_anywhere i xs ≡ all_needs xs
 anywhere_needs i no_txs = refl
 anywhere_needs i (tx x xs) = let h = anywhere_needs (i + 1) xs in omega (arith, h)
 
@@ -52,7 +52,7 @@ either_needs : (b : Bool) (n : ℕ) → picked_needs (not b) n + picked_needs b 
 either_needs true n = omega arith
 either_needs false n = omega arith
 
-both_needs : (i : ℕ) (xs : Txs) → picked_needs is_in_frame i xs + picked_needs is_in_register i xs ≡ all_needs xs
+both_needs : (i : ℕ) (xs : Txs) → all_picked_needs is_in_frame i xs + all_picked_needs is_in_register i xs ≡ all_needs xs
 both_needs i no_txs = refl
 both_needs i (tx x xs) =
     let h = both_needs (i + 1) xs in
@@ -60,7 +60,7 @@ both_needs i (tx x xs) =
     omega (arith, h, e)
 
 ordered_draws : (b : Bool) (choice : (ℕ → Bool) → Choice (Unit {0})) (xs : Txs) →
-    ((picks : ℕ → Bool) → Takes 0 (picked_needs picks 0 xs) (choice picks)) → Takes 0 (all_needs xs) (ordered b choice)
+    ((picks : ℕ → Bool) → Takes 0 (all_picked_needs picks 0 xs) (choice picks)) → Takes 0 (all_needs xs) (ordered b choice)
 ordered_draws true choice xs h = let e = anywhere_needs 0 xs in more (omega (arith, e)) (h is_anywhere)
 ordered_draws false choice xs h = let e = both_needs 0 xs in more (omega (arith, e)) (both (h is_in_frame) λ u. h is_in_register)
 
@@ -100,7 +100,7 @@ module _ (slots : ℕ) where
         more (omega arith) (both (service_draws n (expression_draws x (Some _))) λ u. answer_draws dest)
     expression_draws (tree.After s x) dest = more (omega arith) (expression_draws x dest)
 
-    arguments_draw : (picks : ℕ → Bool) (i : ℕ) (xs : Txs) → Takes 0 (picked_needs picks i xs) (arguments slots picks i xs)
+    arguments_draw : (picks : ℕ → Bool) (i : ℕ) (xs : Txs) → Takes 0 (all_picked_needs picks i xs) (arguments slots picks i xs)
     arguments_draw picks i no_txs = gives tt
     arguments_draw picks i (tx x xs) =
         both (picked_draws (1 + room x) (picks i)

@@ -53,7 +53,7 @@ module _ (P : Program) (n : ℕ) where
       let front = x.ready.moment.literals in
       let drawn_ : x.σ.literals ++ own ∷ [] ≡ x.τ.literals = ap (λ d. (state_in d).literals) x.is_made in
       let there : Contains P.code.literals own =
-      subst (λ l. Contains l own) (sym front.whole_is)
+      subst (λ l. Contains l own) (sym front.whole)
       (Contains-append_left x.τ.literals front.more own
       (subst (λ l. Contains l own) drawn_ (Contains-append_right x.σ.literals (own ∷ []) own (0, omega arith, refl)))) in
       let place = has_address P.code.literals statics_base own there in

@@ -74,7 +74,7 @@ module _ (p : CheckedProgram) (size : ℕ → ℕ) (heap stack : ℕ) (input : L
   moment = record {
     homes = behind_none;
     callees = behind_none;
-    literals = record { more = runtime.literals; whole_is = ap (λ l. l ++ runtime.literals) (literals_are p size heap stack input may) };
+    literals = record { more = runtime.literals; whole = ap (λ l. l ++ runtime.literals) (literals_are p size heap stack input may) };
     functions = λ f c. found_there f (inner_there f c);
   }
 

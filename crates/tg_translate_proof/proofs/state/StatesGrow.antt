@@ -289,7 +289,7 @@ done_grows s label asks (drawn x u) h = record {
         homes = h.on.homes;
         callees = h.on.callees;
         literals = h.on.literals;
-        functions = record { more = with_body u.frame x ∷ u.functions; whole_is = refl };
+        functions = record { more = with_body u.frame x ∷ u.functions; whole = refl };
       };
   frame = frame_same refl refl refl;
 }

@@ -76,7 +76,7 @@ moment_before table code s t h k = record {
   callees = behind_on h.callees k.callees;
   literals = front_on h.literals k.literals;
   functions = λ f c. h.functions f
-      (subst (λ l. Contains l f) (sym k.functions.whole_is) (Contains-append_left s.functions k.functions.more f c));
+      (subst (λ l. Contains l f) (sym k.functions.whole) (Contains-append_left s.functions k.functions.more f c));
 }
 
 named_first : {A : Type 0} (b : Bool) (at : ℕ) (a : A) (xs ys : List (ℕ × A)) → (looked_up at (xs ++ ys) ≡ None → looked_up at ys ≡ None) →
