@@ -21,7 +21,7 @@ fn byte_at(name: &[u8], at: usize) -> u8
 }
 
 /// The first eight bytes of a name as a number, in which the first weighs most.
-#[tactic(auto, unfolding(crate::specs::Fronts::front_number))]
+#[tactic(auto, unfolding(crate::specs::glue::Fronts::front_number))]
 pub(crate) fn front(name: &[u8]) -> u64
     ensures { result ≡ front_number name.now }
 {
