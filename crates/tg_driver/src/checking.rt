@@ -8,8 +8,9 @@ ghost use Rattle.tg_driver.specs.glue.Found.{IsRefused};
 ghost use Rattle.tg_driver.specs.glue.Readings.{HasNamedTree, IsRefusalOf};
 
 use crate::answers::{Answer, unread};
-use crate::faults::{Fault, Refusal};
+use crate::faults::Fault;
 use crate::reading::{LONGEST, NamedProgram, ill_typed, parse_source};
+use crate::refusals::Refusal;
 use std::alloc::Global;
 use std::mem::forget;
 use tg_base::{Shelf, place};

@@ -4,8 +4,8 @@ ghost use Rattle.tg_compile_proof.specs.Builds.{CompilesTo};
 ghost use Rattle.tg_correct.specs.Sources.{IsSource};
 ghost use Rattle.tg_driver.specs.glue.Readings.{HasNamedTree, IsCompiled};
 
-use crate::faults::Refusal;
 use crate::reading::{NamedProgram, ill_typed, parse_source};
+use crate::refusals::Refusal;
 use std::alloc::Global;
 use tg_base::Memory;
 use tg_compile::{Compiled, compile_checked};

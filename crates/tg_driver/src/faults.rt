@@ -5,7 +5,7 @@ ghost use Rattle.tg_driver.specs.Statuses.{asm_text, line_of, rule_text, type_te
 
 use std::alloc::{AllocError, Global};
 use tg_asm::AsmRule;
-use tg_base::{Faulty, Place};
+use tg_base::Place;
 use tg_lexer::LexRule;
 use tg_parser::SyntaxRule;
 use tg_types::TypeRule;
@@ -17,9 +17,6 @@ pub enum Rule {
     Syntactic(SyntaxRule),
     Typed(TypeRule),
 }
-
-/// Why a source is refused: its first fault, or out of memory.
-pub type Refusal = Faulty<Rule>;
 
 /// The first fault of a source.
 #[derive(Clone, Copy)]

@@ -7,8 +7,8 @@ ghost use Rattle.tg_driver.specs.glue.Readings.{IsUntypedRefusalOf};
 
 use crate::answers::{Answer, unread};
 use crate::checking::refused;
-use crate::faults::Refusal;
 use crate::reading::{LONGEST, lex_source, parse_tokens};
+use crate::refusals::Refusal;
 use crate::streams::Streams;
 use crate::writing::write_text;
 use std::alloc::Global;

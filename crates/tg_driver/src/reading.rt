@@ -11,7 +11,8 @@ ghost use Rattle.tg_driver.specs.glue.Readings.{
   IsUntypedRefusalOf,
 };
 
-use crate::faults::{Refusal, Rule};
+use crate::faults::Rule;
+use crate::refusals::Refusal;
 use std::alloc::Global;
 use tg_base::Names;
 use tg_lexer::{LexFault, lex};
