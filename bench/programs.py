@@ -9,12 +9,9 @@ import tempfile
 
 
 def tiger():
-    """The program that TIGER names, or the built one itself, so that the launcher's start isn't timed."""
+    """The program that TIGER names, or the one that the launcher runs, so that the launcher's start isn't timed."""
     program = os.environ.get("TIGER")
-    if program:
-        return program
-    subprocess.run(["./tiger"], capture_output=True)
-    return "crates/tg_cli/out/tg_cli"
+    return program or subprocess.run(["./tiger", "--program"], stdout=subprocess.PIPE, text=True, check=True).stdout.strip()
 
 
 def timed(command, output=subprocess.PIPE):

@@ -1,13 +1,4 @@
-"""What the scripts share: where the repository and its program are, and the count that each ends with."""
-import os
-import sys
-
-TOP = os.path.dirname(os.path.dirname(os.path.abspath(__file__)))
-
-
-def program():
-    """The program that the first word names, or the launcher."""
-    return os.path.abspath(sys.argv[1]) if len(sys.argv) > 1 else os.path.join(TOP, "tiger")
+"""The count that scripts end with."""
 
 
 def count(tries):

@@ -5,9 +5,8 @@ import subprocess
 import sys
 import threading
 
-from counting import TOP
+from answering import TOP, program
 
-PROGRAM = os.environ.get("TIGER", os.path.join(TOP, "tiger"))
 FAULT = re.compile(rb"tiger: (\d+):(\d+): ([LST]\d+) (.*)\n")
 LINE_FAULT = re.compile(rb"tiger: line (\d+): (A\d+) (.*)\n")
 NAMED = {"T1", "T2", "T3", "T4", "T5", "T7", "T8", "T10", "T11", "T15", "T16", "T17", "T18", "S1", "L1"}
@@ -111,7 +110,7 @@ def tell(told, path, origins, is_open, locate):
 def run(words, path, origins=None, locate=bytes):
     """Runs the program on the caller's input; output passes through. Returns the status. Faults are those of the file at
     the path; where its text was rewritten, `origins` has the line of each rewritten one. `locate` tells where a run ended."""
-    command = subprocess.Popen([PROGRAM, *words], stdout=subprocess.PIPE, stderr=subprocess.PIPE)
+    command = subprocess.Popen([program(), *words], stdout=subprocess.PIPE, stderr=subprocess.PIPE)
     told = []
 
     def listen():
