@@ -21,11 +21,9 @@ def stop(words, status=1):
 def answer(main, page, hands_on=False):
     """Ends with what `main` returns, or by the page where a word asks for it: the first word alone where the others are
     handed on to a command. Where a file can't be read or written, or a command isn't there, that is told in one line."""
-    if {"-h", "--help"} & {*(sys.argv[1:2] if hands_on else sys.argv[1:])}:
-        print(page.strip())
-        sys.exit(0)
+    asked = {"-h", "--help"} & {*(sys.argv[1:2] if hands_on else sys.argv[1:])}
     try:
-        status = main()
+        status = print(page.strip()) if asked else main()
         sys.stdout.flush()
     except BrokenPipeError:
         # Nobody reads on; what is left in the buffer isn't written at the end either.
