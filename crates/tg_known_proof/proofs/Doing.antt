@@ -1,36 +1,33 @@
 -- What an instruction does that stays: the same on both sides, and facts hold behind it.
-use Rattle.std.proofs.Common.{ℕ, ◌≡◌, ◌-◌, ◌==◌, not, Bool, true, false, List, [], ◌∷◌, Option, Some, None, refl, sym, ap, ◌∙◌, subst}
-use Rattle.std.proofs.Common.{nat_lt, inl, inr, eq-eqb}
+use Rattle.std.proofs.Common.{ℕ, ◌≡◌, ◌-◌, ◌==◌, not, Bool, true, false, List, [], Option, refl, sym, ap, ◌∙◌, subst}
+use Rattle.std.proofs.Common.{nat_lt, inl, eq-eqb}
 use Rattle.std.proofs.lemmas.Bool.{false≢true, not_from_true}
 use Rattle.std.specs.Prelude.{if◌then◌else◌, IsTrue}
 use Rattle.tg_base.specs.Words.{add}
-use Rattle.tg_state.specs.declared.ends.RunEnd.TheVariants.{Break}
 use Rattle.tg_simulation.specs.Runs.{Run}
-use Rattle.tg_simulation.specs.Ran.{Ran, Ended, Wrong}
+use Rattle.tg_simulation.specs.Ran.{Ran, Wrong}
 use Rattle.tg_tree.specs.declared.operators.Rel.{Rel}
 use Rattle.tg_tree.specs.declared.operators.Rel.TheVariants.{Equal, NotEqual, Less, LessEqual, Greater, GreaterEqual, Below, NotBelow}
 use Rattle.tg_tree.specs.Tree.{Literal}
-use Rattle.tg_tree.specs.Actions.{World, Activation, over, wrong, service}
+use Rattle.tg_tree.specs.Actions.{World, Activation, wrong}
 use Rattle.tg_tree.specs.Memory.{Cell, Closed, Memory, put, slot, literal_address}
 use Rattle.tg_tree.specs.Operators.{holds, opposite}
 use Rattle.tg_instr.specs.declared.operands.Opnd.{Opnd}
 use Rattle.tg_instr.specs.declared.operands.Opnd.TheVariants.{Temp, Reg}
 use Rattle.tg_instr.specs.Operands.{is_same}
-use Rattle.tg_instr.specs.Shapes.{Holder, Operand, Hi, Lo, InstructionShape, From0, From1, From2, Halves, Copy, Loads, Stores}
-use Rattle.tg_instr.specs.Shapes.{FromSlot, ToSlot, Base, AddressOf, Here, Goes, Tests, Calls, Asks, Fails, Returns}
+use Rattle.tg_instr.specs.Shapes.{Operand, Hi, Lo, InstructionShape, From0, From1, From2, Halves, Copy, Loads, Stores}
+use Rattle.tg_instr.specs.Shapes.{FromSlot, ToSlot, Base, AddressOf, Goes, Tests, Calls, Asks, Fails, Returns}
 use Rattle.tg_instr.specs.Uses.{defs, given_back}
 use Rattle.tg_instr.specs.Contents.{Content, Nothing, Word, Found, Contents, set, held, handed, at_entry, after_call, gives_back, cell_of, content_of}
-use Rattle.tg_instr.specs.Meaning.{Next, Jumps, Back, Around, Enter, with_content_word, put_in, put_slot, skip, jump, act}
+use Rattle.tg_instr.specs.Meaning.{Next, Jumps, Back, Around, Enter, with_content_word, put_in, skip, jump, act}
 use Rattle.tg_regalloc_proof.proofs.Simulating.{Simulates, same_run, by_word, by_content, by_given, by_option, by_memory, by_test}
-use Rattle.tg_regalloc_proof.proofs.Worlds.{Beside}
 use Rattle.tg_regalloc_proof.proofs.Serving.{Worlds, serves}
 use Rattle.tg_known.specs.mirror.Readings.{temp}
 use Rattle.tg_known.specs.declared.readings.Reading.TheVariants.{InSlot}
-use Rattle.tg_known.specs.declared.facts.Fact.{Fact}
 use Rattle.tg_known.specs.declared.facts.Fact.TheVariants.{Has, Untrue}
 use Rattle.tg_known.specs.mirror.Facts.{Facts, stands, noted, forget, forget_each, forget_memory}
 use Rattle.tg_known.specs.mirror.Known.{moved, kept}
-use Rattle.tg_known_proof.proofs.Getting.{Put, content_got, gets, Over}
+use Rattle.tg_known_proof.proofs.Getting.{content_got, Over}
 use Rattle.tg_known_proof.proofs.Holding.{Holds, Hold, stands_held, noted_hold, forget_hold, forget_memory_hold, copied_hold, content_puts, same_hold}
 
 -- the opposite comparison
@@ -214,9 +211,13 @@ module _ (room : ℕ) (literals : List Literal) (a : Activation) (k : ℕ) where
                 (b : Bool) → holds rel u v ≡ b →
                 Simulates ((if b then jump m else skip) first_side next w s) ((if b then jump m else skip) second_side next' w s)
             by u v e e1 true i =
-                leads w s (noted_hold a k most w s (Untrue (opposite rel) (stands f left) (stands f right)) f
-                (u, v, stands_held a k w s f left h ∙ e, stands_held a k w s f right h ∙ e1,
-                opposite_holds rel u v ∙ not_from_true (holds rel u v) i) h)
+                leads w s (noted_hold a k most w s (Untrue (opposite rel) (stands f left) (stands f right)) f (
+                  u,
+                  v,
+                  stands_held a k w s f left h ∙ e,
+                  stands_held a k w s f right h ∙ e1,
+                  opposite_holds rel u v ∙ not_from_true (holds rel u v) i,
+                ) h)
             by u v e e1 false i =
                 onward w s (noted_hold a k most w s (Untrue rel (stands f left) (stands f right)) f
                 (u, v, stands_held a k w s f left h ∙ e, stands_held a k w s f right h ∙ e1, i) h)

@@ -1,5 +1,5 @@
 -- What a reading gives, as a value, and that the instruction puts it there.
-use Rattle.std.proofs.Common.{ℕ, ◌≡◌, ◌&&◌, ◌==◌, Bool, true, false, List, [], ◌∷◌, Option, Some, None, refl, sym, ap, ◌∙◌, subst, nat_lt}
+use Rattle.std.proofs.Common.{ℕ, ◌≡◌, ◌&&◌, ◌==◌, Bool, true, false, List, [], ◌∷◌, Option, Some, None, refl, sym, ap, nat_lt}
 use Rattle.std.proofs.lemmas.Bool.{eqb-true, and_parts, false≢true}
 use Rattle.std.specs.Prelude.{if◌then◌else◌}
 use Rattle.tg_base.specs.Words.{add, exact_sum, extended, shift_left, flag}

@@ -3,7 +3,7 @@ use Rattle.std.proofs.Common.{ℕ, zero, suc, ◌-◌, arith, eq-eqb, ◌≡◌,
 use Rattle.std.proofs.Common.{refl, sym, ap, ◌∙◌, subst}
 use Rattle.std.proofs.lemmas.Bool.{and_parts, or_parts, false≢true}
 use Rattle.std.specs.Prelude.{if◌then◌else◌, take}
-use Rattle.std.specs.List.{list_any, filter}
+use Rattle.std.specs.List.{filter}
 use Rattle.tg_tree.specs.declared.operators.Rel.{Rel}
 use Rattle.tg_tree.specs.declared.operators.Rel.TheVariants.{Equal, NotEqual, Less, LessEqual, Greater, GreaterEqual, Below, NotBelow}
 use Rattle.tg_tree.specs.Actions.{World, Activation}
@@ -15,14 +15,14 @@ use Rattle.tg_instr.specs.Shapes.{Operand}
 use Rattle.tg_instr.specs.Contents.{Content, Nothing, Word, Found, Contents, set, held}
 use Rattle.tg_instr.proofs.Same.{same_is, same_itself}
 use Rattle.tg_known.specs.declared.readings.Reading.{Reading}
-use Rattle.tg_known.specs.declared.readings.Reading.TheVariants.{Moved, Loaded, InSlot, Sum, Plus, ExactSum, ExactPlus, Shifted, Lower}
-use Rattle.tg_known.specs.mirror.Readings.{temp, read_by, reads_memory, reread, same_reading}
+use Rattle.tg_known.specs.declared.readings.Reading.TheVariants.{Moved}
+use Rattle.tg_known.specs.mirror.Readings.{temp, read_by, reread, same_reading}
 use Rattle.tg_known.specs.declared.facts.Fact.{Fact}
 use Rattle.tg_known.specs.declared.facts.Fact.TheVariants.{Has, Untrue}
 use Rattle.tg_known.specs.mirror.Facts.{Facts, stands, found, same_rel, is_untrue, names_one, is_of}
-use Rattle.tg_known.specs.mirror.Facts.{is_of_memory, forget, forget_each, forget_memory, noted}
+use Rattle.tg_known.specs.mirror.Facts.{is_of_memory, forget, forget_memory, noted}
 use Rattle.tg_known.specs.mirror.Known.{copied, gotten, Claims, claimed, both, most_claimed, claim}
-use Rattle.tg_known_proof.proofs.Getting.{Got, Put, content_got, gets, Alike, gets_alike, reread_itself, gets_anywhere, same_reading_is}
+use Rattle.tg_known_proof.proofs.Getting.{Put, content_got, gets, Alike, gets_alike, reread_itself, gets_anywhere, same_reading_is}
 
 -- Contents with another at one operand.
 
@@ -240,7 +240,7 @@ module _ (a : Activation) (k : ℕ) where
   same_hold w s s' [] e h = tt
   same_hold w s s' (Has t r ∷ f) e h = (
     (ap (λ q. gets q a k w s') (sym (reread_itself r)) ∙ gets_alike a k w (λ x. x) r s s' (same_alike w s s' (read_by r) e))
-    ∙ (h.0 ∙ ap Put (sym (e (temp t)))),
+        ∙ (h.0 ∙ ap Put (sym (e (temp t)))),
     same_hold w s s' f e h.1,
   )
   same_hold w s s' (Untrue rel x y ∷ f) e h = (

@@ -1,8 +1,7 @@
 -- Known code keeps the meaning of a function.
 use Rattle.std.proofs.Common.{ℕ, ◌≡◌, ◌==◌, Bool, true, false, List, [], ◌∷◌, ◌++◌, refl, sym, ap, ◌∙◌}
-use Rattle.std.proofs.Common.{subst, Option, Some, None, arith, length, ◌+◌, ◌≤◌}
-use Rattle.std.proofs.lemmas.Bool.{eqb-true}
-use Rattle.std.specs.Prelude.{map, if◌then◌else◌}
+use Rattle.std.proofs.Common.{subst, Some, arith, length, ◌+◌, ◌≤◌}
+use Rattle.std.specs.Prelude.{if◌then◌else◌}
 use Rattle.tg_simulation.specs.Ran.{Ran}
 use Rattle.tg_tree.specs.Memory.{Memory}
 use Rattle.tg_tree.specs.Tree.{Function}
@@ -10,9 +9,9 @@ use Rattle.tg_tree.specs.Running.{function_of}
 use Rattle.tg_instr.specs.declared.instr.Instr.{Instr}
 use Rattle.tg_regalloc_proof.specs.Blocks.{Blocks, code_of, Charge, Covers}
 use Rattle.tg_regalloc_proof.specs.Keeping.{Charged, charged_by, functions_of, units_of, Surroundings, run_of, seen_of}
-use Rattle.tg_regalloc_proof.specs.Keeping.{DoesNoMore, Keeps}
+use Rattle.tg_regalloc_proof.specs.Keeping.{DoesNoMore}
 use Rattle.tg_regalloc_proof.proofs.Kept.{singles, code_of_singles, found_label}
-use Rattle.tg_known.specs.mirror.Known.{State, at_start, known_step, known_blocks, blocks_known, most_facts, most_moves}
+use Rattle.tg_known.specs.mirror.Known.{State, at_start, known_step, known_blocks, most_facts, most_moves}
 use Rattle.tg_known_proof.specs.laws.Laws.{with_known, KnownCodeKeeps}
 use Rattle.tg_known_proof.proofs.Programs.{IsKnown, known_programs, known_seen}
 use Rattle.tg_known_proof.proofs.Quiet.{code_stays}

@@ -1,24 +1,19 @@
 -- Places of the walk, and where the ways to a mark come to: what was claimed for it holds there.
-use Rattle.std.proofs.Common.{ℕ, zero, suc, ◌≡◌, ◌==◌, ◌||◌, Bool, true, false, List, [], ◌∷◌, ◌++◌, Option, Some, None, refl, sym, ap, ◌∙◌, subst}
-use Rattle.std.proofs.Common.{◌⊎◌, inl, inr, arith, eq-eqb}
+use Rattle.std.proofs.Common.{ℕ, ◌≡◌, ◌==◌, Bool, true, false, List, [], ◌∷◌, ◌++◌, Option, Some, None, refl, sym, ap, ◌∙◌, subst}
+use Rattle.std.proofs.Common.{◌⊎◌, inl, inr, eq-eqb}
 use Rattle.std.proofs.lemmas.Bool.{false≢true, eqb-true, or_left, or_right}
 use Rattle.std.specs.Prelude.{if◌then◌else◌, take}
 use Rattle.tg_tree.specs.Actions.{World, Activation}
-use Rattle.tg_tree.specs.declared.operators.Rel.{Rel}
-use Rattle.tg_tree.specs.Operators.{opposite}
-use Rattle.tg_instr.specs.declared.operands.Opnd.{Opnd}
 use Rattle.tg_instr.specs.declared.instr.Instr.{Instr}
-use Rattle.tg_instr.specs.declared.instr.Instr.TheVariants.{Mark, Move, Jump}
-use Rattle.tg_instr.specs.Shapes.{InstructionShape, Tests, Goes, Here, shape}
+use Rattle.tg_instr.specs.declared.instr.Instr.TheVariants.{Mark}
+use Rattle.tg_instr.specs.Shapes.{InstructionShape, Here, shape}
 use Rattle.tg_instr.specs.Contents.{Contents}
 use Rattle.tg_instr.specs.Running.{behind}
-use Rattle.tg_regalloc_proof.specs.Blocks.{Blocks, code_of, Charge, Covers}
-use Rattle.tg_known.specs.declared.readings.Reading.{Reading}
-use Rattle.tg_known.specs.mirror.Readings.{reading_of, reread, temp}
-use Rattle.tg_known.specs.mirror.Facts.{Facts, stands, found, is_untrue}
-use Rattle.tg_known.specs.mirror.Known.{Claims, claimed, both, most_claimed, claim, let_go, is_way, has_way, arrival, State, Step, known, gives, tested, by_shape, by_reading, known_step, known_blocks}
+use Rattle.tg_regalloc_proof.specs.Blocks.{code_of, Charge, Covers}
+use Rattle.tg_known.specs.mirror.Facts.{Facts}
+use Rattle.tg_known.specs.mirror.Known.{Claims, claimed, both, most_claimed, claim, let_go, is_way, has_way, arrival, State, known_step, known_blocks}
 use Rattle.tg_known_proof.proofs.Holding.{Hold, Arrives}
-use Rattle.tg_known.proofs.Blocks.{pair, IsBlock, itself, gone, a_move, a_jump, each_step}
+use Rattle.tg_known.proofs.Blocks.{IsBlock, itself, gone, a_move, a_jump, each_step}
 
 -- Marks.
 
@@ -120,7 +115,7 @@ module _ (a : Activation) (k : ℕ) (most : ℕ) where
         (λ b cl. behind m (b ++ code_of (known_blocks most rest (known_step most rest one s).state))
         ≡ behind m (code_of (known_blocks most rest (known_step most rest one s).state)))
         (λ b j. past b j) (λ b j n g. past b j) (λ b j n g. past b j)
-    ∙ e,
+        ∙ e,
     h,
   )
     where
@@ -142,10 +137,12 @@ module _ (a : Activation) (k : ℕ) (most : ℕ) where
     where
       by : (b : Bool) → (j == m) ≡ b → (if b then Some rest else behind m rest) ≡ Some r → Lands m claims r (Mark j ∷ rest) s
       by true i h =
-          subst (λ q. Lands m claims q (Mark j ∷ rest) s) (some_is rest r h)
-          ((known_step most rest (Mark j) s).state, further (Mark j) rest s here,
-          ap (λ b. if b then Some (code_of (known_blocks most rest (known_step most rest (Mark j) s).state)) else behind m (code_of (known_blocks most rest (known_step most rest (Mark j) s).state))) i,
-          λ w c g. lands w c (sym (eqb-true j m i)) g)
+          subst (λ q. Lands m claims q (Mark j ∷ rest) s) (some_is rest r h) (
+            (known_step most rest (Mark j) s).state,
+            further (Mark j) rest s here,
+            ap (λ b. if b then Some (code_of (known_blocks most rest (known_step most rest (Mark j) s).state)) else behind m (code_of (known_blocks most rest (known_step most rest (Mark j) s).state))) i,
+            λ w c g. lands w c (sym (eqb-true j m i)) g,
+          )
       by false i h =
           let z = later i h in (
             z.0,

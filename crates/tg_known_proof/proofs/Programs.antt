@@ -5,7 +5,7 @@ use Rattle.std.specs.Prelude.{if◌then◌else◌}
 use Rattle.tg_state.specs.declared.ends.RunEnd.TheVariants.{Exit, StackFull}
 use Rattle.tg_state.specs.State.{stack_top}
 use Rattle.tg_simulation.specs.Runs.{Run, nested}
-use Rattle.tg_simulation.specs.Ran.{Ran, Wrong, Ended, WantsFuel, stops}
+use Rattle.tg_simulation.specs.Ran.{Ran, Ended, WantsFuel, stops}
 use Rattle.tg_tree.specs.Tree.{Function, Code, Literal}
 use Rattle.tg_tree.specs.Memory.{Cell, Closed, Unset, Memory, lay, begin}
 use Rattle.tg_tree.specs.Actions.{World, Activation, over, charged}
@@ -14,20 +14,20 @@ use Rattle.tg_instr.specs.declared.instr.Instr.{Instr}
 use Rattle.tg_instr.specs.declared.instr.Instr.TheVariants.{Move, Jump}
 use Rattle.tg_instr.specs.Shapes.{shape}
 use Rattle.tg_instr.specs.Contents.{Content, Contents, no_contents, at_entry}
-use Rattle.tg_instr.specs.Meaning.{Back, Next, act}
+use Rattle.tg_instr.specs.Meaning.{Back, act}
 use Rattle.tg_instr.specs.Running.{Units, behind, lay_out, with_frame, CodePoint, begin_code, enter_code, jump_to, run_code}
 use Rattle.tg_instr.specs.Running.{code_step, code_run}
-use Rattle.tg_regalloc_proof.specs.Blocks.{Blocks, code_of, Charge, spent, Covers}
-use Rattle.tg_regalloc_proof.specs.Keeping.{program, Surroundings, MemoriesAgree, IsWatcher, seen_from, seen}
+use Rattle.tg_regalloc_proof.specs.Blocks.{Blocks, code_of, spent, Covers}
+use Rattle.tg_regalloc_proof.specs.Keeping.{program, Surroundings, seen_from, seen}
 use Rattle.tg_regalloc_proof.proofs.Simulating.{Simulates, does_itself, same_run, between, by_fuel, works_too}
 use Rattle.tg_known.specs.mirror.Readings.{temp}
 use Rattle.tg_known.specs.mirror.Facts.{Facts}
-use Rattle.tg_known.specs.mirror.Known.{State, at_start, is_way, claimed, Claims, known_step, known_blocks}
+use Rattle.tg_known.specs.mirror.Known.{State, at_start, is_way, claimed, known_step, known_blocks}
 use Rattle.tg_known_proof.proofs.Holding.{Arrives}
-use Rattle.tg_known_proof.proofs.Doing.{Sides, second_side}
+use Rattle.tg_known_proof.proofs.Doing.{Sides}
 use Rattle.tg_known_proof.proofs.Stepping.{StepDoes, steps_do, alone}
 use Rattle.tg_known.proofs.Blocks.{IsBlock, itself, gone, a_move, a_jump, each_step}
-use Rattle.tg_known_proof.proofs.Landing.{From, here, one_more, covers_from, Lands, lands}
+use Rattle.tg_known_proof.proofs.Landing.{From, here, one_more, covers_from, lands}
 
 abbrev F : Type 0
 F = Function (List Instr)

@@ -1,21 +1,18 @@
 -- Where no facts are kept the walk leaves a code as it is.
 use Rattle.std.proofs.Common.{ℕ, zero, suc, ◌≡◌, ◌==◌, Bool, true, false, List, [], ◌∷◌, Option, Some, None, refl, sym, ap, ◌∙◌, subst}
 use Rattle.std.specs.Prelude.{if◌then◌else◌}
-use Rattle.tg_tree.specs.declared.operators.Rel.{Rel}
-use Rattle.tg_tree.specs.Operators.{opposite}
 use Rattle.tg_instr.specs.declared.operands.Opnd.{Opnd}
 use Rattle.tg_instr.specs.declared.operands.Opnd.TheVariants.{Temp, Reg}
 use Rattle.tg_instr.specs.declared.instr.Instr.{Instr}
 use Rattle.tg_instr.specs.Operands.{is_same}
-use Rattle.tg_instr.specs.Shapes.{InstructionShape, From0, From1, From2, Halves, Copy, Loads, Stores}
-use Rattle.tg_instr.specs.Shapes.{FromSlot, ToSlot, Base, AddressOf, Here, Goes, Tests, Calls, Asks, Fails, Returns, shape}
+use Rattle.tg_instr.specs.Shapes.{InstructionShape, Copy, Stores}
+use Rattle.tg_instr.specs.Shapes.{ToSlot, Here, Goes, Tests, Calls, Asks, Fails, Returns, shape}
 use Rattle.tg_instr.specs.Uses.{defs}
-use Rattle.tg_regalloc_proof.specs.Blocks.{Blocks}
 use Rattle.tg_regalloc_proof.proofs.Kept.{singles}
 use Rattle.tg_known.specs.declared.readings.Reading.{Reading}
 use Rattle.tg_known.specs.mirror.Readings.{reading_of, reread, read_by, temp}
 use Rattle.tg_known.specs.mirror.Facts.{Facts, stands, names_one, forget_each}
-use Rattle.tg_known.specs.mirror.Known.{Claims, claimed, both, claim, comes_back, let_go, arrival, State, Step, at_start, gives, tested, by_shape, by_reading, known_step, known_blocks}
+use Rattle.tg_known.specs.mirror.Known.{Claims, claimed, both, claim, comes_back, let_go, arrival, State, Step, at_start, gives, by_shape, by_reading, known_step, known_blocks}
 
 data IsQuiet : Option Facts → Type 0 where
   nothing_comes : IsQuiet None

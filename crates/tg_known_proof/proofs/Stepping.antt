@@ -1,18 +1,13 @@
 -- What a step of the walk puts in the place of an instruction does the same.
-use Rattle.std.proofs.Common.{ℕ, zero, suc, ◌≡◌, ◌==◌, Bool, true, false, List, [], ◌∷◌, Option, Some, None, refl, sym, ap, ◌∙◌, subst}
+use Rattle.std.proofs.Common.{ℕ, zero, suc, ◌≡◌, Bool, true, false, List, [], ◌∷◌, Option, Some, None, refl, sym, ap, ◌∙◌, subst}
 use Rattle.std.proofs.Common.{eq-eqb}
-use Rattle.std.proofs.lemmas.Bool.{false≢true}
-use Rattle.std.specs.Prelude.{if◌then◌else◌}
-use Rattle.tg_base.specs.Words.{extended}
 use Rattle.tg_simulation.specs.Runs.{Run}
 use Rattle.tg_simulation.specs.Ran.{Ran}
 use Rattle.tg_tree.specs.declared.operators.Rel.{Rel}
 use Rattle.tg_tree.specs.Tree.{Literal}
-use Rattle.tg_tree.specs.Memory.{load}
 use Rattle.tg_tree.specs.Actions.{World, Activation}
 use Rattle.tg_tree.specs.Operators.{opposite}
 use Rattle.tg_instr.specs.declared.operands.Opnd.{Opnd}
-use Rattle.tg_instr.specs.declared.operands.Opnd.TheVariants.{Temp, Reg}
 use Rattle.tg_instr.specs.declared.instr.Instr.{Instr}
 use Rattle.tg_instr.specs.Shapes.{Operand, InstructionShape, From0, From1, From2, Halves, Copy, Loads, Stores}
 use Rattle.tg_instr.specs.Shapes.{FromSlot, ToSlot, Base, AddressOf, Here, Goes, Tests, Calls, Asks, Fails, Returns, shape}
@@ -20,15 +15,13 @@ use Rattle.tg_instr.specs.Contents.{Content, Nothing, Word, Found, Contents, set
 use Rattle.tg_instr.specs.Meaning.{Next, with_content, act}
 use Rattle.tg_regalloc_proof.proofs.Simulating.{Simulates, same_run}
 use Rattle.tg_known.specs.declared.readings.Reading.{Reading}
-use Rattle.tg_known.specs.declared.readings.Reading.TheVariants.{Loaded, InSlot, Sum, Plus, ExactSum, ExactPlus, Shifted, Lower}
-use Rattle.tg_known.specs.mirror.Readings.{temp, given, reading_of, reread}
+use Rattle.tg_known.specs.mirror.Readings.{temp, reading_of, reread}
 use Rattle.tg_known.proofs.ReadShapes.{reading_is, shape_of}
 use Rattle.tg_known.specs.mirror.Facts.{Facts, stands, found, is_untrue}
-use Rattle.tg_known.specs.declared.facts.Fact.TheVariants.{Untrue}
-use Rattle.tg_known.specs.mirror.Known.{Claims, claimed, both, claim, is_way, has_way, comes_back, arrival, State, Step, gives, tested, by_shape, by_reading, known_step, copied, gotten}
-use Rattle.tg_known_proof.proofs.Getting.{Got, Put, Over, content_got, gets, done, act_gets, puts_something}
-use Rattle.tg_known_proof.proofs.Holding.{Holds, Hold, Arrives, claim_holds, stands_held, reread_gets, found_holds, untrue_holds, gotten_hold, copied_hold, content_puts}
-use Rattle.tg_known_proof.proofs.Doing.{Sides, first_side, second_side, Onward, defines, copies, stores, keeps_slot, tests, falls, jumps_on, calls, asks, fails, returns}
+use Rattle.tg_known.specs.mirror.Known.{Claims, claimed, is_way, comes_back, arrival, State, Step, gives, tested, by_shape, by_reading, known_step, gotten}
+use Rattle.tg_known_proof.proofs.Getting.{Got, Put, Over, gets, done, act_gets, puts_something}
+use Rattle.tg_known_proof.proofs.Holding.{Hold, Arrives, claim_holds, stands_held, reread_gets, found_holds, untrue_holds, gotten_hold, copied_hold, content_puts}
+use Rattle.tg_known_proof.proofs.Doing.{Sides, first_side, second_side, defines, copies, stores, keeps_slot, tests, falls, jumps_on, calls, asks, fails, returns}
 
 module _ (room : ℕ) (literals : List Literal) (a : Activation) (k : ℕ) (sides : Sides room literals a k) (most : ℕ) where
   -- a block, uncharged

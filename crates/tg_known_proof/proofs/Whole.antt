@@ -1,15 +1,14 @@
 -- All functions of a program with known code.
-use Rattle.std.proofs.Common.{ℕ, ◌≡◌, ◌≢◌, ◌==◌, ◌≤◌, ◌+◌, ◌*◌, Bool, true, false, List, [], ◌∷◌, map, length, Some}
+use Rattle.std.proofs.Common.{ℕ, ◌≡◌, ◌==◌, ◌≤◌, ◌+◌, ◌*◌, Bool, true, false, List, [], ◌∷◌, map, length, Some}
 use Rattle.std.proofs.Common.{refl, sym, ap, ◌∙◌, subst, arith}
 use Rattle.std.specs.Prelude.{if◌then◌else◌}
 use Rattle.tg_simulation.specs.Runs.{Run}
-use Rattle.tg_simulation.specs.Ran.{Ran, Wrong}
+use Rattle.tg_simulation.specs.Ran.{Ran}
 use Rattle.tg_tree.specs.Tree.{Function}
 use Rattle.tg_tree.specs.Running.{function_of}
 use Rattle.tg_instr.specs.declared.instr.Instr.{Instr}
-use Rattle.tg_instr.specs.Running.{everywhere, code_run}
 use Rattle.tg_regalloc_proof.specs.Blocks.{code_of, Charge, spent, Covers}
-use Rattle.tg_regalloc_proof.specs.Keeping.{Charged, charged_by, functions_of, Holds, AreHeld, DoesNoMore, AreKept, Surroundings, run_of, program}
+use Rattle.tg_regalloc_proof.specs.Keeping.{charged_by, AreHeld, DoesNoMore, AreKept, run_of}
 use Rattle.tg_regalloc_proof.specs.Keeping.AreKept.{none, also}
 use Rattle.tg_regalloc_proof.proofs.Composing.{programs_are_kept}
 use Rattle.tg_regalloc_proof.proofs.Cheaper.{functions_charged, to_charged, from_charged}

@@ -1,6 +1,6 @@
 -- What is known may be left out: known code may stand in the place of the code, in each function
 -- alone and in all functions of a program together.
-use Rattle.std.specs.Prelude.{ℕ, List, map}
+use Rattle.std.specs.Prelude.{List, map}
 use Rattle.tg_tree.specs.Tree.{Function}
 use Rattle.tg_instr.specs.declared.instr.Instr.{Instr}
 use Rattle.tg_instr.specs.Running.{everywhere, code_run}
