@@ -73,7 +73,8 @@ fn put_new_line(text: &mut Vec<u8>, depth: usize) -> Result<(), Memory>
     put_blanks(text, depth)
 }
 
-fn put_blanks(text: &mut Vec<u8>, depth: usize) -> Result<(), Memory>
+/// Puts an indentation of so many levels at the end.
+pub fn put_blanks(text: &mut Vec<u8>, depth: usize) -> Result<(), Memory>
     ensures { OnOk result (text.new.items ≡ text.old.items ++ blanks depth) }
 {
     for level in 0..depth {

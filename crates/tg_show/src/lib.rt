@@ -3,11 +3,12 @@
 //! Promises exactly the texts of `specs/`.
 #![tactic(auto)]
 
+mod flat;
+mod instructions;
 mod layouts;
 mod modes;
+mod stages;
 mod trees;
 mod words;
 
-pub use layouts::{WIDTH, put_laid};
-pub use trees::{put_cond, put_ts, put_tx};
-pub use words::put_temp;
+pub use stages::{put_canonical, put_code, put_function, put_traces, put_tree};

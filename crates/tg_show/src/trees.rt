@@ -57,7 +57,7 @@ pub fn put_tx(text: &mut Vec<u8>, names: &[Bytes], x: &Tx) -> Result<(), Memory>
 
 /// Puts a word and one part at the end.
 #[cycle(trees)]
-fn put_form(text: &mut Vec<u8>, names: &[Bytes], word: &[u8], x: &Tx) -> Result<(), Memory>
+pub fn put_form(text: &mut Vec<u8>, names: &[Bytes], word: &[u8], x: &Tx) -> Result<(), Memory>
     ensures { OnOk result (text.new.items
         ≡ text.old.items ++ form word.now (tx_text names.now (plain_tx x.now))) }
 {
@@ -69,7 +69,7 @@ fn put_form(text: &mut Vec<u8>, names: &[Bytes], word: &[u8], x: &Tx) -> Result<
 
 /// Puts a further part at the end.
 #[cycle(trees)]
-fn put_after_comma(text: &mut Vec<u8>, names: &[Bytes], x: &Tx) -> Result<(), Memory>
+pub fn put_after_comma(text: &mut Vec<u8>, names: &[Bytes], x: &Tx) -> Result<(), Memory>
     ensures { OnOk result (text.new.items
         ≡ text.old.items ++ (codes ", " ++ tx_text names.now (plain_tx x.now))) }
 {
