@@ -1,5 +1,5 @@
 -- One level more at the end of an indentation.
-use Rattle.std.proofs.Common.{ℕ, zero, suc, ◌+◌, ◌≡◌, List, [], ◌∷◌, ◌++◌, refl, ap, ◌∙◌, add-one, append_assoc}
+use Rattle.std.proofs.Common.{ℕ, zero, suc, ◌+◌, ◌≡◌, List, [], ◌∷◌, ◌++◌, refl, ap, add-one, append_assoc}
 use Rattle.tg_show.specs.Layout.{blanks}
 
 blanks_suc : (d : ℕ) → blanks d ++ 32 ∷ 32 ∷ [] ≡ blanks (suc d)

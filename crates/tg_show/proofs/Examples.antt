@@ -1,10 +1,10 @@
 -- The text of some trees, computed.
 use Rattle.std.specs.Prelude.{ℕ, ◌≡◌, List, [], ◌∷◌, codes, refl}
 use Rattle.std.specs.Fmt.{digits}
-use Rattle.tg_tree.specs.declared.operators.Bin.TheVariants.{Add, ShiftLeft}
+use Rattle.tg_tree.specs.declared.operators.Bin.TheVariants.{Add}
 use Rattle.tg_tree.specs.declared.operators.Rel.TheVariants.{Less}
-use Rattle.tg_tree.specs.Tree.{Const, Address, Temp, FrameAddress, Binary, Load, LoadByte, Call, Service, After, no_txs, tx}
-use Rattle.tg_tree.specs.Tree.{Compare, Not, Both, Either, Ts, Move, Store, Do, If, Loop, Break, Fault, Seq, Return, no_stms, stm}
+use Rattle.tg_tree.specs.Tree.{Const, Address, Temp, FrameAddress, Binary, Load, Call, no_txs, tx}
+use Rattle.tg_tree.specs.Tree.{Compare, Not, Both, Ts, Move, If, Break, Seq, Return, no_stms, stm}
 use Rattle.tg_show.specs.Trees.{ts_text}
 use Rattle.tg_show.specs.Layout.{laid}
 
