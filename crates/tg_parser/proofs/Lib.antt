@@ -11,3 +11,4 @@ mod GroupSteps
 mod NestingSteps
 mod ParseSteps
 mod Passings
+mod WithinLists

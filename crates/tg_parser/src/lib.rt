@@ -2,11 +2,13 @@
 //!
 //! It descends by precedence. Promises that the tree is the one that the grammar relation of
 //! `tg_syntax` gives, that an unexpected token is the first with which no program can go on, and
-//! that nesting above 256 is refused. `parsing` has the call, `nesting` finds the first token that
-//! is too deep, and each part of `reading` does exactly what the descent in `tg_syntax_laws` does.
+//! that nesting above 256 is refused; and that no tree is deeper than `MOST_DEPTH`. `parsing` has
+//! the call, `nesting` finds the first token that is too deep, `depths` bounds trees, and each part
+//! of `reading` does exactly what the descent in `tg_syntax_laws` does.
 #![tactic(auto)]
 
 mod building;
+mod depths;
 mod ends;
 mod faults;
 mod forms;
@@ -19,6 +21,7 @@ mod ranks;
 mod reading;
 mod taking;
 
+pub use depths::MOST_DEPTH;
 pub use faults::{SyntaxFault, SyntaxRule};
 pub use laws::{fault_excludes_program, faults_once};
 pub use parsing::parse;

@@ -51,6 +51,7 @@ use crate::building::{
     build_for, build_let, build_negation, build_operation, build_record, build_sequence,
     build_while, join,
 };
+use crate::depths::bounded;
 use crate::faults::Stop;
 use crate::forms::type_dec;
 use crate::groups::{list_of_one, push_function, push_type, push_variable};
@@ -138,9 +139,21 @@ fn onward(alloc: Global, rank: Rank, left: Exp, tokens: &[Spanned]) -> Reading<E
     }
 }
 
-/// An expression, which may be an assignment.
+/// An expression, which may be an assignment. It is out of memory where a long one is too deep.
 #[cycle(descent)]
 fn whole(alloc: Global, tokens: &[Spanned]) -> Reading<Exp>
+    ensures given { AnswersJob (At WholeLevel) (λ x. plain x.0) (λ x. x.1.now) result
+        (job (At WholeLevel)) tokens.now }
+    ensures shorter { IfOk result (λ x. length x.1.now < length tokens.now) }
+{
+    let (e, rest) = of_any_depth(alloc, tokens)?;
+    let e = bounded(e, tokens.len() - rest.len())?;
+    Ok((e, rest))
+}
+
+/// An expression of any depth, which may be an assignment.
+#[cycle(descent)]
+fn of_any_depth(alloc: Global, tokens: &[Spanned]) -> Reading<Exp>
     ensures given { AnswersJob (At WholeLevel) (λ x. plain x.0) (λ x. x.1.now) result
         (job (At WholeLevel)) tokens.now }
     ensures shorter { IfOk result (λ x. length x.1.now < length tokens.now) }

@@ -1,12 +1,14 @@
+use Rattle.std.proofs.Common.{ap}
+use Rattle.tg_syntax.specs.glue.Plain.{plain}
 use Rattle.tg_parser.proofs.ParseSteps.{got_program, got_shallow, refused, too_deep}
 use Rattle.tg_parser.proofs.parsing.parse.Goals as goal
 
-pub returns-in-Ok-clause-program : goal.returns-in-Ok-clause-program
-returns-in-Ok-clause-program c =
-    got_program c.args.tokens.now c.in_ok-part.part.now _ _ c.descent_is_exact.ensures.programs c.requires.ends c.in_ok-part.ensures c.in-Ok.ensures.given
+pub returns-in_ok-bounded_program-in-Ok-clause-program : goal.returns-in_ok-bounded_program-in-Ok-clause-program
+returns-in_ok-bounded_program-in-Ok-clause-program c = rw (ap plain c.in_ok-bounded_program-in-Ok.ensures.same)
+    (got_program c.args.tokens.now c.in_ok-part.part.now _ _ c.descent_is_exact.ensures.programs c.requires.ends c.in_ok-part.ensures c.in-Ok.ensures.given)
 
-pub returns-in-Ok-clause-shallow : goal.returns-in-Ok-clause-shallow
-returns-in-Ok-clause-shallow c = got_shallow c.args.tokens.now c.in_ok-part.part.now _ _ c.requires.ends c.in_ok-part.ensures c.in-Ok.ensures.given
+pub returns-in_ok-bounded_program-in-Ok-clause-shallow : goal.returns-in_ok-bounded_program-in-Ok-clause-shallow
+returns-in_ok-bounded_program-in-Ok-clause-shallow c = got_shallow c.args.tokens.now c.in_ok-part.part.now _ _ c.requires.ends c.in_ok-part.ensures c.in-Ok.ensures.given
 
 pub returns-in-Err-Wrong-clause-bad : goal.returns-in-Err-Wrong-clause-bad
 returns-in-Err-Wrong-clause-bad c =

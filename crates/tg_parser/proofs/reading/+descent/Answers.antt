@@ -24,15 +24,24 @@ use Rattle.tg_parser.proofs.Onwards.{inits_first, inits_more, inits_stops, decs_
 use Rattle.tg_parser.proofs.Passings.{unary_refuses}
 use Rattle.tg_parser.proofs.reading.+descent.Goals as goal
 
-pub whole-returns-in_err-left-clause-given : goal.whole-returns-in_err-left-clause-given
-whole-returns-in_err-left-clause-given t c = ended _ _ _ _ _ _ c.from_residual.ensures (call_stops (At Whole) (At Disjunction) c.in_err-left.ensures.given)
+pub whole-returns-in_err-e-clause-given : goal.whole-returns-in_err-e-clause-given
+whole-returns-in_err-e-clause-given t c = ended _ _ _ _ _ _ c.from_residual.ensures c.in_err-e.ensures.given
 
-pub whole-returns-in-Other-clause-given : goal.whole-returns-in-Other-clause-given
-whole-returns-in-Other-clause-given t c = gives (then (call_leads (At Whole) (At Disjunction) c.in_ok-left.ensures.given)
+pub whole-returns-in_err-e-2-clause-given : goal.whole-returns-in_err-e-2-clause-given
+whole-returns-in_err-e-2-clause-given t c = ended _ _ _ _ _ _ c.from_residual-in_err-e-2.ensures (no_memory (At Whole))
+
+pub whole-returns-clause-given : goal.whole-returns-clause-given
+whole-returns-clause-given t c = got_is (At Whole) (ap plain c.in_ok-e-2.ensures) c.in_ok-e.ensures.given
+
+pub of_any_depth-returns-in_err-left-clause-given : goal.of_any_depth-returns-in_err-left-clause-given
+of_any_depth-returns-in_err-left-clause-given t c = ended _ _ _ _ _ _ c.from_residual.ensures (call_stops (At Whole) (At Disjunction) c.in_err-left.ensures.given)
+
+pub of_any_depth-returns-in-Other-clause-given : goal.of_any_depth-returns-in-Other-clause-given
+of_any_depth-returns-in-Other-clause-given t c = gives (then (call_leads (At Whole) (At Disjunction) c.in_ok-left.ensures.given)
     (same_leads (At Whole) c.in-Other.ensures))
 
-pub whole-returns-in-LValue-clause-given : goal.whole-returns-in-LValue-clause-given
-whole-returns-in-LValue-clause-given t c = carry c.assignment.result _ _
+pub of_any_depth-returns-in-LValue-clause-given : goal.of_any_depth-returns-in-LValue-clause-given
+of_any_depth-returns-in-LValue-clause-given t c = carry c.assignment.result _ _
     (then (call_leads (At Whole) (At Disjunction) c.in_ok-left.ensures.given) (same_leads (At Whole) c.in-LValue.ensures)) c.assignment.ensures.given
 
 pub boxed_whole-returns-in_err-e-clause-given : goal.boxed_whole-returns-in_err-e-clause-given

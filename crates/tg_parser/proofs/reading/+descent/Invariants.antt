@@ -47,10 +47,13 @@ abbrev pub decreases-comparison : goal.decreases-comparison
 decreases-comparison l = 32 * length l.tokens.now + 8
 
 abbrev pub decreases-whole : goal.decreases-whole
-decreases-whole l = 32 * length l.tokens.now + 14
+decreases-whole l = 32 * length l.tokens.now + 15
+
+abbrev pub decreases-of_any_depth : goal.decreases-of_any_depth
+decreases-of_any_depth l = 32 * length l.tokens.now + 14
 
 abbrev pub decreases-boxed_whole : goal.decreases-boxed_whole
-decreases-boxed_whole l = 32 * length l.tokens.now + 15
+decreases-boxed_whole l = 32 * length l.tokens.now + 16
 
 abbrev pub decreases-assignment : goal.decreases-assignment
 decreases-assignment l = 32 * length l.tokens.now
@@ -80,7 +83,7 @@ abbrev pub decreases-naming : goal.decreases-naming
 decreases-naming l = 32 * length l.tokens.now
 
 abbrev pub decreases-indexing : goal.decreases-indexing
-decreases-indexing l = 32 * length l.tokens.now + 16
+decreases-indexing l = 32 * length l.tokens.now + 17
 
 abbrev pub decreases-suffixes : goal.decreases-suffixes
 decreases-suffixes l = 32 * length l.tokens.now
@@ -92,7 +95,7 @@ abbrev pub decreases-boxed_clause : goal.decreases-boxed_clause
 decreases-boxed_clause l = 32 * length l.tokens.now
 
 abbrev pub decreases-listed : goal.decreases-listed
-decreases-listed l = 32 * length l.tokens.now + 15
+decreases-listed l = 32 * length l.tokens.now + 16
 
 abbrev pub decreases-items : goal.decreases-items
 decreases-items l = 32 * length l.tokens.now
