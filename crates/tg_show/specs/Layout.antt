@@ -1,6 +1,6 @@
 -- How a nested text is laid on lines. In a nested text parts stand between parentheses, and a comma
--- and a blank between two parts. A part of at most 72 bytes stands on one line. Of a longer one each
--- part begins a line, which is indented by two blanks more.
+-- and a blank between two parts. A part of at most 72 bytes stands on one line. Of a longer one
+-- each part begins a line, which is indented by two blanks more.
 use Rattle.std.specs.Prelude.{ℕ, zero, suc, ◌+◌, ◌-◌, ◌==◌, ◌&&◌, ◌||◌, Bool, if◌then◌else◌}
 use Rattle.std.specs.Prelude.{List, [], ◌∷◌, ◌++◌}
 use Rattle.tg_show.specs.declared.modes.Mode.{Mode}

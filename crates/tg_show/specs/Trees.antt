@@ -1,5 +1,5 @@
--- The text of trees on one line, in the book's notation (Appel, chapter 7): each is a word, and
--- its parts between parentheses. The functions are given the names of temporaries, by their numbers.
+-- The text of trees on one line, in the book's notation (Appel, chapter 7): each is a word, and its
+-- parts between parentheses. The functions are given the names of temporaries, by their numbers.
 use Rattle.std.specs.Prelude.{ℕ, Bool, true, false, List, [], ◌++◌, codes}
 use Rattle.std.specs.Fmt.{decimal}
 use Rattle.tg_tree.specs.Tree.{Tx, Const, Address, Temp, FrameAddress, Binary, Load, LoadByte}
