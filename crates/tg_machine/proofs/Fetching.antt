@@ -1,5 +1,5 @@
 -- What runs fetch.
-use Rattle.std.proofs.Common.{◌≡◌, ◌<◌, ◌+◌, ◌^◌, ℕ, zero, suc, List, [], ◌++◌, Option, None, arith, refl, sym, ap, ◌∙◌}
+use Rattle.std.proofs.Common.{◌≡◌, ◌<◌, ◌+◌, ◌^◌, ℕ, zero, suc, List, [], ◌++◌, Bool, Option, None, arith, refl, sym, ap, ◌∙◌}
 use Rattle.std.proofs.Common.{append_assoc, append-nil, zero-add}
 use Rattle.tg_state.specs.declared.ends.RunEnd.{RunEnd}
 use Rattle.tg_state.specs.declared.ends.RunEnd.TheVariants.{StepLimit}
@@ -67,7 +67,7 @@ pub watched_step : {I O : Type 0} (left : I → Option (List ℕ)) (read_faults 
     (old new : Simulated) (input input' : I) (out out' : O) (e : RunEnd) →
     IsSimulation left read_faults taken write_faults 1 old new input input' out out' e →
     IsWatched left read_faults taken write_faults 1 old new input input' out out' e (seen_at old.state)
-watched_step left read_faults taken write_faults old new input input' out out' e s = record { simulation = s; seen_is = sym (until_one s.stops) }
+watched_step left read_faults taken write_faults old new input input' out out' e s = record { simulation = s; seen_is = λ rest may. sym (until_one (s.stops rest may)) }
 
 -- no step
 until_none : {w : Execution} {e : RunEnd} {last : Execution} {front : List ℕ} (s : Stops 0 w e last front) → [] ≡ fetches_until s
@@ -77,9 +77,9 @@ until_none (read_failed i lt r d p f) = absurd (omega (arith, lt))
 until_none (write_failed i rest lt r d p) = absurd (omega (arith, lt))
 
 pub watched_none : {I O : Type 0} (left : I → Option (List ℕ)) (read_faults : I → ℕ) (taken : O → Option (List ℕ)) (write_faults : O → ℕ)
-    (state : MachineState) (written : ℕ) (input : I) (out : O) → written < 2 ^ 64 →
-    IsWatched left read_faults taken write_faults 0 (simulated state None written) (simulated state None written) input input out out StepLimit []
-watched_none left read_faults taken write_faults state written input out small =
-    let s = ran_all left read_faults taken write_faults 0 state state input input out out written written
-    (reached_none left read_faults taken write_faults state input out written small) in
-    record { simulation = s; seen_is = until_none s.stops }
+    (state : MachineState) (written : ℕ) (e : Bool) (input : I) (out : O) → written < 2 ^ 64 →
+    IsWatched left read_faults taken write_faults 0 (simulated state None written e) (simulated state None written e) input input out out StepLimit []
+watched_none left read_faults taken write_faults state written e input out small =
+    let s = ran_all left read_faults taken write_faults 0 state state input input out out written written e e
+    (reached_none left read_faults taken write_faults state input out written e small) in
+    record { simulation = s; seen_is = λ rest may. until_none (s.stops rest may) }

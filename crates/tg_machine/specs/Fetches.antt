@@ -9,6 +9,7 @@ use Rattle.tg_isa.specs.Runs.{Execution, Running, Ended, proceed}
 use Rattle.tg_machine.specs.declared.fetches.Seen.{Seen}
 use Rattle.tg_machine.specs.Machines.{Simulated}
 use Rattle.tg_machine.specs.Ran.{Stops, still, ended, read_failed, write_failed, IsSimulation}
+use Rattle.tg_machine.specs.Ran.{MayFollow}
 
 -- the word of the code at so many bytes after its base, with the place
 abbrev pub seen_there : MachineState → Option ℕ → Option Seen
@@ -60,4 +61,5 @@ pub record IsWatched {I O : Type 0}
     (n : ℕ) (old new : Simulated) (input input' : I) (out out' : O) (e : RunEnd)
     (seen : List Seen) : Type 0 where
   pub simulation : IsSimulation left read_faults taken write_faults n old new input input' out out' e
-  pub seen_is : seen ≡ fetches_until simulation.stops
+  pub seen_is : (rest : List ℕ) (may : MayFollow new.input_ended rest) →
+      seen ≡ fetches_until (simulation.stops rest may)
