@@ -11,10 +11,10 @@ use Rattle.tg_isa.specs.Effects.{step}
 use Rattle.tg_isa.specs.Runs.{Execution, Progress, Running, Ended, proceed, run, begun, answers}
 use Rattle.tg_machine.specs.Ran.{ComesToRead, ComesToWrite, Stops, still, ended, read_failed, write_failed, MayFollow, begun_on, standing}
 use Rattle.tg_machine.specs.Ran.{saturating_sum}
-use Rattle.tg_machine.specs.Fetches.{seen_at, fetches, fetches_until}
+use Rattle.tg_machine.specs.Fetches.{seen_at, fetches, fetches_until, rest_after}
 use Rattle.tg_machine.specs.laws.Laws.{CallsChain, WatchedCallsChain}
 use Rattle.tg_machine.proofs.Runs.{go_on, run_suc, run_add}
-use Rattle.tg_machine.proofs.Fetching.{see_on, fetches_suc, fetches_add, until_all}
+use Rattle.tg_machine.proofs.Fetching.{see_on, fetches_suc, fetches_add, fetches_alike, until_all}
 use Rattle.tg_machine.proofs.Reached.{saturating_sum-add, rose_later, meets_then, may_before, later_read, later_write}
 
 abbrev world : MachineState → List (Option ℕ) → List ℕ → Execution
@@ -203,13 +203,18 @@ watched_calls_chain left read_faults taken write_faults k n old mid new first in
     let before : (rest : List ℕ) → MayFollow new.input_ended rest → MayFollow mid.input_ended (y.read ++ rest) =
     λ rest may. may_before left mid.input_ended new.input_ended y.read rest input input' y.meets_end may in
     let j = joined k old.state mid.state x.last mid.input_ended new.input_ended x.read y.read x.output g.state before g.running in
+    let rest = rest_after new.input_ended (left input') in
     record {
       simulation = calls_chain left read_faults taken write_faults k n old mid new first input input' start out out' e x y;
-      seen_is = λ rest may.
-          let earlier = y.read ++ rest in
-          ap (λ l. l ++ t) (a.seen_is earlier (before rest may)
-          ∙ until_all (x.stops earlier (before rest may)) refl (g.running earlier (before rest may)) ∙ ap (fetches k) (j.same rest))
-          ∙ ap (λ l. fetches k (begun_on old.state ((x.read ++ y.read) ++ rest)) ++ l) (b.seen_is rest may)
+      may = b.may;
+      seen_is =
+          let later = y.read ++ rest in
+          let there = before rest b.may in
+          let earlier = rest_after mid.input_ended (left input) in
+          ap (λ l. l ++ t) (a.seen_is ∙ until_all (x.stops earlier a.may) refl (g.running earlier a.may)
+          ∙ fetches_alike k old.state x.last x.read earlier x.output (g.running earlier a.may)
+          ∙ sym (fetches_alike k old.state x.last x.read later x.output (g.running later there)) ∙ ap (fetches k) (j.same rest))
+          ∙ ap (λ l. fetches k (begun_on old.state ((x.read ++ y.read) ++ rest)) ++ l) b.seen_is
           ∙ sym (fetches_until_on k n old.state mid.state _ (answers (y.read ++ rest)) x.output e (standing y.last rest y.output) y.front
-          (j.comes rest may) (y.stops rest may));
+          (j.comes rest b.may) (y.stops rest b.may));
     }

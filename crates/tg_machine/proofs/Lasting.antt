@@ -5,7 +5,7 @@ use Rattle.tg_state.specs.declared.ends.RunEnd.TheVariants.{StepLimit}
 use Rattle.tg_isa.specs.Effects.{step}
 use Rattle.tg_isa.specs.Runs.{Execution, Progress, Running, Ended, proceed, run}
 use Rattle.tg_machine.specs.declared.fetches.Seen.{Seen}
-use Rattle.tg_machine.specs.Fetches.{seen_at, fetches, fetches_until, IsWatched}
+use Rattle.tg_machine.specs.Fetches.{seen_at, fetches, fetches_until, rest_after, IsWatched}
 use Rattle.tg_machine.specs.Machines.{Simulated}
 use Rattle.tg_machine.specs.Ran.{Stops, still, ended, read_failed, write_failed}
 use Rattle.tg_machine.proofs.Fetching.{see_on, fetches_suc}
@@ -84,5 +84,6 @@ watched_longer left read_faults taken write_faults k n old new input input' out 
         keeps = s.keeps;
         written = s.written;
       };
-      seen_is = λ rest may. h.seen_is rest may ∙ (longer n (s.stops rest may) apart le).same;
+      may = h.may;
+      seen_is = h.seen_is ∙ (longer n (s.stops (rest_after new.input_ended (left input')) h.may) apart le).same;
     }
