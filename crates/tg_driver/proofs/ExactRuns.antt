@@ -5,9 +5,10 @@ use Rattle.tg_state.specs.declared.ends.RunEnd.{RunEnd}
 use Rattle.tg_state.specs.declared.ends.RunEnd.TheVariants.{ReadFault, WriteFault}
 use Rattle.tg_state.specs.State.{initial_machine}
 use Rattle.tg_isa.specs.declared.images.Image.{Image}
-use Rattle.tg_isa.specs.Runs.{Execution, run, begun, answers}
-use Rattle.tg_machine.specs.Ran.{Stops, still, ended, read_failed, write_failed, Tells}
-use Rattle.tg_machine.specs.Fetches.{fetches, fetches_until}
+use Rattle.tg_isa.specs.Runs.{Execution, run}
+use Rattle.tg_machine.specs.Ran.{Stops, still, ended, read_failed, write_failed, begun_on, standing}
+use Rattle.tg_machine.specs.Fetches.{fetches, fetches_until, rest_after}
+use Rattle.tg_machine.proofs.Fetching.{may_rest}
 use Rattle.tg_watch.specs.Told.{reports_text}
 use Rattle.tg_watch.specs.Watching.{Report}
 use Rattle.tg_driver.specs.Calls.{Streams, HasFailed}
@@ -15,6 +16,7 @@ use Rattle.tg_driver.specs.Runs.{RunRelation, HasRun, end_in, world_in, IsExact}
 use Rattle.tg_driver.specs.Watching.{HasToldRun, reports_on}
 use Rattle.tg_driver.specs.laws.Laws.{IsFaultless, EndsAsTold}
 use Rattle.tg_driver.specs.declared.answers.Answer.TheVariants.{Finished}
+use Rattle.tg_driver.proofs.ToldInputs.{lost}
 
 -- the outcome, by its parts
 record Comes (n : ℕ) (w : Execution) (e : RunEnd) (last : Execution) (front : List ℕ) : Type 0 where
@@ -37,16 +39,20 @@ pub exact_run : {I O : Type 0} (s : Streams I O) (image : Image) (heap stack ste
     IsExact s image heap stack steps end bytes
 exact_run s image heap stack steps end bytes h tells f =
     let r = h.ran in
-    let T : Option (List ℕ) → Type 0 = λ o. Tells o r.input_before in
-    let same : r.input_before ≡ answers bytes = subst T tells r.told in
-    let S : List (Option ℕ) → Type 0 = λ i. Stops steps (begun (initial_machine image.code image.statics image.entry heap stack) i) end r.last r.front in
-    let c = comes steps _ end r.last r.front (λ d. f.all_read (ap Finished d)) (λ d. f.all_written (ap Finished d)) (subst S same r.stops) in
+    let e = h.after.input_ended in
+    let l = lost s.input.told e r.read bytes s.input.before s.input.after r.gives r.meets_end tells in
+    let rest = rest_after e (s.input.told s.input.after) in
+    let first = initial_machine image.code image.statics image.entry heap stack in
+    let S : List ℕ → Type 0 = λ i. Stops steps (begun_on first i) end (standing r.last rest r.output) r.front in
+    let c = comes steps _ end _ r.front (λ d. f.all_read (ap Finished d)) (λ d. f.all_written (ap Finished d))
+    (subst S l.whole (r.stops rest (may_rest e (s.input.told s.input.after)))) in
     let W : List ℕ → Type 0 = λ w. Appends (s.out.told s.out.before) (s.out.told s.out.after) w in
-    let R : Execution → Type 0 = λ w. Tells (s.input.told s.input.after) w.input in
     record {
       ends = c.end_is;
-      writes = subst W (whole r.last.output r.front c.no_front ∙ ap (λ w. w.output) c.last_is) r.writes;
-      rest = subst R c.last_is r.rest;
+      writes = subst W (whole r.output r.front c.no_front ∙ ap (λ (w : Execution). w.output) c.last_is) r.writes;
+      left = rest;
+      told = l.left;
+      leaves = sym (ap (λ (w : Execution). w.input) c.last_is);
     }
 
 -- such a run, as what is said of runs
@@ -65,10 +71,12 @@ pub ends_as_told : {I O : Type 0} (s : Streams I O) (image : Image) (heap stack 
     (end ≡ ReadFault → ⊥) → (end ≡ WriteFault → ⊥) → HasRun s image heap stack steps end → EndsAsTold (s.input.told s.input.before) image heap stack steps end
 ends_as_told s image heap stack steps end read written h bytes tells =
     let r = h.ran in
-    let T : Option (List ℕ) → Type 0 = λ o. Tells o r.input_before in
-    let same : r.input_before ≡ answers bytes = subst T tells r.told in
-    let S : List (Option ℕ) → Type 0 = λ i. Stops steps (begun (initial_machine image.code image.statics image.entry heap stack) i) end r.last r.front in
-    (comes steps _ end r.last r.front read written (subst S same r.stops)).end_is
+    let e = h.after.input_ended in
+    let rest = rest_after e (s.input.told s.input.after) in
+    let first = initial_machine image.code image.statics image.entry heap stack in
+    let S : List ℕ → Type 0 = λ i. Stops steps (begun_on first i) end (standing r.last rest r.output) r.front in
+    (comes steps _ end _ r.front read written (subst S (lost s.input.told e r.read bytes s.input.before s.input.after r.gives r.meets_end tells).whole
+    (r.stops rest (may_rest e (s.input.told s.input.after))))).end_is
 
 pub ends_faultless : {I O : Type 0} (s : Streams I O) (image : Image) (heap stack steps : ℕ) (end : RunEnd) →
     (HasFailed s.input → ⊥) → (HasFailed s.out → ⊥) → HasRun s image heap stack steps end → EndsAsTold (s.input.told s.input.before) image heap stack steps end
@@ -88,9 +96,11 @@ pub exact_reports : {I O : Type 0} (s : Streams I O) (reporters : List Report) (
     (bytes : List ℕ) → (end ≡ ReadFault → ⊥) → (end ≡ WriteFault → ⊥) → HasToldRun s reporters reports image heap stack steps end →
     s.input.told s.input.before ≡ Some bytes → reports ≡ reports_on reporters image heap stack steps bytes
 exact_reports s reporters reports image heap stack steps end bytes read written h tells =
-    let r = h.fetched.watched.simulation in
-    let T : Option (List ℕ) → Type 0 = λ o. Tells o r.input_before in
-    let same : r.input_before ≡ answers bytes = subst T tells r.told in
+    let w = h.fetched.watched in
+    let r = w.simulation in
+    let e = h.fetched.after.input_ended in
+    let rest = rest_after e (s.input.told s.input.after) in
+    let same = (lost s.input.told e r.read bytes s.input.before s.input.after r.gives r.meets_end tells).whole in
     let first = initial_machine image.code image.statics image.entry heap stack in
-    let seen = h.fetched.watched.seen_is ∙ fetched steps _ end r.last r.front r.stops read written ∙ ap (λ i. fetches steps (begun first i)) same in
+    let seen = w.seen_is ∙ fetched steps _ end _ r.front (r.stops rest w.may) read written ∙ ap (λ i. fetches steps (begun_on first i)) same in
     h.reports_are ∙ ap (λ l. reports_text reporters l (length image.code)) seen

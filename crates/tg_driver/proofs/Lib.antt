@@ -7,7 +7,8 @@ pub mod FaultsOnce
 pub mod SourcesOnce
 pub mod CanonicalTexts
 pub mod ModesOnce
-pub mod ExactRuns
+pub mod ToldInputs
+mod ExactRuns
 pub mod MeantEnds
 pub mod Complete
 pub mod MeantCommands

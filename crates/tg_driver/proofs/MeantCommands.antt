@@ -75,8 +75,8 @@ module _ (ends : EndedIsMeant) (goes_on : RunningIsMeant) where
   runs_so : {I O : Type 0} (s : Streams I O) (a : Asked) (text : List ℕ) (answer : Answer) → AreSizes a.heap a.stack →
       (HasFailed s.input → ⊥) → (HasFailed s.out → ⊥) → IsRun (HasRun s) a text answer → RunsByMeaning s a text answer
   runs_so s a text (Faulty f) sizes r w h = h
-  runs_so s a text (Finished end) sizes r w h = λ bytes tells are.
-      runs_are_meant ends goes_on s text a.heap a.stack a.steps end bytes h tells are sizes
+  runs_so s a text (Finished end) sizes r w h =
+      runs_are_meant ends goes_on s text a.heap a.stack a.steps end h sizes
       (λ d. r (h.ran.run.ran.read_cause d)) (λ d. w (h.ran.run.ran.write_cause d))
   runs_so s a text _ sizes r w h = absurd h
 

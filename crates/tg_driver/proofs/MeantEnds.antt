@@ -1,6 +1,6 @@
 -- Runs of what does what a source means end by its meaning.
 use Rattle.std.specs.Prelude.{Result, Ok, Err}
-use Rattle.std.proofs.Common.{ℕ, ◌≡◌, ◌<◌, ◌^◌, List, [], ◌++◌, ◌%◌, Option, Some, refl, sym, ap, subst, ◌∙◌, append-nil, arith, w32}
+use Rattle.std.proofs.Common.{ℕ, ◌≡◌, ◌<◌, ◌^◌, List, [], ◌++◌, ◌%◌, refl, sym, ap, subst, ◌∙◌, append-nil, arith, w32}
 use Rattle.std.proofs.lemmas.Int.{of_z-to_z}
 use Rattle.std.proofs.lemmas.List.Elements.{All-nil}
 use Rattle.std.specs.Io.KnownBytes.{Appends}
@@ -16,15 +16,16 @@ use Rattle.tg_semantics.specs.MachineEnds.{machine_end}
 use Rattle.tg_semantics.specs.Direct.{evaluate}
 use Rattle.tg_isa.specs.declared.images.Image.{Image}
 use Rattle.tg_asm_text.specs.Assembly.{Assembled, Fault as AsmFault, assembled}
-use Rattle.tg_isa.specs.Runs.{Execution, begun, answers}
+use Rattle.tg_isa.specs.Runs.{Execution}
 use Rattle.tg_asm.specs.Images.{image_of}
-use Rattle.tg_machine.specs.Ran.{Stops, still, ended, read_failed, write_failed, Tells}
+use Rattle.tg_machine.specs.Ran.{Stops, still, ended, read_failed, write_failed, begun_on, standing}
 use Rattle.tg_correct.specs.Images.{AreSizes}
 use Rattle.tg_correct.specs.Ends.{EndIsMeant}
 use Rattle.tg_correct.specs.Assemblies.{IsAsMeant}
 use Rattle.tg_compile_proof.specs.laws.TextLaws.{EndedIsMeant, RunningIsMeant, ExitsAreWords}
 use Rattle.tg_driver.specs.Calls.{Streams}
-use Rattle.tg_driver.specs.laws.MeantEnds.{EndsByMeaning, RunsAreMeant, GeneratedAreMeant, streams_until}
+use Rattle.tg_driver.proofs.ToldInputs.{on_input}
+use Rattle.tg_driver.specs.laws.MeantEnds.{EndsByMeaning, EndsOnInput, RunsAreMeant, GeneratedAreMeant, streams_until}
 use Rattle.tg_driver.specs.laws.MeantEnds.{ending_status, StatusesAreMeant}
 use Rattle.tg_driver.specs.Endings.{end_status}
 use Rattle.tg_driver.specs.Runs.{HasRun}
@@ -50,7 +51,7 @@ module _ (ends : EndedIsMeant) (goes_on : RunningIsMeant) where
   -- a run of the machine whose reads and writes all passed
   by_stop : (text assembly : List ℕ) (m : IsAsMeant text assembly) (bytes : List ℕ) (heap stack steps : ℕ) (e : RunEnd)
       (last : Execution) (front : List ℕ) → AreBytes bytes → AreSizes heap stack → (e ≡ ReadFault → ⊥) → (e ≡ WriteFault → ⊥) →
-      Stops steps (begun (initial_machine m.image.code m.image.statics m.image.entry heap stack) (answers bytes)) e last front →
+      Stops steps (begun_on (initial_machine m.image.code m.image.statics m.image.entry heap stack) bytes) e last front →
       EndIsMeant (λ turns. evaluate m.names m.program bytes heap stack turns) steps e last
   by_stop text assembly m bytes heap stack steps e last front are sizes r s (still q p f) =
       let P : RunEnd → Type 0 = λ x. EndIsMeant (λ turns. evaluate m.names m.program bytes heap stack turns) steps x last in
@@ -60,34 +61,51 @@ module _ (ends : EndedIsMeant) (goes_on : RunningIsMeant) where
   by_stop text assembly m bytes heap stack steps e last front are sizes r s (read_failed i l q p d f) = absurd (r d)
   by_stop text assembly m bytes heap stack steps e last front are sizes r s (write_failed i rest l q p d) = absurd (s d)
 
-  by_run : {I O : Type 0} (s : Streams I O) (text assembly : List ℕ) (m : IsAsMeant text assembly) (image : Image)
-      (heap stack steps : ℕ) (end : RunEnd) (bytes : List ℕ) → assembled assembly ≡ Ok (image_of image) →
-      HasRun s image heap stack steps end → s.input.told s.input.before ≡ Some bytes → AreBytes bytes → AreSizes heap stack →
-      (end ≡ ReadFault → ⊥) → (end ≡ WriteFault → ⊥) → EndsByMeaning s text heap stack steps end bytes
-  by_run s text assembly m image heap stack steps end bytes assembles h tells are sizes read written =
+  on_bytes : {I O : Type 0} (s : Streams I O) (text assembly : List ℕ) (m : IsAsMeant text assembly) (image : Image)
+      (heap stack steps : ℕ) (end : RunEnd) → assembled assembly ≡ Ok (image_of image) → (h : HasRun s image heap stack steps end) →
+      (bytes left : List ℕ) → bytes ≡ h.ran.read ++ left →
+      Stops steps (begun_on (initial_machine image.code image.statics image.entry heap stack) bytes) end (standing h.ran.last left h.ran.output) h.ran.front →
+      AreBytes bytes → AreSizes heap stack → (end ≡ ReadFault → ⊥) → (end ≡ WriteFault → ⊥) → EndsByMeaning s text heap stack steps end bytes
+  on_bytes s text assembly m image heap stack steps end assembles h bytes left whole stopped are sizes read written =
       let r = h.ran in
-      let T : Option (List ℕ) → Type 0 = λ o. Tells o r.input_before in
-      let same : r.input_before ≡ answers bytes = subst T tells r.told in
-      let S : List (Option ℕ) → Type 0 = λ i. Stops steps (begun (initial_machine image.code image.statics image.entry heap stack) i) end r.last r.front in
+      let last = standing r.last left r.output in
       let Q : Assembled → Type 0 =
-      λ (i : Assembled). Stops steps (begun (initial_machine i.code i.statics i.entry heap stack) (answers bytes)) end r.last r.front in
-      let stops = subst Q (one_image assembly (image_of image) m.image assembles m.assembles) (subst S same r.stops) in
+      λ (i : Assembled). Stops steps (begun_on (initial_machine i.code i.statics i.entry heap stack) bytes) end last r.front in
+      let stops = subst Q (one_image assembly (image_of image) m.image assembles m.assembles) stopped in
       let W : List ℕ → Type 0 = λ w. Appends (s.out.told s.out.before) (s.out.told s.out.after) w in
-      let none = no_front steps _ end r.last r.front read written r.stops in
+      let none = no_front steps _ end last r.front read written stopped in
       record {
         names = m.names;
         tokens = m.tokens;
         program = m.program;
         source = m.source;
-        last = r.last;
-        writes = subst W (ap (λ f. r.last.output ++ f) none ∙ append-nil r.last.output) r.writes;
-        rest = r.rest;
-        meant = by_stop text assembly m bytes heap stack steps end r.last r.front are sizes read written stops;
+        last = last;
+        writes = subst W (ap (λ f. r.output ++ f) none ∙ append-nil r.output) r.writes;
+        read = r.read;
+        left = left;
+        whole = whole;
+        gives = r.gives;
+        leaves = refl;
+        meant = by_stop text assembly m bytes heap stack steps end last r.front are sizes read written stops;
+      }
+
+  by_run : {I O : Type 0} (s : Streams I O) (text assembly : List ℕ) (m : IsAsMeant text assembly) (image : Image)
+      (heap stack steps : ℕ) (end : RunEnd) → assembled assembly ≡ Ok (image_of image) →
+      HasRun s image heap stack steps end → AreSizes heap stack →
+      (end ≡ ReadFault → ⊥) → (end ≡ WriteFault → ⊥) → EndsOnInput s text heap stack steps end
+  by_run s text assembly m image heap stack steps end assembles h sizes read written =
+      let r = h.ran in
+      let i = on_input s.input.told h.after.input_ended steps _ end r.last r.output r.front r.read s.input.before s.input.after
+      r.stops r.are_bytes r.gives r.meets_end in
+      record {
+        bytes = i.bytes;
+        tells = i.tells;
+        ends = λ are. on_bytes s text assembly m image heap stack steps end assembles h i.bytes i.left i.whole i.stops are sizes read written;
       }
 
   pub runs_are_meant : {I O : Type 0} → RunsAreMeant I O
-  runs_are_meant s text heap stack steps end bytes e tells are sizes read written =
-      by_run s text e.assembly e.meant e.ran.image heap stack steps end bytes e.ran.assembles e.ran.run tells are sizes read written
+  runs_are_meant s text heap stack steps end e sizes read written =
+      by_run s text e.assembly e.meant e.ran.image heap stack steps end e.ran.assembles e.ran.run sizes read written
 
   no_bytes : AreBytes []
   no_bytes = All-nil (λ b. b < 256)
@@ -98,8 +116,11 @@ module _ (ends : EndedIsMeant) (goes_on : RunningIsMeant) where
   pub generated_are_meant : {O : Type 0} → GeneratedAreMeant O
   generated_are_meant out functions text heap stack steps answer g sizes written =
       let sums = g.ends.ran.run in
-      by_run (streams_until out sums.input sums.between) text g.ends.assembly g.ends.meant g.ends.ran.image heap stack steps g.end []
-      g.ends.ran.assembles sums.run refl no_bytes sizes (λ is. no_read (sums.run.ran.read_cause is)) written
+      let t = streams_until out sums.input sums.between in
+      let on = by_run t text g.ends.assembly g.ends.meant g.ends.ran.image heap stack steps g.end
+      g.ends.ran.assembles sums.run sizes (λ is. no_read (sums.run.ran.read_cause is)) written in
+      let P : List ℕ → Type 0 = λ b. AreBytes b → EndsByMeaning t text heap stack steps g.end b in
+      subst P on.tells on.ends no_bytes
 
 -- each ending whose code is a word has its status
 abbrev IsOfWord : Ending → Type 0

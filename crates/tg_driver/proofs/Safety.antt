@@ -11,8 +11,8 @@ use Rattle.tg_base.specs.Writes.{TakesPrefix}
 use Rattle.tg_state.specs.declared.ends.RunEnd.{RunEnd}
 use Rattle.tg_state.specs.declared.ends.RunEnd.TheVariants.{Exit, Break, ReadFault, WriteFault}
 use Rattle.tg_isa.specs.declared.images.Image.{Image}
-use Rattle.tg_isa.specs.Runs.{Execution, run, begun}
-use Rattle.tg_machine.specs.Ran.{Stops, still, ended, read_failed, write_failed}
+use Rattle.tg_isa.specs.Runs.{Execution, run}
+use Rattle.tg_machine.specs.Ran.{Stops, still, ended, read_failed, write_failed, begun_on, standing}
 use Rattle.tg_machine.proofs.Runs.{run_more}
 use Rattle.tg_generate.specs.Generated.{generated}
 use Rattle.tg_command.specs.declared.modes.Mode.{Mode}
@@ -42,6 +42,7 @@ use Rattle.tg_driver.specs.Answered.{IsDue, told_runs, usage, no_memory, asked, 
 use Rattle.tg_driver.specs.laws.Safe.{LeavesUnread, IsFileUnread, IsImageOf, IsOutput, HasToWrite, WritesPrefix}
 use Rattle.tg_driver.specs.laws.Safe.{IsCausedEnd, IsCaused, IsExit, SomeFailed, IsSafe}
 use Rattle.tg_driver.proofs.AnswerLemmas.{left_alone, stays_in_gen}
+use Rattle.tg_driver.proofs.ToldInputs.{OnInput, on_input}
 use Rattle.tg_driver.proofs.Watched.{due_more}
 use Rattle.tg_driver.proofs.Complete.{none_taken, rose_later, no_read, Summed, cut, summed, summed_by}
 use Rattle.tg_watch.proofs.Pieces.{front_later}
@@ -87,20 +88,29 @@ module _ (n : ℕ) (w : Execution) (end : RunEnd) where
   }
 
 -- a run in a mode, and what its output took
+run_input : {I O : Type 0} (s : Streams I O) (image : Image) (heap stack steps : ℕ) (end : RunEnd) (h : HasRun s image heap stack steps end) →
+    OnInput (s.input.told s.input.before) steps (initial_machine image.code image.statics image.entry heap stack) end h.ran.last h.ran.output h.ran.front h.ran.read
+run_input s image heap stack steps end h =
+    let r = h.ran in
+    on_input s.input.told h.after.input_ended steps _ end r.last r.output r.front r.read s.input.before s.input.after r.stops r.are_bytes r.gives r.meets_end
+
 run_reached : {I O : Type 0} (s : Streams I O) (image : Image) (heap stack steps : ℕ) (end : RunEnd) (h : HasRun s image heap stack steps end) →
-    Reached steps (begun (initial_machine image.code image.statics image.entry heap stack) h.ran.input_before) end (h.ran.last.output ++ h.ran.front)
-run_reached s image heap stack steps end h = reached steps _ end h.ran.last h.ran.front h.ran.stops
+    Reached steps (begun_on (initial_machine image.code image.statics image.entry heap stack) (run_input s image heap stack steps end h).bytes) end
+    (h.ran.output ++ h.ran.front)
+run_reached s image heap stack steps end h =
+    let i = run_input s image heap stack steps end h in
+    reached steps _ end (standing h.ran.last i.left h.ran.output) h.ran.front i.stops
 
 output_of : {I O : Type 0} (s : Streams I O) (mode : Mode) (a : Asked) (text : List ℕ) (image : Image) (end : RunEnd) →
     IsImageOf mode text image → (h : HasRun s image a.heap a.stack a.steps end) →
-    IsOutput (s.input.told s.input.before) mode a text ((h.ran.last.output ++ h.ran.front) ++ (run_reached s image a.heap a.stack a.steps end h).rest)
+    IsOutput (s.input.told s.input.before) mode a text ((h.ran.output ++ h.ran.front) ++ (run_reached s image a.heap a.stack a.steps end h).rest)
 output_of s mode a text image end is h =
     let r = run_reached s image a.heap a.stack a.steps end h in
     record {
       image = image;
       is_of = is;
-      input = h.ran.input_before;
-      tells = h.ran.told;
+      input = (run_input s image a.heap a.stack a.steps end h).bytes;
+      tells = (run_input s image a.heap a.stack a.steps end h).tells;
       made = r.made;
       within = r.within;
       written_is = sym r.output_is;
@@ -173,7 +183,7 @@ module _ {H I O : Type 0} (rule : SpillRule) (shelf : Shelved H) (s : Streams I 
     generates = λ gen. absurd (other gen);
     written = _;
     has_to = has _ (output_of s mode a text image end is h);
-    takes = (h.ran.last.output ++ h.ran.front, (run_reached s image a.heap a.stack a.steps end h).rest, refl, h.ran.writes);
+    takes = (h.ran.output ++ h.ran.front, (run_reached s image a.heap a.stack a.steps end h).rest, refl, h.ran.writes);
   }
 
   wrote_meant : (answer : Answer) (text : List ℕ) → IsFilePrefix (shelf.files shelf.before) a.file 262145 text → HasStarted answer →
@@ -200,7 +210,7 @@ module _ {H I O : Type 0} (rule : SpillRule) (shelf : Shelved H) (s : Streams I 
       let r = run_reached t image a.heap a.stack a.steps h.end sums.run in
       let is : IsImageOf Gen (generated a.number) image =
       record { assembly = h.ends.assembly; meant = h.ends.meant; assembles = h.ends.ran.assembles } in
-      let output = (sums.run.ran.last.output ++ sums.run.ran.front) ++ r.rest in
+      let output = (sums.run.ran.output ++ sums.run.ran.front) ++ r.rest in
       let line = summary a.number (length (generated a.number)) sums.run.after.written (end_status h.end) in
       record {
         text = generated a.number;
@@ -215,7 +225,7 @@ module _ {H I O : Type 0} (rule : SpillRule) (shelf : Shelved H) (s : Streams I 
           written_is = refl;
         };
         takes = after_summary s.out sums.between a.number (length (generated a.number)) sums.run.after.written h.end answer
-            (sums.run.ran.last.output ++ sums.run.ran.front) r.rest r.whole sums.run.ran.writes
+            (sums.run.ran.output ++ sums.run.ran.front) r.rest r.whole sums.run.ran.writes
             (summed_by (stream_of s.out.told s.out.faults sums.between s.out.after) _ _ _ h.end answer sums.sums_up);
       }
 

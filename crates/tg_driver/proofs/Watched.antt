@@ -4,7 +4,8 @@ use Rattle.std.proofs.Common.{ℕ, ◌≡◌, Option, None, List, [], Bool, true
 use Rattle.tg_state.specs.declared.ends.RunEnd.{RunEnd}
 use Rattle.tg_isa.specs.declared.images.Image.{Image}
 use Rattle.tg_machine.specs.declared.fetches.Seen.{Seen}
-use Rattle.tg_machine.specs.Fetches.{IsWatched, fetches_until}
+use Rattle.tg_machine.specs.Fetches.{IsWatched, fetches_until, rest_after}
+use Rattle.tg_machine.proofs.Fetching.{may_rest}
 use Rattle.tg_machine.specs.Machines.{Simulated, loaded}
 use Rattle.tg_machine.specs.Ran.{IsSimulation}
 use Rattle.tg_irc.specs.Policies.{Rule as SpillRule}
@@ -237,8 +238,8 @@ saw_nothing stands report watchers left reads taken writes input input' out out'
     let P : Simulated → Type 0 = λ m. IsSimulation left reads taken writes steps m new input input' out out' end in
     let r = subst P is (ran (ap (λ (m : Simulated). m.end) is)) in
     record {
-      seen = fetches_until r.stops;
-      fetched = record { after = new; watched = record { simulation = r; seen_is = refl } };
+      seen = fetches_until (r.stops (rest_after new.input_ended (left input')) (may_rest new.input_ended (left input')));
+      fetched = record { after = new; watched = record { simulation = r; may = may_rest new.input_ended (left input'); seen_is = refl } };
       have_seen = record { same = refl; stand = λ k d lt. absurd (omega (arith, none, lt)) };
     }
 

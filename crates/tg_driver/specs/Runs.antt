@@ -1,16 +1,22 @@
 -- Runs of the machine on the streams of a call.
-use Rattle.std.specs.Prelude.{ℕ, ◌≡◌, List}
+use Rattle.std.specs.Prelude.{ℕ, ◌≡◌, List, Option, Some, None}
 use Rattle.std.specs.Io.KnownBytes.{Appends}
 use Rattle.tg_state.specs.declared.ends.RunEnd.{RunEnd}
 use Rattle.tg_state.specs.declared.ends.RunEnd.TheVariants.{StepLimit}
 use Rattle.tg_state.specs.State.{initial_machine}
+use Rattle.tg_simulation.specs.Bytes.{AreBytes}
 use Rattle.tg_isa.specs.declared.images.Image.{Image}
 use Rattle.tg_isa.specs.Runs.{Execution, Progress, Running, Ended, run, begun, answers}
 use Rattle.tg_machine.specs.Machines.{Simulated, loaded}
-use Rattle.tg_machine.specs.Ran.{IsSimulation, Tells}
+use Rattle.tg_machine.specs.Ran.{IsSimulation}
 use Rattle.tg_driver.specs.declared.answers.Answer.{Answer}
 use Rattle.tg_driver.specs.declared.answers.Answer.TheVariants.{OutOfMemory, Finished}
 use Rattle.tg_driver.specs.Calls.{Streams, Untouched}
+
+-- these are the bytes of an input: those that it tells, or some, where it tells none
+abbrev pub Tells : Option (List ℕ) → (bytes : List ℕ) → Type 0
+Tells None bytes = AreBytes bytes
+Tells (Some all) bytes = bytes ≡ all
 
 -- what may be said of a run of an image with these sizes and steps that ends so
 abbrev pub RunRelation : Type 1
@@ -54,5 +60,6 @@ pub record IsExact {I O : Type 0} (s : Streams I O)
   pub writes :
       Appends (s.out.told s.out.before) (s.out.told s.out.after)
       (world_in (outcome_on image heap stack steps bytes)).output
-  pub rest :
-      Tells (s.input.told s.input.after) (world_in (outcome_on image heap stack steps bytes)).input
+  pub left : List ℕ
+  pub told : s.input.told s.input.after ≡ Some left
+  pub leaves : (world_in (outcome_on image heap stack steps bytes)).input ≡ answers left

@@ -91,9 +91,10 @@ pub fn sources_are_never_stuck()
     ensures { SourcesAreNeverStuck }
 {}
 
-/// Laws of the ends of `run` and of `gen`: where the input tells its bytes and no read or write
-/// ended the run, the end, what was written and what is left of the input are the meaning of the
-/// source; and the status of each ending. They do nothing.
+/// Laws of the ends of `run` and of `gen`: whatever the input tells, where no read or write ended the
+/// run, there are bytes on which the end, what was written and what was read of them are the meaning
+/// of the source; those that the input tells, where it does; and the status of each ending. They do
+/// nothing.
 pub fn runs_are_as_meant<I, O>()
     ensures runs { RunsAreMeant I O }
     ensures generated { GeneratedAreMeant O }

@@ -1,20 +1,21 @@
 -- A call after a call that made all its steps.
-use Rattle.std.proofs.Common.{◌≡◌, ◌<◌, ◌≤◌, ◌⊎◌, inl, inr, ◌+◌, ℕ, zero, suc, List, [], ◌∷◌, ◌++◌, length, Option, Some, None, arith, refl, sym, ap}
+use Rattle.std.proofs.Common.{◌≡◌, ◌<◌, ◌≤◌, ◌⊎◌, inl, inr, ◌+◌, ℕ, zero, suc, List, ◌++◌, length, Bool, Option, arith, refl, sym, ap}
 use Rattle.std.proofs.Common.{◌∙◌, subst, append_assoc, append-nil, length-append}
+use Rattle.std.proofs.lemmas.List.Elements.{All-append}
 use Rattle.std.specs.Io.KnownBytes.{Appends}
-use Rattle.std.proofs.KnownBytes.{Appends-trans}
+use Rattle.std.proofs.KnownBytes.{Appends-trans, Consumes-trans}
 use Rattle.tg_state.specs.declared.ends.RunEnd.{RunEnd}
 use Rattle.tg_state.specs.State.{MachineState}
-use Rattle.tg_state.specs.Services.{Step, Goes, Ends, Reads, Writes, answered}
+use Rattle.tg_state.specs.Services.{Step, Goes, Ends, Reads, Writes}
 use Rattle.tg_isa.specs.Effects.{step}
-use Rattle.tg_isa.specs.Runs.{Execution, Progress, Running, Ended, proceed, run, begun, first_answer, later_answers}
-use Rattle.tg_machine.specs.Ran.{Tells, StillTells, IsReading, IsWriting, ComesToRead, ComesToWrite, Stops, still, ended, read_failed, write_failed}
+use Rattle.tg_isa.specs.Runs.{Execution, Progress, Running, Ended, proceed, run, begun, answers}
+use Rattle.tg_machine.specs.Ran.{ComesToRead, ComesToWrite, Stops, still, ended, read_failed, write_failed, MayFollow, begun_on, standing}
 use Rattle.tg_machine.specs.Ran.{saturating_sum}
-use Rattle.tg_machine.specs.Fetches.{seen_at, fetches, fetches_until}
+use Rattle.tg_machine.specs.Fetches.{seen_at, fetches, fetches_until, rest_after}
 use Rattle.tg_machine.specs.laws.Laws.{CallsChain, WatchedCallsChain}
-use Rattle.tg_machine.proofs.Runs.{go_on, run_suc, run_add, running_same}
-use Rattle.tg_machine.proofs.Fetching.{see_on, fetches_suc, fetches_add, until_all}
-use Rattle.tg_machine.proofs.Reached.{saturating_sum-add, rose_later}
+use Rattle.tg_machine.proofs.Runs.{go_on, run_suc, run_add}
+use Rattle.tg_machine.proofs.Fetching.{see_on, fetches_suc, fetches_add, fetches_alike, until_all}
+use Rattle.tg_machine.proofs.Reached.{saturating_sum-add, rose_later, meets_then, may_before, later_read, later_write}
 
 abbrev world : MachineState → List (Option ℕ) → List ℕ → Execution
 world s input output = record { machine = s; input = input; output = output }
@@ -54,121 +55,6 @@ fetches-behind zero front w = refl
 fetches-behind (suc n) front w =
     fetches_suc n (behind front w) ∙ ap (λ o. seen_at w.machine ++ see_on n o) (proceed-behind front w (step w.machine))
     ∙ ap (λ l. seen_at w.machine ++ l) (see_on-behind n front (fetches-behind n front) (proceed w (step w.machine))) ∙ sym (fetches_suc n w)
-
--- A run does the same on the answers that it reads, whatever follows them.
-abbrev given : Execution → List (Option ℕ) → Execution
-given w input = world w.machine input w.output
-
-record Replayed (k : ℕ) (w last : Execution) : Type 0 where
-  read : List (Option ℕ)
-  comes : (rest : List (Option ℕ)) → run k (given w (read ++ rest)) ≡ Running (given last rest)
-  along : (rest : List (Option ℕ)) (i : ℕ) (v : Execution) → i < k → run i w ≡ Running v → (u : Execution) ×
-      (run i (given w (read ++ rest)) ≡ Running u) × (u.machine ≡ v.machine)
-  seen : (rest : List (Option ℕ)) → fetches k (given w (read ++ rest)) ≡ fetches k w
-
-replayed_on : (k : ℕ) (w v last : Execution) (front : List (Option ℕ)) →
-    ((x : List (Option ℕ)) → proceed (given w (front ++ x)) (step w.machine) ≡ Running (given v x)) →
-    proceed w (step w.machine) ≡ Running v → Replayed k v last → Replayed (suc k) w last
-replayed_on k w v last front to from r = record {
-  read = front ++ r.read;
-  comes = λ rest. next rest k ∙ r.comes rest;
-  along = along;
-  seen = seen;
-}
-  where
-    next : (rest : List (Option ℕ)) (j : ℕ) → run (suc j) (given w ((front ++ r.read) ++ rest)) ≡ run j (given v (r.read ++ rest))
-    next rest j =
-        ap (λ x. run (suc j) (given w x)) (append_assoc front r.read rest)
-        ∙ run_suc j (given w (front ++ (r.read ++ rest))) ∙ ap (go_on j) (to (r.read ++ rest))
-
-    along : (rest : List (Option ℕ)) (i : ℕ) (u : Execution) → i < suc k → run i w ≡ Running u → (t : Execution) ×
-        (run i (given w ((front ++ r.read) ++ rest)) ≡ Running t) × (t.machine ≡ u.machine)
-    along rest zero u lt h = (given w ((front ++ r.read) ++ rest), refl, ap (λ (x : Execution). x.machine) (running_same w u h))
-    along rest (suc i) u lt h =
-        let below : i < k = omega (arith, lt) in
-        let there : run i v ≡ Running u = sym (run_suc i w ∙ ap (go_on i) from) ∙ h in
-        let a = r.along rest i u below there in
-        (a.0, next rest i ∙ a.1, a.2)
-
-    seen : (rest : List (Option ℕ)) → fetches (suc k) (given w ((front ++ r.read) ++ rest)) ≡ fetches (suc k) w
-    seen rest =
-        ap (λ x. fetches (suc k) (given w x)) (append_assoc front r.read rest) ∙ fetches_suc k (given w (front ++ (r.read ++ rest)))
-        ∙ ap (λ o. seen_at w.machine ++ see_on k o) (to (r.read ++ rest)) ∙ ap (λ l. seen_at w.machine ++ l) (r.seen rest)
-        ∙ sym (fetches_suc k w ∙ ap (λ o. seen_at w.machine ++ see_on k o) from)
-
-replay : (k : ℕ) (w last : Execution) → run k w ≡ Running last → Replayed k w last
-replay zero w last h = record {
-  read = [];
-  comes = λ rest. ap (λ x. Running (given x rest)) (running_same w last h);
-  along = λ rest i v lt e. absurd (omega (arith, lt));
-  seen = λ rest. refl;
-}
-replay (suc k) w last h = by (step w.machine) refl (λ v. replay k v last)
-  where
-    going : (d : Step) (v : Execution) → step w.machine ≡ d → proceed w d ≡ Running v → run k v ≡ Running last
-    going d v e p = sym (run_suc k w ∙ ap (λ x. go_on k (proceed w x)) e ∙ ap (go_on k) p) ∙ h
-
-    by : (d : Step) → step w.machine ≡ d → ((v : Execution) → run k v ≡ Running last → Replayed k v last) → Replayed (suc k) w last
-    by (Goes s) e ih =
-        let v = world s w.input w.output in
-        replayed_on k w v last [] (λ x. ap (proceed (given w x)) e) (ap (proceed w) e) (ih v (going (Goes s) v e refl))
-    by (Reads s) e ih =
-        let a = first_answer w.input in
-        let v = world (answered s a) (later_answers w.input) w.output in
-        replayed_on k w v last (a ∷ []) (λ x. ap (proceed (given w (a ∷ x))) e) (ap (proceed w) e) (ih v (going (Reads s) v e refl))
-    by (Writes bytes s) e ih =
-        let v = world s w.input (w.output ++ bytes) in
-        replayed_on k w v last [] (λ x. ap (proceed (given w x)) e) (ap (proceed w) e) (ih v (going (Writes bytes s) v e refl))
-    by (Ends f) e ih =
-        let o : Ended f w ≡ Running last = sym (run_suc k w ∙ ap (λ x. go_on k (proceed w x)) e) ∙ h in
-        cc
-
--- the answers on which both calls run
-record Joined (k : ℕ) (left : Option (List ℕ)) (old mid : MachineState) (first second : List (Option ℕ)) (output : List ℕ) : Type 0 where
-  input : List (Option ℕ)
-  told : Tells left input
-  comes : run k (begun old input) ≡ Running (world mid second output)
-  reads : ComesToRead k (begun old first) → ComesToRead k (begun old input)
-  writes : ComesToWrite k (begun old first) → ComesToWrite k (begun old input)
-  seen : fetches k (begun old first) ≡ fetches k (begun old input)
-
-same_world : (s s' : MachineState) (l l' : List (Option ℕ)) (output : List ℕ) → s ≡ s' → l ≡ l' → Running (world s l output) ≡ Running (world s' l' output)
-same_world s s' l l' output e f = rw (e, f) refl
-
-joined : (k : ℕ) (left left' : Option (List ℕ)) (old mid : MachineState) (first second : List (Option ℕ)) (last : Execution) →
-    run k (begun old first) ≡ Running last → mid ≡ last.machine → Tells left first → Tells left' last.input → StillTells left left' → Tells left' second →
-    Joined k left old mid first second last.output
-joined k (Some bytes) (Some bytes') old mid first second last h m t t' s u = record {
-  input = first;
-  told = t;
-  comes = h ∙ same_world last.machine mid last.input second last.output (sym m) (t' ∙ sym u);
-  reads = λ c. c;
-  writes = λ c. c;
-  seen = refl;
-}
-joined k (Some bytes) None old mid first second last h m t t' s u = let n = s refl in cc
-joined k None left' old mid first second last h m t t' s u =
-    let r = replay k (begun old first) last h in
-    record {
-      input = r.read ++ second;
-      told = tt;
-      comes = r.comes second ∙ same_world last.machine mid second second last.output (sym m) refl;
-      reads = λ c.
-          let a = r.along second c.steps c.world c.within c.comes in
-          record { steps = c.steps; world = a.0; within = c.within; comes = a.1; reading = subst IsReading (sym a.2) c.reading };
-      writes = λ c.
-          let a = r.along second c.steps c.world c.within c.comes in
-          record {
-            steps = c.steps;
-            world = a.0;
-            bytes = c.bytes;
-            within = c.within;
-            comes = a.1;
-            writing =
-                subst (λ x. IsWriting x c.bytes) (sym a.2) c.writing;
-          };
-      seen = sym (r.seen second);
-    }
 
 -- after so many steps a run goes on as from its start, with the output so far in front
 comes_on : (k i : ℕ) (old mid : MachineState) (input second : List (Option ℕ)) (output : List ℕ) → run k (begun old input) ≡
@@ -211,22 +97,6 @@ fetches_until_on k n old mid input second output e last front h (write_failed i 
     let same : k + i + 1 ≡ k + (i + 1) = omega arith in
     ap (λ m. fetches m (begun old input)) same ∙ fetches_on k (i + 1) old mid input second output h
 
--- what was touched by one of the two
-touched : {T : Type 0} (A B C : Type 0) (x y z : T) → (y ≡ x) ⊎ A → (z ≡ y) ⊎ B → (A → C) → (B → C) → (z ≡ x) ⊎ C
-touched A B C x y z (inr a) q f g = inr (f a)
-touched A B C x y z (inl p) (inr b) f g = inr (g b)
-touched A B C x y z (inl p) (inl q) f g = inl (q ∙ p)
-
-more_reads : (k n : ℕ) (w : Execution) → ComesToRead k w → ComesToRead (k + n) w
-more_reads k n w c =
-    let within : c.steps < k + n = omega (arith, c.within) in
-    record { steps = c.steps; world = c.world; within = within; comes = c.comes; reading = c.reading }
-
-more_writes : (k n : ℕ) (w : Execution) → ComesToWrite k w → ComesToWrite (k + n) w
-more_writes k n w c =
-    let within : c.steps < k + n = omega (arith, c.within) in
-    record { steps = c.steps; world = c.world; bytes = c.bytes; within = within; comes = c.comes; writing = c.writing }
-
 reads_on : (k n : ℕ) (old mid : MachineState) (input second : List (Option ℕ)) (output : List ℕ) → run k (begun old input) ≡
     Running (world mid second output) → ComesToRead n (begun mid second) → ComesToRead (k + n) (begun old input)
 reads_on k n old mid input second output h c =
@@ -254,44 +124,74 @@ writes_on k n old mid input second output h c =
       writing = c.writing;
     }
 
+-- what was touched by one of the two
+touched : {T : Type 0} (A B C : Type 0) (x y z : T) → (y ≡ x) ⊎ A → (z ≡ y) ⊎ B → (A → C) → (B → C) → (z ≡ x) ⊎ C
+touched A B C x y z (inr a) q f g = inr (f a)
+touched A B C x y z (inl p) (inr b) f g = inr (g b)
+touched A B C x y z (inl p) (inl q) f g = inl (q ∙ p)
+
+-- the first call, on what both read
+record Joined (k : ℕ) (old mid : MachineState) (f : Bool) (read more output : List ℕ) : Type 0 where
+  comes : (rest : List ℕ) → MayFollow f rest → run k (begun_on old ((read ++ more) ++ rest)) ≡ Running (standing mid (more ++ rest) output)
+  same : (rest : List ℕ) → begun_on old (read ++ (more ++ rest)) ≡ begun_on old ((read ++ more) ++ rest)
+
+joined : (k : ℕ) (old mid last : MachineState) (e f : Bool) (read more output : List ℕ) → mid ≡ last →
+    ((rest : List ℕ) → MayFollow f rest → MayFollow e (more ++ rest)) →
+    ((rest : List ℕ) → MayFollow e rest → run k (begun_on old (read ++ rest)) ≡ Running (standing last rest output)) →
+    Joined k old mid f read more output
+joined k old mid last e f read more output m before h =
+    let same : (rest : List ℕ) → begun_on old (read ++ (more ++ rest)) ≡ begun_on old ((read ++ more) ++ rest) =
+    λ rest. ap (begun_on old) (sym (append_assoc read more rest)) in
+    record {
+      comes = λ rest may. ap (run k) (sym (same rest)) ∙ h (more ++ rest) (before rest may)
+          ∙ ap (λ s. Running (standing s (more ++ rest) output)) (sym m);
+      same = same;
+    }
+
 pub calls_chain : {I O : Type 0} → CallsChain I O
 calls_chain left read_faults taken write_faults k n old mid new first input input' start out out' e a b =
     let g = a.goes_on refl in
-    let j = joined k (left first) (left input) old.state mid.state a.input_before b.input_before a.last g.running g.state a.told a.rest a.tells b.told in
-    let output = a.last.output in
-    let wrote : Appends (taken start) (taken out) output =
-    subst (Appends (taken start) (taken out)) (ap (λ f. output ++ f) g.whole ∙ append-nil output) a.writes in
-    let size : length (output ++ b.last.output) ≡ length output + length b.last.output = length-append output b.last.output in
+    let before : (rest : List ℕ) → MayFollow new.input_ended rest → MayFollow mid.input_ended (b.read ++ rest) =
+    λ rest may. may_before left mid.input_ended new.input_ended b.read rest input input' b.meets_end may in
+    let j = joined k old.state mid.state a.last mid.input_ended new.input_ended a.read b.read a.output g.state before g.running in
+    let wrote : Appends (taken start) (taken out) a.output =
+    subst (Appends (taken start) (taken out)) (ap (λ f. a.output ++ f) g.whole ∙ append-nil a.output) a.writes in
+    let size : length (a.output ++ b.output) ≡ length a.output + length b.output = length-append a.output b.output in
+    let longer : k ≤ k + n = omega arith in
     let reads_later : read_faults first ≤ read_faults input' = omega (arith, a.reads_later, b.reads_later) in
     let writes_later : write_faults start ≤ write_faults out' = omega (arith, a.writes_later, b.writes_later) in
     record {
-      input_before = j.input;
-      last = behind output b.last;
+      read = a.read ++ b.read;
+      output = a.output ++ b.output;
+      last = b.last;
       front = b.front;
-      stops = stops_on k n old.state mid.state j.input b.input_before output e b.last b.front j.comes b.stops;
-      told = j.told;
-      rest = b.rest;
-      tells = λ h. b.tells (a.tells h);
-      writes = subst (Appends (taken start) (taken out')) (sym (append_assoc output b.last.output b.front))
-          (Appends-trans (taken start) (taken out) (taken out') output (b.last.output ++ b.front) wrote b.writes);
-      unread = touched _ _ _ first input input' a.unread b.unread (λ c. more_reads k n (begun old.state j.input) (j.reads c))
-          (reads_on k n old.state mid.state j.input b.input_before output j.comes);
-      unwritten = touched _ _ _ start out out' a.unwritten b.unwritten (λ c. more_writes k n (begun old.state j.input) (j.writes c))
-          (writes_on k n old.state mid.state j.input b.input_before output j.comes);
+      stops = λ rest may. stops_on k n old.state mid.state _ (answers (b.read ++ rest)) a.output e (standing b.last rest b.output) b.front
+          (j.comes rest may) (b.stops rest may);
+      are_bytes = All-append (λ x. x < 256) a.read b.read a.are_bytes b.are_bytes;
+      gives = Consumes-trans (left first) (left input) (left input') a.read b.read a.gives b.gives;
+      meets_end = meets_then left old.input_ended mid.input_ended new.input_ended a.read b.read first input input' a.meets_end b.meets_end;
+      writes = subst (Appends (taken start) (taken out')) (sym (append_assoc a.output b.output b.front))
+          (Appends-trans (taken start) (taken out) (taken out') a.output (b.output ++ b.front) wrote b.writes);
+      unread = touched _ _ _ first input input' a.unread b.unread
+          (λ c rest may. later_read k (k + n) _ longer (subst (ComesToRead k) (j.same rest) (c (b.read ++ rest) (before rest may))))
+          (λ c rest may. reads_on k n old.state mid.state _ (answers (b.read ++ rest)) a.output (j.comes rest may) (c rest may));
+      unwritten = touched _ _ _ start out out' a.unwritten b.unwritten
+          (λ c rest may. later_write k (k + n) _ longer (subst (ComesToWrite k) (j.same rest) (c (b.read ++ rest) (before rest may))))
+          (λ c rest may. writes_on k n old.state mid.state _ (answers (b.read ++ rest)) a.output (j.comes rest may) (c rest may));
       reads_later = reads_later;
       writes_later = writes_later;
       read_cause = λ h. rose_later _ _ _ a.reads_later (b.read_cause h);
       write_cause = λ h. rose_later _ _ _ a.writes_later (b.write_cause h);
       goes_on = λ h. let d = b.goes_on h in record {
-        running = comes_on k n old.state mid.state j.input b.input_before output j.comes
-            ∙ ap (all_behind output) d.running;
+        running = λ rest may. comes_on k n old.state mid.state _ (answers (b.read ++ rest)) a.output (j.comes rest may)
+            ∙ ap (all_behind a.output) (d.running rest may);
         end = d.end;
         state = d.state;
         whole = d.whole;
       };
       keeps = b.keeps;
-      written = b.written ∙ ap (λ w. saturating_sum w (length b.last.output)) a.written ∙ saturating_sum-add old.written
-          (length output) (length b.last.output) ∙ ap (saturating_sum old.written) (sym size);
+      written = b.written ∙ ap (λ w. saturating_sum w (length b.output)) a.written ∙ saturating_sum-add old.written
+          (length a.output) (length b.output) ∙ ap (saturating_sum old.written) (sym size);
     }
 
 pub watched_calls_chain : {I O : Type 0} → WatchedCallsChain I O
@@ -300,10 +200,21 @@ watched_calls_chain left read_faults taken write_faults k n old mid new first in
     let x = a.simulation in
     let y = b.simulation in
     let g = x.goes_on refl in
-    let j = joined k (left first) (left input) old.state mid.state x.input_before y.input_before x.last g.running g.state x.told x.rest x.tells y.told in
+    let before : (rest : List ℕ) → MayFollow new.input_ended rest → MayFollow mid.input_ended (y.read ++ rest) =
+    λ rest may. may_before left mid.input_ended new.input_ended y.read rest input input' y.meets_end may in
+    let j = joined k old.state mid.state x.last mid.input_ended new.input_ended x.read y.read x.output g.state before g.running in
+    let rest = rest_after new.input_ended (left input') in
     record {
       simulation = calls_chain left read_faults taken write_faults k n old mid new first input input' start out out' e x y;
+      may = b.may;
       seen_is =
-          ap (λ l. l ++ t) (a.seen_is ∙ until_all x.stops refl g.running ∙ j.seen) ∙ ap (λ l. fetches k (begun old.state j.input) ++ l) b.seen_is
-          ∙ sym (fetches_until_on k n old.state mid.state j.input y.input_before x.last.output e y.last y.front j.comes y.stops);
+          let later = y.read ++ rest in
+          let there = before rest b.may in
+          let earlier = rest_after mid.input_ended (left input) in
+          ap (λ l. l ++ t) (a.seen_is ∙ until_all (x.stops earlier a.may) refl (g.running earlier a.may)
+          ∙ fetches_alike k old.state x.last x.read earlier x.output (g.running earlier a.may)
+          ∙ sym (fetches_alike k old.state x.last x.read later x.output (g.running later there)) ∙ ap (fetches k) (j.same rest))
+          ∙ ap (λ l. fetches k (begun_on old.state ((x.read ++ y.read) ++ rest)) ++ l) b.seen_is
+          ∙ sym (fetches_until_on k n old.state mid.state _ (answers (y.read ++ rest)) x.output e (standing y.last rest y.output) y.front
+          (j.comes rest b.may) (y.stops rest b.may));
     }

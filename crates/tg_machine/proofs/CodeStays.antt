@@ -1,5 +1,5 @@
 -- No step changes the code.
-use Rattle.std.proofs.Common.{◌≡◌, ℕ, zero, suc, List, Bool, true, false, Option, refl, sym, ap, ◌∙◌, subst}
+use Rattle.std.proofs.Common.{◌≡◌, ℕ, zero, suc, List, [], Bool, true, false, Option, refl, sym, ap, ◌∙◌, subst}
 use Rattle.std.specs.Prelude.{Result, Ok, Err, ◌==◌}
 use Rattle.tg_state.specs.declared.ends.RunEnd.{RunEnd}
 use Rattle.tg_state.specs.declared.ends.RunEnd.TheVariants.{StepLimit}
@@ -14,6 +14,7 @@ use Rattle.tg_isa.specs.laws.Anywhere.{step_on, IsStraight}
 use Rattle.tg_isa.proofs.Anywhere.{effect_on, set_on, answered_on}
 use Rattle.tg_machine.specs.Machines.{Simulated}
 use Rattle.tg_machine.specs.Ran.{IsSimulation}
+use Rattle.tg_machine.proofs.Reached.{none_follows}
 use Rattle.tg_machine.proofs.Runs.{go_on, run_suc}
 
 -- what a step goes on in has this code
@@ -118,4 +119,4 @@ pub code_stays : {I O : Type 0} (left : I → Option (List ℕ)) (read_faults : 
     IsSimulation left read_faults taken write_faults n old new input input' out out' StepLimit → new.state.code ≡ old.state.code
 code_stays left read_faults taken write_faults n old new input input' out out' s =
     let g = s.goes_on refl in
-    ap (λ (x : MachineState). x.code) g.state ∙ run_code n _ s.last g.running
+    ap (λ (x : MachineState). x.code) g.state ∙ run_code n _ _ (g.running [] (none_follows new.input_ended))

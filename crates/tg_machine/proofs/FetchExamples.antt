@@ -1,5 +1,5 @@
 -- Fetches of small programs, computed by the definition.
-use Rattle.std.proofs.Common.{◌≡◌, ℕ, List, [], ◌∷◌, None, Some, refl}
+use Rattle.std.proofs.Common.{false, ◌≡◌, ℕ, List, [], ◌∷◌, None, Some, refl}
 use Rattle.tg_state.specs.State.{MachineState, initial_machine}
 use Rattle.tg_state.specs.declared.ends.RunEnd.TheVariants.{Break}
 use Rattle.tg_isa.specs.Runs.{begun}
@@ -34,7 +34,7 @@ one_step : fetches 1 (begun (program (0x2402000a ∷ 0x0000000c ∷ [])) []) ≡
 one_step = refl
 
 -- a machine that has ended fetches nothing
-ended : seen_next (simulated (program (0xcd ∷ [])) (Some (Break 3)) 0) ≡ None
+ended : seen_next (simulated (program (0xcd ∷ [])) (Some (Break 3)) 0 false) ≡ None
 ended = refl
 
 -- a place between two words isn't seen

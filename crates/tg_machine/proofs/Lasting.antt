@@ -3,9 +3,9 @@ use Rattle.std.proofs.Common.{◌≡◌, ◌≢◌, ◌<◌, ◌≤◌, ◌+◌,
 use Rattle.tg_state.specs.declared.ends.RunEnd.{RunEnd}
 use Rattle.tg_state.specs.declared.ends.RunEnd.TheVariants.{StepLimit}
 use Rattle.tg_isa.specs.Effects.{step}
-use Rattle.tg_isa.specs.Runs.{Execution, Progress, Running, Ended, proceed, run, begun}
+use Rattle.tg_isa.specs.Runs.{Execution, Progress, Running, Ended, proceed, run}
 use Rattle.tg_machine.specs.declared.fetches.Seen.{Seen}
-use Rattle.tg_machine.specs.Fetches.{seen_at, fetches, fetches_until, IsWatched}
+use Rattle.tg_machine.specs.Fetches.{seen_at, fetches, fetches_until, rest_after, IsWatched}
 use Rattle.tg_machine.specs.Machines.{Simulated}
 use Rattle.tg_machine.specs.Ran.{Stops, still, ended, read_failed, write_failed}
 use Rattle.tg_machine.proofs.Fetching.{see_on, fetches_suc}
@@ -63,19 +63,19 @@ pub watched_longer : {I O : Type 0} (left : I → Option (List ℕ)) (read_fault
     IsWatched left read_faults taken write_faults n old new input input' out out' e seen
 watched_longer left read_faults taken write_faults k n old new input input' out out' e seen apart le h =
     let s = h.simulation in
-    let l = longer n s.stops apart le in
     record {
       simulation = record {
-        input_before = s.input_before;
+        read = s.read;
+        output = s.output;
         last = s.last;
         front = s.front;
-        stops = l.stops;
-        told = s.told;
-        rest = s.rest;
-        tells = s.tells;
+        stops = λ rest may. (longer n (s.stops rest may) apart le).stops;
+        are_bytes = s.are_bytes;
+        gives = s.gives;
+        meets_end = s.meets_end;
         writes = s.writes;
-        unread = touched_read k n (begun old.state s.input_before) le s.unread;
-        unwritten = touched_write k n (begun old.state s.input_before) le s.unwritten;
+        unread = touched_read k n old.state new.input_ended s.read le s.unread;
+        unwritten = touched_write k n old.state new.input_ended s.read le s.unwritten;
         reads_later = s.reads_later;
         writes_later = s.writes_later;
         read_cause = s.read_cause;
@@ -84,5 +84,6 @@ watched_longer left read_faults taken write_faults k n old new input input' out 
         keeps = s.keeps;
         written = s.written;
       };
-      seen_is = h.seen_is ∙ l.same;
+      may = h.may;
+      seen_is = h.seen_is ∙ (longer n (s.stops (rest_after new.input_ended (left input')) h.may) apart le).same;
     }

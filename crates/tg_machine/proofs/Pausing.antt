@@ -1,5 +1,5 @@
 -- How steps without a service go on, and what they leave of a call.
-use Rattle.std.proofs.Common.{◌≡◌, ◌<◌, ◌+◌, ℕ, zero, suc, List, Option, arith, sym, subst}
+use Rattle.std.proofs.Common.{◌≡◌, ◌<◌, ◌+◌, ℕ, zero, suc, List, Option, Bool, arith, sym, subst}
 use Rattle.tg_state.specs.State.{MachineState}
 use Rattle.tg_state.specs.Services.{Step, Goes}
 use Rattle.tg_isa.specs.Effects.{step}
@@ -14,16 +14,16 @@ runs_more n s mid t r h =
 
 -- after so many steps, and then so many without a service
 pub reached_runs : {I O : Type 0} (left : I → Option (List ℕ)) (read_faults : I → ℕ) (taken : O → Option (List ℕ)) (write_faults : O → ℕ)
-    (n k : ℕ) (old mid new : MachineState) (first input : I) (start out : O) (before written : ℕ) →
-    Reached left read_faults taken write_faults n old mid first input start out before written → RunsTo k mid new →
-    Reached left read_faults taken write_faults (n + k) old new first input start out before written
-reached_runs left read_faults taken write_faults n zero old mid new first input start out before written r runs =
-    let e : n + zero ≡ n = omega arith in
-    rw (e, runs) r
-reached_runs left read_faults taken write_faults n (suc k) old mid new first input start out before written r runs =
-    let e : n + suc k ≡ n + k + 1 = omega arith in
-    rw e (reached_goes left read_faults taken write_faults (n + k) old runs.0 new first input start out before written
-    (reached_runs left read_faults taken write_faults n k old mid runs.0 first input start out before written r runs.1) runs.2)
+    (n k : ℕ) (old mid new : MachineState) (first input : I) (start out : O) (before written : ℕ) (e f : Bool) →
+    Reached left read_faults taken write_faults n old mid first input start out before written e f → RunsTo k mid new →
+    Reached left read_faults taken write_faults (n + k) old new first input start out before written e f
+reached_runs left read_faults taken write_faults n zero old mid new first input start out before written e f r runs =
+    let same : n + zero ≡ n = omega arith in
+    rw (same, runs) r
+reached_runs left read_faults taken write_faults n (suc k) old mid new first input start out before written e f r runs =
+    let same : n + suc k ≡ n + k + 1 = omega arith in
+    rw same (reached_goes left read_faults taken write_faults (n + k) old runs.0 new first input start out before written e f
+    (reached_runs left read_faults taken write_faults n k old mid runs.0 first input start out before written e f r runs.1) runs.2)
 
 -- a first step that runs alone
 pub step_goes : (old new : MachineState) → RunsTo 1 old new → step old ≡ Goes new

@@ -1,7 +1,8 @@
 -- What the steps of a run fetch, as a watcher sees them (MIPS I manual, appendix A: a step fetches
 -- the word at its place).
 use Rattle.std.specs.Prelude.{ℕ, zero, suc, ◌+◌, ◌*◌, ◌/◌, ◌%◌, ◌==◌, ◌≡◌, List, [], ◌∷◌, ◌++◌}
-use Rattle.std.specs.Prelude.{length, slice_index, if◌then◌else◌, Option, Some, None}
+use Rattle.std.specs.Prelude.{length, slice_index, if◌then◌else◌, Bool, true, false, Option}
+use Rattle.std.specs.Prelude.{Some, None}
 use Rattle.tg_state.specs.declared.ends.RunEnd.{RunEnd}
 use Rattle.tg_state.specs.State.{MachineState, code_base, offset}
 use Rattle.tg_isa.specs.Effects.{step}
@@ -9,6 +10,7 @@ use Rattle.tg_isa.specs.Runs.{Execution, Running, Ended, proceed}
 use Rattle.tg_machine.specs.declared.fetches.Seen.{Seen}
 use Rattle.tg_machine.specs.Machines.{Simulated}
 use Rattle.tg_machine.specs.Ran.{Stops, still, ended, read_failed, write_failed, IsSimulation}
+use Rattle.tg_machine.specs.Ran.{MayFollow}
 
 -- the word of the code at so many bytes after its base, with the place
 abbrev pub seen_there : MachineState → Option ℕ → Option Seen
@@ -53,6 +55,12 @@ fetches_until {n} {w} (ended runs whole) = fetches n w
 fetches_until {n} {w} (read_failed i within comes reading fault whole) = fetches (i + 1) w
 fetches_until {n} {w} (write_failed i rest within comes writing fault) = fetches (i + 1) w
 
+-- the bytes that a source still tells, where its end wasn't met
+abbrev pub rest_after : (ended : Bool) → Option (List ℕ) → List ℕ
+rest_after true left = []
+rest_after false None = []
+rest_after false (Some bytes) = bytes
+
 -- the call runs the machine, and these are the fetches of that very run
 pub record IsWatched {I O : Type 0}
     (left : I → Option (List ℕ)) (read_faults : I → ℕ)
@@ -60,4 +68,6 @@ pub record IsWatched {I O : Type 0}
     (n : ℕ) (old new : Simulated) (input input' : I) (out out' : O) (e : RunEnd)
     (seen : List Seen) : Type 0 where
   pub simulation : IsSimulation left read_faults taken write_faults n old new input input' out out' e
-  pub seen_is : seen ≡ fetches_until simulation.stops
+  pub may : MayFollow new.input_ended (rest_after new.input_ended (left input'))
+  pub seen_is :
+      seen ≡ fetches_until (simulation.stops (rest_after new.input_ended (left input')) may)

@@ -1,5 +1,5 @@
 -- Machines as contracts see them.
-use Rattle.std.specs.Prelude.{ℕ, ◌≡◌, Option, Some, None}
+use Rattle.std.specs.Prelude.{ℕ, ◌≡◌, Bool, false, Option, Some, None}
 use Rattle.tg_state.specs.declared.ends.RunEnd.{RunEnd}
 use Rattle.tg_state.specs.declared.ends.RunEnd.TheVariants.{StepLimit}
 use Rattle.tg_state.specs.State.{MachineState, initial_machine}
@@ -7,15 +7,18 @@ use Rattle.tg_isa.specs.declared.images.Image.{Image}
 use Rattle.tg_machine.specs.declared.status.Status.{Status}
 use Rattle.tg_machine.specs.declared.status.Status.TheVariants.{Running, Ended}
 
--- a machine's state, how it ended if it has, and how many bytes its services have written
+-- a machine's state, how it ended if it has, how many bytes its services have written, and whether
+-- a read has met the end of the input
 pub record Simulated : Type 0 where
   pub state : MachineState
   pub end : Option RunEnd
   pub written : ℕ
+  pub input_ended : Bool
 
--- a machine of a state, an end and a count
-abbrev pub simulated : MachineState → Option RunEnd → ℕ → Simulated
-simulated s end written = record { state = s; end = end; written = written }
+-- a machine of a state, an end, a count, and whether its input has ended
+abbrev pub simulated : MachineState → Option RunEnd → ℕ → Bool → Simulated
+simulated s end written input_ended =
+    record { state = s; end = end; written = written; input_ended = input_ended }
 
 -- the end that a machine keeps after a step
 abbrev pub kept : Status → Option RunEnd
@@ -28,6 +31,7 @@ loaded image heap stack = record {
   state = initial_machine image.code image.statics image.entry heap stack;
   end = None;
   written = 0;
+  input_ended = false;
 }
 
 -- how a step ends a run of one step

@@ -1,25 +1,17 @@
 -- What a call that makes at most so many steps leaves of the machine, of the source and of the
 -- sink.
 use Rattle.std.specs.Prelude.{ℕ, ◌+◌, ◌-◌, ◌^◌, ◌≡◌, ◌≢◌, ◌<◌, ◌≤◌, ◌⊎◌, ⊤, min, List, [], ◌++◌}
-use Rattle.std.specs.Prelude.{length, Option, Some, None, IsSome}
-use Rattle.std.specs.Io.KnownBytes.{Appends}
+use Rattle.std.specs.Prelude.{length, Bool, true, false, Option, Some, None}
+use Rattle.std.specs.Io.KnownBytes.{Appends, Consumes, IsAtEnd}
 use Rattle.tg_state.specs.declared.ends.RunEnd.{RunEnd}
 use Rattle.tg_state.specs.declared.ends.RunEnd.TheVariants.{StepLimit, ReadFault, WriteFault}
 use Rattle.tg_base.specs.Causes.{Rose}
+use Rattle.tg_simulation.specs.Bytes.{AreBytes}
 use Rattle.tg_state.specs.State.{MachineState}
 use Rattle.tg_state.specs.Services.{Reads, Writes}
 use Rattle.tg_isa.specs.Effects.{step}
 use Rattle.tg_isa.specs.Runs.{Execution, Running, Ended, run, begun, answers}
 use Rattle.tg_machine.specs.Machines.{Simulated}
-
--- these are the answers of a source that tells its bytes
-abbrev pub Tells : Option (List ℕ) → List (Option ℕ) → Type 0
-Tells None input = ⊤
-Tells (Some bytes) input = input ≡ answers bytes
-
--- a source that tells its bytes still does
-abbrev pub StillTells : Option (List ℕ) → Option (List ℕ) → Type 0
-StillTells old new = IsSome old → IsSome new
 
 -- the machine is at a service that reads; or at one that writes these bytes
 abbrev pub IsReading : MachineState → Type 0
@@ -60,38 +52,66 @@ pub data Stops (n : ℕ) (w : Execution) (e : RunEnd) (last : Execution)
 abbrev pub saturating_sum : ℕ → ℕ → ℕ
 saturating_sum n more = min (n + more) (2 ^ 64 - 1)
 
--- all steps were made, and the machine goes on from the last world
-pub record AllStepsMade (n : ℕ) (w last : Execution) (new : Simulated)
+-- the input that may follow what was read: none where its end was met
+abbrev pub MayFollow : (ended : Bool) → List ℕ → Type 0
+MayFollow true rest = rest ≡ []
+MayFollow false rest = ⊤
+
+-- The end of the input is met at most once, where the source has no byte left. From then on nothing
+-- is read, and the source is left alone.
+abbrev pub MeetsEnd : {I : Type 0} → (left : I → Option (List ℕ)) → (ended ended' : Bool) →
+    (read : List ℕ) → (input input' : I) → Type 0
+MeetsEnd left false false read input input' = ⊤
+MeetsEnd left false true read input input' = IsAtEnd (left input')
+MeetsEnd left true false read input input' = ⊥
+MeetsEnd left true true read input input' = (read ≡ []) × (input' ≡ input)
+
+-- a machine whose input has these bytes and no more, and one that goes on with these bytes left
+abbrev pub begun_on : MachineState → (bytes : List ℕ) → Execution
+begun_on s bytes = begun s (answers bytes)
+
+abbrev pub standing : MachineState → (rest output : List ℕ) → Execution
+standing s rest output = record { machine = s; input = answers rest; output = output }
+
+-- all steps were made, whatever may follow what was read, and the machine goes on from the last
+-- state
+pub record AllStepsMade (n : ℕ) (old new : Simulated) (read output : List ℕ) (last : MachineState)
     (front : List ℕ) : Type 0 where
-  pub running : run n w ≡ Running last
+  pub running : (rest : List ℕ) → MayFollow new.input_ended rest →
+      run n (begun_on old.state (read ++ rest)) ≡ Running (standing last rest output)
   pub end : new.end ≡ None
-  pub state : new.state ≡ last.machine
+  pub state : new.state ≡ last
   pub whole : front ≡ []
 
--- The call runs the machine on what the reads of the source answer, and writes to the sink what the
--- run writes.
+-- The call reads bytes of the source, runs the machine on every input that begins with them, and
+-- writes to the sink what the run writes.
 pub record IsSimulation {I O : Type 0}
     (left : I → Option (List ℕ)) (read_faults : I → ℕ)
     (taken : O → Option (List ℕ)) (write_faults : O → ℕ)
     (n : ℕ) (old new : Simulated) (input input' : I) (out out' : O) (e : RunEnd) : Type 0 where
-  pub input_before : List (Option ℕ)
-  pub last : Execution
+  pub read : List ℕ
+  pub output : List ℕ
+  pub last : MachineState
   pub front : List ℕ
-  pub stops : Stops n (begun old.state input_before) e last front
-  -- the source's bytes before and after, where it tells them, and the sink's
-  pub told : Tells (left input) input_before
-  pub rest : Tells (left input') last.input
-  pub tells : StillTells (left input) (left input')
-  pub writes : Appends (taken out) (taken out') (last.output ++ front)
+  -- whatever may follow what was read, and it is left
+  pub stops : (rest : List ℕ) → MayFollow new.input_ended rest →
+      Stops n (begun_on old.state (read ++ rest)) e (standing last rest output) front
+  -- what was read are bytes, and the source gave them
+  pub are_bytes : AreBytes read
+  pub gives : Consumes (left input) (left input') read
+  pub meets_end : MeetsEnd left old.input_ended new.input_ended read input input'
+  pub writes : Appends (taken out) (taken out') (output ++ front)
   -- a source is left alone where no service reads, and a sink where none writes
-  pub unread : (input' ≡ input) ⊎ ComesToRead n (begun old.state input_before)
-  pub unwritten : (out' ≡ out) ⊎ ComesToWrite n (begun old.state input_before)
+  pub unread : (input' ≡ input) ⊎ ((rest : List ℕ) → MayFollow new.input_ended rest →
+      ComesToRead n (begun_on old.state (read ++ rest)))
+  pub unwritten : (out' ≡ out) ⊎ ((rest : List ℕ) → MayFollow new.input_ended rest →
+      ComesToWrite n (begun_on old.state (read ++ rest)))
   -- counts of faults never fall, and each fault has its cause
   pub reads_later : read_faults input ≤ read_faults input'
   pub writes_later : write_faults out ≤ write_faults out'
   pub read_cause : e ≡ ReadFault → Rose (read_faults input) (read_faults input')
   pub write_cause : e ≡ WriteFault → Rose (write_faults out) (write_faults out')
-  -- the machine goes on from the last world, or keeps its end
-  pub goes_on : e ≡ StepLimit → AllStepsMade n (begun old.state input_before) last new front
+  -- the machine goes on from the last state, or keeps its end
+  pub goes_on : e ≡ StepLimit → AllStepsMade n old new read output last front
   pub keeps : e ≢ StepLimit → new.end ≡ Some e
-  pub written : new.written ≡ saturating_sum old.written (length last.output)
+  pub written : new.written ≡ saturating_sum old.written (length output)

@@ -46,6 +46,7 @@ pub fn load(alloc: Global, image: &Image, heap: u32, stack: u32) -> Result<Machi
         core,
         end: None,
         written: 0,
+        input_ended: false,
     })
 }
 

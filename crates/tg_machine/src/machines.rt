@@ -8,13 +8,15 @@ use std::marker::Model;
 use tg_base::{Sink, Source};
 use tg_state::RunEnd;
 
-/// A machine with a program: its registers and its regions, how it ended if it has, and how many
-/// bytes its services have written.
+/// A machine with a program: its registers and its regions, how it ended if it has, how many bytes
+/// its services have written, and whether a read has met the end of the input. From then on it asks
+/// no source for more, and answers each read with the end.
 #[derive(Drop)]
 pub struct Machine {
     pub(crate) core: Core,
     pub(crate) end: Option<RunEnd>,
     pub(crate) written: u64,
+    pub(crate) input_ended: bool,
 }
 
 impl Model for Machine {
@@ -79,8 +81,10 @@ impl Machine {
             return Status::Ended(end);
         }
         let mut written = self.written;
-        let status = self.core.run(input, out, &mut written, steps);
+        let mut ended = self.input_ended;
+        let status = self.core.run(input, out, &mut written, &mut ended, steps);
         self.written = written;
+        self.input_ended = ended;
         if let Status::Ended(end) = status {
             self.end = Some(end);
         }

@@ -1,4 +1,3 @@
-ghost use Rattle.std.specs.Io.KnownBytes.{Keeps};
 ghost use Rattle.std.specs.Prelude.{
   ◌≡◌,
   ◌<◌,
@@ -26,6 +25,7 @@ ghost use Rattle.tg_machine.specs.glue.Moves.{
   HasWritten,
   IsOwn,
   IsPiece,
+  IsUnanswered,
   Moved,
   TakesPiece,
 };
@@ -39,18 +39,32 @@ use tg_state::{HEAP_BASE, RunEnd, STATICS_BASE};
 /// How many bytes of a text are written at once.
 const CHUNK: usize = 4096;
 
-/// The next byte of a source, or none at its end.
-fn next_byte<I: Source>(input: &mut I) -> Result<Option<u8>, Failed>
+/// A byte as it is: below 256, by its type.
+#[inline(always)]
+fn below_256(byte: u8) -> u8
+    ensures same { result ≡ byte }
+    ensures low { result < 256 }
+{
+    byte
+}
+
+/// The next byte of a source, or none at its end. An end that was met is answered again, and the
+/// source isn't asked: a terminal may give bytes behind an end.
+fn next_byte<I: Source>(input: &mut I, ended: &mut bool) -> Result<Option<u8>, Failed>
     ensures bytes { MatchResult result
-        (λ answer. Answers (I.left input.old) (I.left input.new) answer)
-        (λ _. Keeps (I.left input.old) (I.left input.new)) }
+        (λ answer. Answers I.left input.old input.new ended.old ended.new answer)
+        (λ _. IsUnanswered I.left input.old input.new ended.old ended.new) }
     ensures cause { HasCause (I.faults input.old) (I.faults input.new) result }
 {
+    if *ended {
+        return Ok(None);
+    }
     let mut byte = [0];
     if input.read(&mut byte)? == 0 {
+        *ended = true;
         Ok(None)
     } else {
-        Ok(Some(byte[0]))
+        Ok(Some(below_256(byte[0])))
     }
 }
 
@@ -71,12 +85,12 @@ fn put_bytes<O: Sink>(out: &mut O, piece: &[u8], written: &mut u64) -> Result<()
 
 impl Core {
     /// Service 12: the answer of the source goes to $v0.
-    fn read_byte<I: Source>(&mut self, input: &mut I) -> Result<(), RunEnd>
-        ensures bytes { HasRead self.old self.new (I.left input.old) (I.left input.new)
-            (I.faults input.old) (I.faults input.new) result }
+    fn read_byte<I: Source>(&mut self, input: &mut I, ended: &mut bool) -> Result<(), RunEnd>
+        ensures bytes { HasRead I.left I.faults self.old self.new input.old input.new
+            ended.old ended.new result }
         ensures later { I.faults input.old ≤ I.faults input.new }
     {
-        match next_byte(input) {
+        match next_byte(input, ended) {
             Ok(Some(byte)) => {
                 self.set(Reg::V0, u32::from(byte));
                 Ok(())
@@ -194,16 +208,19 @@ impl Core {
         }
     }
 
-    /// The service that $v0 names, with its argument in $a0.
+    /// The service that $v0 names, with its argument in $a0. `ended` says whether a read has met
+    /// the end of the input.
     #[inline(never)]
     pub fn service<I: Source, O: Sink>(
         &mut self,
         input: &mut I,
         out: &mut O,
         written: &mut u64,
+        ended: &mut bool,
     ) -> Result<(), RunEnd>
         ensures { Moved I.left I.faults O.taken O.faults (service self.old) result
-            self.new input.old input.new out.old out.new written.old written.new }
+            self.new input.old input.new out.old out.new written.old written.new
+            ended.old ended.new }
     {
         let argument = self.register(Reg::A0);
         match self.register(Reg::V0) {
@@ -216,7 +233,7 @@ impl Core {
             9 => self.take_heap((argument as usize + 3) / 4 * 4),
             10 => Err(RunEnd::Exit(0)),
             11 => put_bytes(out, &[(argument % 256) as u8], written),
-            12 => self.read_byte(input),
+            12 => self.read_byte(input, ended),
             17 => Err(RunEnd::Exit(argument.cast_signed())),
             number => Err(RunEnd::BadService(number)),
         }

@@ -11,42 +11,46 @@ use tg_base::{Sink, Source};
 use tg_state::RunEnd;
 
 impl Core {
-    /// Makes one step.
+    /// Makes one step. `ended` says whether a read has met the end of the input.
     pub fn step<I: Source, O: Sink>(
         &mut self,
         input: &mut I,
         out: &mut O,
         written: &mut u64,
+        ended: &mut bool,
     ) -> Result<(), RunEnd>
         ensures { Moved I.left I.faults O.taken O.faults (step self.old) result
-            self.new input.old input.new out.old out.new written.old written.new }
+            self.new input.old input.new out.old out.new written.old written.new
+            ended.old ended.new }
     {
         match self.run_alone(1) {
-            Pause::Due(_) => self.service(input, out, written),
+            Pause::Due(_) => self.service(input, out, written, ended),
             Pause::Ended(end) => Err(end),
             Pause::Made => Ok(()),
         }
     }
 
-    /// Makes at most so many steps.
+    /// Makes at most so many steps. `ended` says whether a read has met the end of the input.
     pub fn run<I: Source, O: Sink>(
         &mut self,
         input: &mut I,
         out: &mut O,
         written: &mut u64,
+        ended: &mut bool,
         steps: u64,
     ) -> Status
         requires { written.old < 2 ^ 64 }
         ensures apart { result ≢ Status.Ended RunEnd.StepLimit }
         ensures ran { IsSimulation I.left I.faults O.taken O.faults steps
-            (simulated self.old None written.old) (simulated self.new (kept result) written.new)
+            (simulated self.old None written.old ended.old)
+            (simulated self.new (kept result) written.new ended.new)
             input.old input.new out.old out.new (end_of result) }
     {
         let mut made = 0;
         while made < steps {
             match self.run_alone(steps - made) {
                 Pause::Due(more) => {
-                    if let Err(end) = self.service(input, out, written) {
+                    if let Err(end) = self.service(input, out, written, ended) {
                         return Status::Ended(end);
                     }
                     made += more + 1;

@@ -1,8 +1,13 @@
+ghost use Rattle.std.specs.declared.option.Option.TheVariants.{None};
+ghost use Rattle.std.specs.Io.{ReadsAtMost};
+ghost use Rattle.std.specs.Io.KnownBytes.{ReadConsumes};
+ghost use Rattle.tg_base.specs.Causes.{HasCause};
+
 use std::alloc::Global;
 use std::process::Abort;
 use std::test::Fail;
 use tg_asm::{AsmFault, assemble};
-use tg_base::{Bytes, ListSource, PlainSource, RoomSink, Words};
+use tg_base::{Bytes, Failed, ListSource, PlainSource, RoomSink, Source, Words};
 use tg_isa::Image;
 use tg_machine::{Machine, RunEnd, Status, load};
 
@@ -182,6 +187,43 @@ fn reads(rt: HostRuntime) -> Result<(), Fail> {
         read_and_ask(&rt, alloc, &mut input, &mut *out, want)?;
     }
     assert_eq!(rt; input.calls(), 5);
+    Ok(())
+}
+
+/// A terminal, which says the end and then gives bytes.
+#[derive(Drop)]
+struct Terminal {
+    calls: u32,
+}
+
+impl Source for Terminal {
+    ghost left = { λ _. None };
+
+    ghost faults = { λ _. 0 };
+
+    fn read(&mut self, into: &mut [u8]) -> Result<usize, Failed>
+        ensures bound { ReadsAtMost result into.new }
+        ensures bytes { ReadConsumes None None result into.new }
+        ensures cause { HasCause 0 0 result }
+    {
+        self.calls = self.calls.saturating_add(1);
+        if self.calls == 1 {
+            return Ok(0);
+        }
+        into[0] = 65;
+        Ok(1)
+    }
+}
+
+#[test]
+fn asks_no_more_after_the_end(rt: HostRuntime) -> Result<(), Fail> {
+    let alloc = rt.alloc();
+    let mut input = Terminal { calls: 0 };
+    let mut out = sink(alloc, 0, &[])?;
+    let mut run = program(&rt, alloc, READER)?;
+    assert_eq!(rt; run.run(&mut input, &mut *out, 2), RunEnd::StepLimit);
+    assert_eq!(rt; run.run(&mut input, &mut *out, 20), RunEnd::Exit(-1));
+    assert_eq!(rt; input.calls, 1);
     Ok(())
 }
 

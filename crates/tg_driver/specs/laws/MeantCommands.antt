@@ -1,9 +1,8 @@
 -- What `build`, `run` and `gen` do by the meaning of their source, where no count of faults rose.
-use Rattle.std.specs.Prelude.{ℕ, ◌≡◌, List, [], Some}
+use Rattle.std.specs.Prelude.{ℕ, List, []}
 use Rattle.std.specs.Io.KnownBytes.{Appends}
 use Rattle.tg_state.specs.declared.ends.RunEnd.{RunEnd}
 use Rattle.tg_base.specs.InMemory.{PlainBytes}
-use Rattle.tg_simulation.specs.Bytes.{AreBytes}
 use Rattle.tg_generate.specs.Generated.{generated}
 use Rattle.tg_command.specs.declared.modes.Mode.{Mode}
 use Rattle.tg_command.specs.declared.modes.Mode.TheVariants.{Build, Run, Gen}
@@ -14,7 +13,7 @@ use Rattle.tg_driver.specs.declared.answers.Answer.TheVariants.{Faulty, Written,
 use Rattle.tg_driver.specs.Calls.{Stream, Streams, Call}
 use Rattle.tg_driver.specs.Faults.{IsFaultOf}
 use Rattle.tg_driver.specs.laws.Laws.{Gives}
-use Rattle.tg_driver.specs.laws.MeantEnds.{EndsByMeaning, streams_until}
+use Rattle.tg_driver.specs.laws.MeantEnds.{EndsByMeaning, EndsOnInput, streams_until}
 
 -- the output took an assembly text that does what the source means
 pub record WritesAsMeant {O : Type 0} (out : Stream O) (text : List ℕ) : Type 0 where
@@ -28,14 +27,13 @@ BuildsByMeaning out text (Faulty fault) = IsFaultOf text fault
 BuildsByMeaning out text Written = WritesAsMeant out text
 BuildsByMeaning out text _ = ⊥
 
--- `run` answers the first fault of its source, or ends by the meaning of the source on the bytes
--- that its input tells
+-- `run` answers the first fault of its source, or ends by the meaning of the source on the bytes of
+-- its input
 abbrev pub RunsByMeaning :
     {I O : Type 0} → Streams I O → Asked → (text : List ℕ) → Answer → Type 0
 RunsByMeaning s asked text (Faulty fault) = IsFaultOf text fault
 RunsByMeaning s asked text (Finished end) =
-    (bytes : List ℕ) → s.input.told s.input.before ≡ Some bytes → AreBytes bytes →
-    EndsByMeaning s text asked.heap asked.stack asked.steps end bytes
+    EndsOnInput s text asked.heap asked.stack asked.steps end
 RunsByMeaning s asked text _ = ⊥
 
 -- before its summary, `gen` ends by the meaning of the source that it generates, on no input

@@ -1,6 +1,6 @@
 -- What the end of a run says of the meaning of its source, in `run` and in `gen`.
-use Rattle.std.specs.Prelude.{ℕ, ◌≡◌, ◌≢◌, ◌%◌, List, [], Some}
-use Rattle.std.specs.Io.KnownBytes.{Appends}
+use Rattle.std.specs.Prelude.{ℕ, ◌≡◌, ◌≢◌, ◌%◌, List, [], ◌++◌}
+use Rattle.std.specs.Io.KnownBytes.{Appends, Consumes}
 use Rattle.tg_state.specs.declared.ends.RunEnd.{RunEnd}
 use Rattle.tg_state.specs.declared.ends.RunEnd.TheVariants.{ReadFault, WriteFault}
 use Rattle.tg_base.specs.InMemory.{PlainBytes}
@@ -12,8 +12,7 @@ use Rattle.tg_semantics.specs.Values.{Ending, normal, by_nil, by_index, by_divis
 use Rattle.tg_semantics.specs.Values.{by_substring, by_size, by_heap, by_overflow, by_exit}
 use Rattle.tg_semantics.specs.MachineEnds.{machine_end}
 use Rattle.tg_semantics.specs.Direct.{evaluate}
-use Rattle.tg_isa.specs.Runs.{Execution}
-use Rattle.tg_machine.specs.Ran.{Tells}
+use Rattle.tg_isa.specs.Runs.{Execution, answers}
 use Rattle.tg_correct.specs.Images.{AreSizes}
 use Rattle.tg_correct.specs.Sources.{IsSourceOf}
 use Rattle.tg_correct.specs.Ends.{EndIsMeant}
@@ -22,10 +21,11 @@ use Rattle.tg_driver.specs.Calls.{Stream, stream_of, Streams, streams_of}
 use Rattle.tg_driver.specs.Endings.{end_status}
 use Rattle.tg_driver.specs.GenMode.{no_input, SumsUpMeant}
 use Rattle.tg_driver.specs.MeantRuns.{EndsAsMeant}
-use Rattle.tg_driver.specs.Runs.{HasRun}
+use Rattle.tg_driver.specs.Runs.{Tells, HasRun}
 
--- The text is a source of a program. What was written to the sink, what is left of the input, and
--- the end, are what so many steps for the program on these bytes may come to by its meaning.
+-- The text is a source of a program. What was written to the sink, what is left of these bytes, and
+-- the end, are what so many steps for the program on these bytes may come to by its meaning. The
+-- input gave what was read of them.
 pub record EndsByMeaning {I O : Type 0} (s : Streams I O)
     (text : List ℕ) (heap stack steps : ℕ) (end : RunEnd) (bytes : List ℕ) : Type 0 where
   pub names : List (List ℕ)
@@ -34,19 +34,29 @@ pub record EndsByMeaning {I O : Type 0} (s : Streams I O)
   pub source : IsSourceOf text names tokens program
   pub last : Execution
   pub writes : Appends (s.out.told s.out.before) (s.out.told s.out.after) last.output
-  pub rest : Tells (s.input.told s.input.after) last.input
+  pub read : List ℕ
+  pub left : List ℕ
+  pub whole : bytes ≡ read ++ left
+  pub gives : Consumes (s.input.told s.input.before) (s.input.told s.input.after) read
+  pub leaves : last.input ≡ answers left
   pub meant :
       EndIsMeant (λ turns. evaluate names program bytes heap stack turns) steps end last
 
--- Where the input tells its bytes, and no read or write ended the run, `run` ends by the meaning of
--- its source.
+-- It ends so on the bytes of its input: those that the input tells, or some, where it tells none.
+pub record EndsOnInput {I O : Type 0} (s : Streams I O)
+    (text : List ℕ) (heap stack steps : ℕ) (end : RunEnd) : Type 0 where
+  pub bytes : List ℕ
+  pub tells : Tells (s.input.told s.input.before) bytes
+  pub ends : AreBytes bytes → EndsByMeaning s text heap stack steps end bytes
+
+-- Whatever its input tells, where no read or write ended the run, `run` ends by the meaning of its
+-- source.
 abbrev pub RunsAreMeant : (I O : Type 0) → Type 0
 RunsAreMeant I O =
-    (s : Streams I O) (text : List ℕ) (heap stack steps : ℕ) (end : RunEnd) (bytes : List ℕ) →
+    (s : Streams I O) (text : List ℕ) (heap stack steps : ℕ) (end : RunEnd) →
     EndsAsMeant (HasRun s) text heap stack steps end →
-    s.input.told s.input.before ≡ Some bytes →
-    AreBytes bytes → AreSizes heap stack → end ≢ ReadFault → end ≢ WriteFault →
-    EndsByMeaning s text heap stack steps end bytes
+    AreSizes heap stack → end ≢ ReadFault → end ≢ WriteFault →
+    EndsOnInput s text heap stack steps end
 
 -- the streams of a run in `gen`: an empty input, and the output before the summary
 abbrev pub streams_until :

@@ -7,9 +7,9 @@ use Rattle.tg_state.specs.State.{initial_machine}
 use Rattle.tg_base.specs.Writes.{TakesPrefix}
 use Rattle.tg_isa.specs.declared.images.Image.{Image}
 use Rattle.tg_asm_text.specs.Assembly.{assembled}
-use Rattle.tg_isa.specs.Runs.{run, begun}
+use Rattle.tg_isa.specs.Runs.{run}
 use Rattle.tg_asm.specs.Images.{image_of}
-use Rattle.tg_machine.specs.Ran.{Tells}
+use Rattle.tg_machine.specs.Ran.{begun_on}
 use Rattle.tg_irc.specs.Policies.{Rule as SpillRule}
 use Rattle.tg_generate.specs.Generated.{generated}
 use Rattle.tg_command.specs.declared.modes.Mode.{Mode}
@@ -25,7 +25,7 @@ use Rattle.tg_driver.specs.AllocMode.{Lists}
 use Rattle.tg_driver.specs.FormatMode.{Formats}
 use Rattle.tg_driver.specs.GenMode.{summary}
 use Rattle.tg_driver.specs.Modes.{ReadsNoInput, most_of}
-use Rattle.tg_driver.specs.Runs.{world_in}
+use Rattle.tg_driver.specs.Runs.{Tells, world_in}
 use Rattle.tg_driver.specs.laws.Laws.{ReadsFile}
 use Rattle.tg_driver.specs.Telling.{IsBeforeStart, IsTold}
 
@@ -53,18 +53,18 @@ IsImageOf Exec text image = assembled text ≡ Ok (image_of image)
 IsImageOf mode text image = IsMeantImage text image
 
 -- what the image writes within its steps, its reads answered by an input that tells these bytes, or
--- by any where it tells none
+-- by some bytes where it tells none
 pub record IsOutput (told : Option (List ℕ)) (mode : Mode) (asked : Asked)
     (text written : List ℕ) : Type 0 where
   pub image : Image
   pub is_of : IsImageOf mode text image
-  pub input : List (Option ℕ)
+  pub input : List ℕ
   pub tells : Tells told input
   pub made : ℕ
   pub within : made ≤ asked.steps
   pub written_is :
       let first = initial_machine image.code image.statics image.entry asked.heap asked.stack in
-      written ≡ (world_in (run made (begun first input))).output
+      written ≡ (world_in (run made (begun_on first input))).output
 
 -- what `gen` writes: what the image writes on no input, and the summary
 pub record IsSummed (asked : Asked) (text written : List ℕ) : Type 0 where

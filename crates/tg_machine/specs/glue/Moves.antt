@@ -1,14 +1,14 @@
 -- What a step of the code leaves, by what the step of the definition does.
 use Rattle.std.specs.Prelude.{ℕ, ◌≡◌, ◌≤◌, ◌<◌, ◌+◌, List, [], ◌∷◌, length, slice_index, Option}
-use Rattle.std.specs.Prelude.{Some, None, Result, Ok, Err}
-use Rattle.std.specs.Io.KnownBytes.{Appends, Consumes, IsAtEnd, Keeps}
+use Rattle.std.specs.Prelude.{Some, None, Result, Ok, Err, Bool, true, false}
+use Rattle.std.specs.Io.KnownBytes.{Appends, Consumes, Keeps}
 use Rattle.tg_state.specs.declared.ends.RunEnd.{RunEnd}
 use Rattle.tg_state.specs.declared.ends.RunEnd.TheVariants.{StepLimit, ReadFault, WriteFault}
 use Rattle.tg_base.specs.Causes.{Rose}
 use Rattle.tg_base.specs.Writes.{TakesAll, TakesPrefix}
 use Rattle.tg_state.specs.State.{MachineState, go, load_byte, stack_top}
 use Rattle.tg_state.specs.Services.{Step, Goes, Ends, Reads, Writes, answered, text_at}
-use Rattle.tg_machine.specs.Ran.{saturating_sum}
+use Rattle.tg_machine.specs.Ran.{MeetsEnd, saturating_sum}
 
 -- an end that the machine comes to itself, with no limit of steps and no fault of a source or a
 -- sink
@@ -37,19 +37,30 @@ RowIsDone (Ends e) (Err f) new = (f ≡ e) × IsOwn f
 RowIsDone (Reads s) result new = ⊥
 RowIsDone (Writes bytes s) result new = ⊥
 
--- a source answered its next byte, or None at its end
-abbrev pub Answers : Option (List ℕ) → Option (List ℕ) → Option ℕ → Type 0
-Answers old new (Some b) = Consumes old new (b ∷ [])
-Answers old new None = Keeps old new × IsAtEnd new
+-- A read was answered by the source's next byte; or by its end, which from then on is answered
+-- again with no more asked.
+abbrev pub Answers : {I : Type 0} → (left : I → Option (List ℕ)) → (input input' : I) →
+    (ended ended' : Bool) → Option ℕ → Type 0
+Answers left input input' ended ended' (Some b) =
+    (b < 256) × Consumes (left input) (left input') (b ∷ []) × (ended ≡ false) × (ended' ≡ false)
+Answers left input input' ended ended' None =
+    Keeps (left input) (left input') × MeetsEnd left ended true [] input input' × (ended' ≡ true)
+
+-- a read failed, and the source's bytes are as they were
+abbrev pub IsUnanswered : {I : Type 0} → (left : I → Option (List ℕ)) → (input input' : I) →
+    (ended ended' : Bool) → Type 0
+IsUnanswered left input input' ended ended' =
+    Keeps (left input) (left input') × (ended ≡ false) × (ended' ≡ false)
 
 -- a read was answered, and the core goes on with the answer; or it failed
-abbrev pub HasRead : {T : Type 0} →
-    (after new : MachineState) (old_left new_left : Option (List ℕ)) (old_faults new_faults : ℕ) →
-    Result T RunEnd → Type 0
-HasRead after new old_left new_left old_faults new_faults (Ok done) =
-    (answer : Option ℕ) × Answers old_left new_left answer × (new ≡ answered after answer)
-HasRead after new old_left new_left old_faults new_faults (Err e) =
-    (e ≡ ReadFault) × Keeps old_left new_left × Rose old_faults new_faults
+abbrev pub HasRead : {T I : Type 0} → (left : I → Option (List ℕ)) (faults : I → ℕ) →
+    (after new : MachineState) (input input' : I) (ended ended' : Bool) → Result T RunEnd → Type 0
+HasRead left faults after new input input' ended ended' (Ok done) =
+    (answer : Option ℕ) × Answers left input input' ended ended' answer
+    × (new ≡ answered after answer)
+HasRead left faults after new input input' ended ended' (Err e) =
+    (e ≡ ReadFault) × IsUnanswered left input input' ended ended'
+    × Rose (faults input) (faults input')
 
 -- a write was whole, and is saturating_sum; or it failed
 abbrev pub HasWritten : {T : Type 0} → List ℕ →
@@ -61,28 +72,31 @@ HasWritten bytes old_taken new_taken old_faults new_faults old_written new_writt
     (e ≡ WriteFault) × TakesPrefix old_taken new_taken bytes × Rose old_faults new_faults
     × (new_written ≡ old_written)
 
--- what a step of the code leaves of the core, of the source, of the sink and of the count of bytes
--- written
+-- what a step of the code leaves of the core, of the source, of the sink, of the count of bytes
+-- written, and of whether the input has ended
 abbrev pub Moved : {T I O : Type 0} →
     (left : I → Option (List ℕ)) (read_faults : I → ℕ)
     (taken : O → Option (List ℕ)) (write_faults : O → ℕ) →
-    Step → Result T RunEnd →
-    (new : MachineState) (input input' : I) (out out' : O) (written written' : ℕ) → Type 0
+    Step → Result T RunEnd → (new : MachineState) (input input' : I) (out out' : O)
+    (written written' : ℕ) (ended ended' : Bool) → Type 0
 Moved left read_faults taken write_faults (Goes s)
-    result new input input' out out' written written' =
+    result new input input' out out' written written' ended ended' =
     IsDone (Goes s) result new × (input' ≡ input) × (out' ≡ out) × (written' ≡ written)
+    × (ended' ≡ ended)
 Moved left read_faults taken write_faults (Ends e)
-    result new input input' out out' written written' =
+    result new input input' out out' written written' ended ended' =
     IsDone (Ends e) result new × (input' ≡ input) × (out' ≡ out) × (written' ≡ written)
+    × (ended' ≡ ended)
 Moved left read_faults taken write_faults (Reads s)
-    result new input input' out out' written written' =
-    HasRead s new (left input) (left input') (read_faults input) (read_faults input') result
+    result new input input' out out' written written' ended ended' =
+    HasRead left read_faults s new input input' ended ended' result
     × (read_faults input ≤ read_faults input') × (out' ≡ out) × (written' ≡ written)
 Moved left read_faults taken write_faults (Writes bytes s)
-    result new input input' out out' written written' =
+    result new input input' out out' written written' ended ended' =
     HasWritten bytes (taken out) (taken out')
     (write_faults out) (write_faults out') written written' result
     × (write_faults out ≤ write_faults out') × (input' ≡ input) × (new ≡ s)
+    × (ended' ≡ ended)
 
 -- these so many bytes are the text at an address, each is loaded, and the 0 after them is below
 -- the top of the stack

@@ -1,4 +1,4 @@
-use Rattle.std.proofs.Common.{◌≡◌, ℕ, ◌*◌, sym, ap, ◌∙◌}
+use Rattle.std.proofs.Common.{ℕ, ◌*◌, sym, ap, ◌∙◌}
 use Rattle.tg_machine.specs.declared.rows.Row.TheVariants as row
 use Rattle.tg_machine.specs.mirror.Rows.{prepared}
 use Rattle.tg_machine.proofs.preparing.prepare.Goals as goal

@@ -10,7 +10,7 @@ returns-in-Due g c =
 pub returns-in-Ended : goal.returns-in-Ended
 returns-in-Ended g c =
     let is = c.in-Ended.ensures in
-    rw (step_is _ _ _ _ is.2 is.3 is.4) ((refl, is.5), refl, refl, refl)
+    rw (step_is _ _ _ _ is.2 is.3 is.4) ((refl, is.5), refl, refl, refl, refl)
 
 pub returns-in-Made : goal.returns-in-Made
-returns-in-Made g c = rw (step_goes _ _ c.in-Made.ensures) (refl, refl, refl, refl)
+returns-in-Made g c = rw (step_goes _ _ c.in-Made.ensures) (refl, refl, refl, refl, refl)
