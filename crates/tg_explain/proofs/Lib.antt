@@ -1,0 +1,4 @@
+mod Likes
+pub mod Asked
+pub mod Openings
+pub mod AllExpected
