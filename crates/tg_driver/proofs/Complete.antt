@@ -13,22 +13,18 @@ use Rattle.tg_command.specs.declared.modes.Mode.TheVariants.{Check, Build, Run, 
 use Rattle.tg_command.specs.Commands.{Asked}
 use Rattle.tg_command.proofs.CommandLemmas.{asked_once, asked_no_fault}
 use Rattle.tg_driver.specs.declared.answers.Answer.{Answer}
-use Rattle.tg_driver.specs.declared.answers.Answer.TheVariants.{Faulty, BadLine, TooLong, Written, Unwritten, Finished, OutOfMemory}
+use Rattle.tg_driver.specs.declared.answers.Answer.TheVariants.{Faulty, Written, Unwritten, Finished, OutOfMemory}
 use Rattle.tg_driver.specs.Calls.{Stream, stream_of, streams_of, Stays, HasFailed, Streams, Shelved, IsUnread, Call, Takes, nothing, all, part}
 use Rattle.tg_driver.specs.OfFiles.{OfFile, unreadable, read}
-use Rattle.tg_driver.specs.MeantRuns.{EndsAsMeant}
-use Rattle.tg_driver.specs.Runs.{RunRelation, HasRun}
 use Rattle.tg_correct.specs.Sources.{IsSource}
 use Rattle.tg_driver.specs.Writing.{TextRelation, IsWritten}
-use Rattle.tg_driver.specs.RunMode.{IsRun}
-use Rattle.tg_driver.specs.ExecMode.{IsExecuted}
 use Rattle.tg_driver.specs.GenMode.{no_input, summary, TakesSummary, IsGenerated}
 use Rattle.tg_driver.specs.Endings.{end_status}
 use Rattle.tg_driver.specs.Modes.{InMode, most_of}
 use Rattle.tg_driver.specs.Statuses.{status_of, line_of}
 use Rattle.tg_driver.specs.Watching.{HasToldRun, if_watched, run_in}
 use Rattle.tg_driver.specs.Answered.{IsDue, told_runs, usage, no_memory, asked, Answers}
-use Rattle.tg_driver.specs.laws.Laws.{HoldsFile, ReadsFile, IsGood, Gives, EndsAsTold, EndsAndTells, IsFaultyOrWritten, EndsGenerated, Settles, settled_runs}
+use Rattle.tg_driver.specs.laws.Laws.{HoldsFile, ReadsFile, IsGood, Gives, EndsAndTells, IsFaultyOrWritten, EndsGenerated, Settles, settled_runs}
 use Rattle.tg_driver.specs.laws.Laws.{IsSettled}
 use Rattle.tg_driver.proofs.ExactRuns.{ends_as_told, ends_faultless, exact_reports}
 use Rattle.tg_driver.proofs.Watched.{run_more, exec_more}

@@ -1,5 +1,5 @@
 -- Runs whose reads and writes all succeed are those of the definition.
-use Rattle.std.proofs.Common.{ℕ, ◌≡◌, List, [], ◌++◌, Option, Some, refl, sym, ap, subst, ◌∙◌, append-nil, length}
+use Rattle.std.proofs.Common.{ℕ, ◌≡◌, List, [], ◌++◌, Some, refl, sym, ap, subst, ◌∙◌, append-nil, length}
 use Rattle.std.specs.Io.KnownBytes.{Appends}
 use Rattle.tg_state.specs.declared.ends.RunEnd.{RunEnd}
 use Rattle.tg_state.specs.declared.ends.RunEnd.TheVariants.{ReadFault, WriteFault}

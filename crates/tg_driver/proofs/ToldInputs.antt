@@ -16,7 +16,7 @@ at_end told true read input input' h is = h
 at_end told false read input input' h is = cc is
 
 -- a source that told its bytes lost what was read, and tells the rest
-record Lost (told' : Option (List ℕ)) (ended : Bool) (read bytes : List ℕ) : Type 0 where
+pub record Lost (told' : Option (List ℕ)) (ended : Bool) (read bytes : List ℕ) : Type 0 where
   pub whole : read ++ rest_after ended told' ≡ bytes
   pub left : told' ≡ Some (rest_after ended told')
 

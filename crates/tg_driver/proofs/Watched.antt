@@ -1,5 +1,5 @@
 -- What is said of runs, more weakly; and from runs that watchers saw to what they tell.
-use Rattle.std.specs.Prelude.{All, Ok, Err, if◌then◌else◌}
+use Rattle.std.specs.Prelude.{Ok, Err, if◌then◌else◌}
 use Rattle.std.proofs.Common.{ℕ, ◌≡◌, Option, None, List, [], Bool, true, false, map, refl, sym, ap, subst, ◌∙◌, length, arith}
 use Rattle.tg_state.specs.declared.ends.RunEnd.{RunEnd}
 use Rattle.tg_isa.specs.declared.images.Image.{Image}

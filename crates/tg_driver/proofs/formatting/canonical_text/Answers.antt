@@ -1,4 +1,3 @@
-use Rattle.tg_driver.proofs.CanonicalTexts.{formats_of}
 use Rattle.tg_driver.proofs.formatting.canonical_text.Goals as goal
 
 pub parse_tokens-requires : goal.parse_tokens-requires
