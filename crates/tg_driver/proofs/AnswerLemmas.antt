@@ -14,29 +14,27 @@ use Rattle.tg_base.specs.Files.{IsFilePrefix}
 use Rattle.tg_isa.specs.declared.images.Image.{Image}
 use Rattle.tg_asm_text.specs.Assembly.{assembled}
 use Rattle.tg_asm.specs.Images.{image_of}
-use Rattle.tg_irc.specs.Policies.{Rule as SpillRule}
 use Rattle.tg_command.specs.declared.modes.Mode.{Mode}
 use Rattle.tg_command.specs.declared.modes.Mode.TheVariants.{Check, Build, Run, Exec, Alloc, Gen, Format}
 use Rattle.tg_command.specs.Commands.{Asked, Ask}
 use Rattle.tg_command.proofs.CommandLemmas.{asked_once}
 use Rattle.tg_driver.specs.declared.answers.Answer.{Answer}
 use Rattle.tg_driver.specs.declared.answers.Answer.TheVariants.{Faulty, Written, Unwritten, OutOfMemory, Finished}
-use Rattle.tg_correct.specs.Assemblies.{IsAsMeant}
 use Rattle.tg_driver.specs.Calls.{Stream, stream_of, Streams, Stays, Untouched, Shelved, IsUnread, Call, Takes, nothing, all, part}
 use Rattle.tg_driver.specs.OfFiles.{OfFile, unreadable, read, OrMemory, unread_answer, HasStarted, StaysBeforeStart, UntouchedBeforeStart}
 use Rattle.tg_driver.specs.glue.Found.{IsRefused}
 use Rattle.tg_driver.specs.Runs.{RunRelation, IsRunOrMemory}
 use Rattle.tg_driver.specs.CheckMode.{IsChecked, ByCheck}
-use Rattle.tg_driver.specs.Writing.{TakesText, TextRelation, IsWritten, ByWriting}
-use Rattle.tg_driver.specs.RunMode.{EndsAssembled, IsRun, ByRun}
-use Rattle.tg_driver.specs.GenMode.{summary, TakesSummary, SumsUpRun, SumsUpMeant, IsGenerated, ByGen}
+use Rattle.tg_driver.specs.Writing.{TakesText, TextRelation, Texts, IsWritten, ByWriting}
+use Rattle.tg_driver.specs.RunMode.{EndsAssembled, IsRunBy, ByRun}
+use Rattle.tg_driver.specs.GenMode.{summary, TakesSummary, SumsUpRun, SumsUpBy, IsGeneratedBy, ByGen}
 use Rattle.tg_driver.specs.Endings.{end_status}
 use Rattle.tg_driver.specs.ExecMode.{IsExecuted, ByExec}
-use Rattle.tg_driver.specs.Modes.{InMode, LeavesAlone}
+use Rattle.tg_driver.specs.Modes.{InModeBy, LeavesAlone}
 use Rattle.tg_driver.specs.FormatMode.{IsFormatted, ByFormat}
 use Rattle.tg_driver.specs.laws.Laws.{ReadsFile}
 use Rattle.tg_driver.specs.Telling.{IsBeforeStart, IsReported, itself, no_memory}
-use Rattle.tg_driver.specs.Answered.{IsDue, StaysInGen, NoneUnasked, told_runs, usage, asked, Answers}
+use Rattle.tg_driver.specs.Answered.{IsDueBy, StaysInGen, NoneUnasked, told_runs, usage, asked, AnswersBy}
 use Rattle.tg_driver.specs.Watching.{NoneBeforeEnd}
 use Rattle.tg_driver.specs.Answered as answered
 
@@ -63,11 +61,11 @@ written_of_refused out writes text (Faulty f) r = r
 written_of_refused out writes text OutOfMemory r = tt
 written_of_refused out writes text _ r = absurd r
 
-pub run_of_refused : (runs : RunRelation) (a : Asked) (text : List ℕ) (answer : Answer) →
-    IsRefused text answer → OrMemory (Unit {0}) (IsRun runs a text) answer
-run_of_refused runs a text (Faulty f) r = r
-run_of_refused runs a text OutOfMemory r = tt
-run_of_refused runs a text _ r = absurd r
+pub run_of_refused : (texts : TextRelation) (runs : RunRelation) (a : Asked) (text : List ℕ) (answer : Answer) →
+    IsRefused text answer → OrMemory (Unit {0}) (IsRunBy texts runs a text) answer
+run_of_refused texts runs a text (Faulty f) r = r
+run_of_refused texts runs a text OutOfMemory r = tt
+run_of_refused texts runs a text _ r = absurd r
 
 -- a refusal leaves the streams alone
 pub refused_stays : {T : Type 0} (out : Stream T) (text : List ℕ) (answer : Answer) → IsRefused text answer → Stays out → StaysBeforeStart out answer
@@ -114,12 +112,12 @@ started_stays out Written h = tt
 started_stays out Unwritten h = tt
 started_stays out _ h = absurd h
 
--- a run of what does what a source means
-pub ends_as_meant : (runs : RunRelation) (a : Asked) (text assembly : List ℕ) (answer : Answer) →
-    IsAsMeant text assembly → EndsAssembled runs assembly a.heap a.stack a.steps answer → OrMemory (Unit {0}) (IsRun runs a text) answer
-ends_as_meant runs a text assembly (Finished end) b r = record { assembly = assembly; meant = b; ran = r }
-ends_as_meant runs a text assembly OutOfMemory b r = tt
-ends_as_meant runs a text assembly _ b r = absurd r
+-- a run of an assembly text that a source may have
+pub ends_by : (texts : TextRelation) (runs : RunRelation) (a : Asked) (text assembly : List ℕ) (answer : Answer) →
+    texts text assembly → EndsAssembled runs assembly a.heap a.stack a.steps answer → OrMemory (Unit {0}) (IsRunBy texts runs a text) answer
+ends_by texts runs a text assembly (Finished end) b r = record { assembly = assembly; meant = b; ran = r }
+ends_by texts runs a text assembly OutOfMemory b r = tt
+ends_by texts runs a text assembly _ b r = absurd r
 
 pub assembled_run : {I O : Type 0} (runs : RunRelation) (s : Streams I O) (assembly : List ℕ) (image : Image) (heap stack steps : ℕ) (answer : Answer) →
     assembled assembly ≡ Ok (image_of image) → IsRunOrMemory runs s image heap stack steps answer → EndsAssembled runs assembly heap stack steps answer
@@ -127,13 +125,13 @@ assembled_run runs s assembly image heap stack steps (Finished end) is run = rec
 assembled_run runs s assembly image heap stack steps OutOfMemory is run = tt
 assembled_run runs s assembly image heap stack steps _ is run = absurd run
 
--- a run of what does what a generated source means, and its summary
-pub sums_up_meant : {O : Type 0} (out : Stream O) (functions : ℕ) (text assembly : List ℕ) (image : Image)
-    (heap stack steps : ℕ) (answer : Answer) → IsAsMeant text assembly → assembled assembly ≡ Ok (image_of image) →
+-- a run of an assembly text that a generated source may have, and its summary
+pub sums_up_by : {O : Type 0} (texts : TextRelation) (out : Stream O) (functions : ℕ) (text assembly : List ℕ) (image : Image)
+    (heap stack steps : ℕ) (answer : Answer) → texts text assembly → assembled assembly ≡ Ok (image_of image) →
     OrMemory (Unit {0}) (SumsUpRun out functions (length text) image heap stack steps) answer →
-    OrMemory (Unit {0}) (SumsUpMeant out functions text heap stack steps) answer
-sums_up_meant out functions text assembly image heap stack steps OutOfMemory b is h = tt
-sums_up_meant out functions text assembly image heap stack steps _ b is h =
+    OrMemory (Unit {0}) (SumsUpBy texts out functions text heap stack steps) answer
+sums_up_by texts out functions text assembly image heap stack steps OutOfMemory b is h = tt
+sums_up_by texts out functions text assembly image heap stack steps _ b is h =
     record { end = h.end; ends = record { assembly = assembly; meant = b; ran = record { image = image; assembles = is; run = h.sums_up } } }
 
 -- what holds of an answer holds of it unless it is out of memory
@@ -182,11 +180,11 @@ takes_summary out functions source written ReadFault answer other h = h
 pub summary_some : (functions source written status : ℕ) → 0 < length (summary functions source written status)
 summary_some functions source written status = omega arith
 
-pub in_number : {O : Type 0} (out : Stream O) (functions : ℕ) (text other : List ℕ) (heap stack steps : ℕ) (answer : Answer) →
-    text ≡ other → OrMemory (Unit {0}) (SumsUpMeant out functions text heap stack steps) answer →
-    OrMemory (Unit {0}) (SumsUpMeant out functions other heap stack steps) answer
-in_number out functions text other heap stack steps answer is h =
-    let P : List ℕ → Type 0 = λ t. OrMemory (Unit {0}) (SumsUpMeant out functions t heap stack steps) answer in
+pub in_number : {O : Type 0} (texts : TextRelation) (out : Stream O) (functions : ℕ) (text other : List ℕ) (heap stack steps : ℕ) (answer : Answer) →
+    text ≡ other → OrMemory (Unit {0}) (SumsUpBy texts out functions text heap stack steps) answer →
+    OrMemory (Unit {0}) (SumsUpBy texts out functions other heap stack steps) answer
+in_number texts out functions text other heap stack steps answer is h =
+    let P : List ℕ → Type 0 = λ t. OrMemory (Unit {0}) (SumsUpBy texts out functions t heap stack steps) answer in
     subst P is h
 
 -- a run of an image that was assembled
@@ -222,17 +220,17 @@ pub by_format : {H I O : Type 0} (shelf : Shelved H) (s : Streams I O) (a : Aske
 by_format shelf s a OutOfMemory i o h = (i, o)
 by_format shelf s a answer i o h = (i, before_start s answer i o, h)
 
-pub by_gen : {H I O : Type 0} (shelf : Shelved H) (s : Streams I O) (a : Asked) (answer : Answer) →
-    shelf.after ≡ shelf.before → Stays s.input → StaysBeforeStart s.out answer → OrMemory (Unit {0}) (IsGenerated s.out a) answer →
-    OrMemory (Untouched s) (ByGen shelf s a) answer
-by_gen shelf s a OutOfMemory same i o h = (i, o)
-by_gen shelf s a answer same i o h = (same, i, before_start s answer i o, h)
+pub by_gen : {H I O : Type 0} (texts : TextRelation) (shelf : Shelved H) (s : Streams I O) (a : Asked) (answer : Answer) →
+    shelf.after ≡ shelf.before → Stays s.input → StaysBeforeStart s.out answer → OrMemory (Unit {0}) (IsGeneratedBy texts s.out a) answer →
+    OrMemory (Untouched s) (ByGen texts shelf s a) answer
+by_gen texts shelf s a OutOfMemory same i o h = (i, o)
+by_gen texts shelf s a answer same i o h = (same, i, before_start s answer i o, h)
 
-pub by_run : {H I O : Type 0} (runs : RunRelation) (shelf : Shelved H) (s : Streams I O) (a : Asked) (answer : Answer) →
-    UntouchedBeforeStart s answer → OrMemory (Unit {0}) (OfFile shelf a.file 262145 (IsRun runs a)) answer →
-    OrMemory (Untouched s) (ByRun runs shelf s a) answer
-by_run runs shelf s a OutOfMemory u h = u
-by_run runs shelf s a _ u h = (u, h)
+pub by_run : {H I O : Type 0} (texts : TextRelation) (runs : RunRelation) (shelf : Shelved H) (s : Streams I O) (a : Asked) (answer : Answer) →
+    UntouchedBeforeStart s answer → OrMemory (Unit {0}) (OfFile shelf a.file 262145 (IsRunBy texts runs a)) answer →
+    OrMemory (Untouched s) (ByRun texts runs shelf s a) answer
+by_run texts runs shelf s a OutOfMemory u h = u
+by_run texts runs shelf s a _ u h = (u, h)
 
 pub by_exec : {H I O : Type 0} (runs : RunRelation) (shelf : Shelved H) (s : Streams I O) (a : Asked) (answer : Answer) → UntouchedBeforeStart s answer →
     OrMemory (Unit {0}) (OfFile shelf a.file 67108865 (IsExecuted runs a)) answer → OrMemory (Untouched s) (ByExec runs shelf s a) answer
@@ -240,20 +238,20 @@ by_exec runs shelf s a OutOfMemory u h = u
 by_exec runs shelf s a _ u h = (u, h)
 
 -- the answer to a command is the answer to its words
-pub due_of_mode : {H I O : Type 0} (rule : SpillRule) (runs : Asked → RunRelation) (words : List (List ℕ)) (shelf : Shelved H) (s : Streams I O)
-    (a : Asked) (answer : Answer) → Ask words a → OrMemory (LeavesAlone a.mode shelf s) (InMode rule (runs a) a.mode shelf s a) answer →
-    IsDue rule runs words shelf s answer
-due_of_mode rule runs words shelf s a OutOfMemory ask h =
+pub due_of_mode : {H I O : Type 0} (texts : Texts) (runs : Asked → RunRelation) (words : List (List ℕ)) (shelf : Shelved H) (s : Streams I O)
+    (a : Asked) (answer : Answer) → Ask words a → OrMemory (LeavesAlone a.mode shelf s) (InModeBy texts (runs a) a.mode shelf s a) answer →
+    IsDueBy texts runs words shelf s answer
+due_of_mode texts runs words shelf s a OutOfMemory ask h =
     answered.no_memory refl (λ b other gen. h.0 (ap (λ (x : Asked). x.mode) (asked_once words a b ask other) ∙ gen)) h.1
-due_of_mode rule runs words shelf s a _ ask h = asked a ask h
+due_of_mode texts runs words shelf s a _ ask h = asked a ask h
 
 -- whatever the answer, `gen` leaves the shelf as it was
-pub stays_in_gen : {H I O : Type 0} (rule : SpillRule) (runs : Asked → RunRelation) (words : List (List ℕ)) (shelf : Shelved H) (s : Streams I O)
-    (answer : Answer) → IsDue rule runs words shelf s answer → StaysInGen words shelf
-stays_in_gen rule runs words shelf s answer (usage is fault same u) = λ a ask gen. same
-stays_in_gen rule runs words shelf s answer (answered.no_memory is kept u) = kept
-stays_in_gen rule runs words shelf s answer (asked a ask h) = λ b other gen.
-    let P : Mode → Type 0 = λ m. InMode rule (runs a) m shelf s a answer in
+pub stays_in_gen : {H I O : Type 0} (texts : Texts) (runs : Asked → RunRelation) (words : List (List ℕ)) (shelf : Shelved H) (s : Streams I O)
+    (answer : Answer) → IsDueBy texts runs words shelf s answer → StaysInGen words shelf
+stays_in_gen texts runs words shelf s answer (usage is fault same u) = λ a ask gen. same
+stays_in_gen texts runs words shelf s answer (answered.no_memory is kept u) = kept
+stays_in_gen texts runs words shelf s answer (asked a ask h) = λ b other gen.
+    let P : Mode → Type 0 = λ m. InModeBy texts (runs a) m shelf s a answer in
     (subst P (ap (λ (x : Asked). x.mode) (asked_once words a b ask other) ∙ gen) h).0
 
 -- before that nothing was touched
@@ -263,49 +261,49 @@ untouched s Written b u = absurd b
 untouched s Unwritten b u = absurd b
 untouched s _ b u = u
 
-left_in : {H I O : Type 0} (rule : SpillRule) (runs : RunRelation) (mode : Mode) (shelf : Shelved H) (s : Streams I O) (a : Asked) (answer : Answer) →
-    IsBeforeStart answer → InMode rule runs mode shelf s a answer → Untouched s
-left_in rule runs Check shelf s a answer b h = h.0
-left_in rule runs Build shelf s a answer b h = untouched s answer b h.1
-left_in rule runs Run shelf s a answer b h = untouched s answer b h.0
-left_in rule runs Exec shelf s a answer b h = untouched s answer b h.0
-left_in rule runs Alloc shelf s a answer b h = untouched s answer b h.1
-left_in rule runs Gen shelf s a answer b h = untouched s answer b h.2
-left_in rule runs Format shelf s a answer b h = untouched s answer b h.1
+left_in : {H I O : Type 0} (texts : Texts) (runs : RunRelation) (mode : Mode) (shelf : Shelved H) (s : Streams I O) (a : Asked) (answer : Answer) →
+    IsBeforeStart answer → InModeBy texts runs mode shelf s a answer → Untouched s
+left_in texts runs Check shelf s a answer b h = h.0
+left_in texts runs Build shelf s a answer b h = untouched s answer b h.1
+left_in texts runs Run shelf s a answer b h = untouched s answer b h.0
+left_in texts runs Exec shelf s a answer b h = untouched s answer b h.0
+left_in texts runs Alloc shelf s a answer b h = untouched s answer b h.1
+left_in texts runs Gen shelf s a answer b h = untouched s answer b h.2
+left_in texts runs Format shelf s a answer b h = untouched s answer b h.1
 
-pub left_alone : {H I O : Type 0} (rule : SpillRule) (runs : Asked → RunRelation) (words : List (List ℕ)) (shelf : Shelved H) (s : Streams I O)
-    (answer : Answer) → IsBeforeStart answer → IsDue rule runs words shelf s answer → Untouched s
-left_alone rule runs words shelf s answer b (usage is fault same u) = u
-left_alone rule runs words shelf s answer b (answered.no_memory is kept u) = u
-left_alone rule runs words shelf s answer b (asked a ask h) = left_in rule (runs a) a.mode shelf s a answer b h
+pub left_alone : {H I O : Type 0} (texts : Texts) (runs : Asked → RunRelation) (words : List (List ℕ)) (shelf : Shelved H) (s : Streams I O)
+    (answer : Answer) → IsBeforeStart answer → IsDueBy texts runs words shelf s answer → Untouched s
+left_alone texts runs words shelf s answer b (usage is fault same u) = u
+left_alone texts runs words shelf s answer b (answered.no_memory is kept u) = u
+left_alone texts runs words shelf s answer b (asked a ask h) = left_in texts (runs a) a.mode shelf s a answer b h
 
 -- the answer that was told
-pub answers_of : {H I O E : Type 0} (c : Call H I O E) (status : ℕ) (reports : List ℕ) (answer : Answer) →
-    IsDue c.rule (told_runs c reports) c.words c.shelf c.streams answer → NoneBeforeEnd reports answer → NoneUnasked c.words reports →
-    IsReported c.err reports answer status → Answers c status
-answers_of c status reports answer due before_end unasked (itself told) =
+pub answers_of : {H I O E : Type 0} (texts : Texts) (c : Call H I O E) (status : ℕ) (reports : List ℕ) (answer : Answer) →
+    IsDueBy texts (told_runs c reports) c.words c.shelf c.streams answer → NoneBeforeEnd reports answer → NoneUnasked c.words reports →
+    IsReported c.err reports answer status → AnswersBy texts c status
+answers_of texts c status reports answer due before_end unasked (itself told) =
     record { answer = answer; reports = reports; due = due; before_end = before_end; unasked = unasked; told = told }
-answers_of c status reports answer due before_end unasked (no_memory before told) =
+answers_of texts c status reports answer due before_end unasked (no_memory before told) =
     record {
       answer = OutOfMemory;
       reports = [];
-      due = answered.no_memory refl (stays_in_gen c.rule (told_runs c reports) c.words c.shelf c.streams answer due)
-          (left_alone c.rule (told_runs c reports) c.words c.shelf c.streams answer before due);
+      due = answered.no_memory refl (stays_in_gen texts (told_runs c reports) c.words c.shelf c.streams answer due)
+          (left_alone texts (told_runs c reports) c.words c.shelf c.streams answer before due);
       before_end = refl;
       unasked = λ a ask off. refl;
       told = told;
     }
 
 -- the answer in the mode of a command
-pub in_mode : {H I O : Type 0} (rule : SpillRule) (runs : RunRelation) (m : Mode) (shelf : Shelved H) (s : Streams I O) (a : Asked) (answer : Answer) →
-    (m ≡ Gen → shelf.after ≡ shelf.before) → a.mode ≡ m → OrMemory (Untouched s) (InMode rule runs m shelf s a) answer →
-    OrMemory (LeavesAlone a.mode shelf s) (InMode rule runs a.mode shelf s a) answer
-in_mode rule runs m shelf s a answer kept is h =
-    let P : Mode → Type 0 = λ x. OrMemory (LeavesAlone x shelf s) (InMode rule runs x shelf s a) answer in
+pub in_mode : {H I O : Type 0} (texts : Texts) (runs : RunRelation) (m : Mode) (shelf : Shelved H) (s : Streams I O) (a : Asked) (answer : Answer) →
+    (m ≡ Gen → shelf.after ≡ shelf.before) → a.mode ≡ m → OrMemory (Untouched s) (InModeBy texts runs m shelf s a) answer →
+    OrMemory (LeavesAlone a.mode shelf s) (InModeBy texts runs a.mode shelf s a) answer
+in_mode texts runs m shelf s a answer kept is h =
+    let P : Mode → Type 0 = λ x. OrMemory (LeavesAlone x shelf s) (InModeBy texts runs x shelf s a) answer in
     subst P (sym is) (with_shelf answer h)
   where
-    with_shelf : (answer : Answer) → OrMemory (Untouched s) (InMode rule runs m shelf s a) answer →
-        OrMemory (LeavesAlone m shelf s) (InMode rule runs m shelf s a) answer
+    with_shelf : (answer : Answer) → OrMemory (Untouched s) (InModeBy texts runs m shelf s a) answer →
+        OrMemory (LeavesAlone m shelf s) (InModeBy texts runs m shelf s a) answer
     with_shelf OutOfMemory h = (kept, h)
     with_shelf _ h = h
 

@@ -17,6 +17,7 @@ use Rattle.tg_driver.specs.declared.answers.Answer.TheVariants.{Faulty, Written,
 use Rattle.tg_driver.specs.Calls.{Stream, stream_of, streams_of, Stays, HasFailed, Streams, Shelved, IsUnread, Call, Takes, nothing, all, part}
 use Rattle.tg_driver.specs.OfFiles.{OfFile, unreadable, read}
 use Rattle.tg_correct.specs.Sources.{IsSource}
+use Rattle.tg_correct.specs.Assemblies.{IsAsMeant}
 use Rattle.tg_driver.specs.Writing.{TextRelation, IsWritten}
 use Rattle.tg_driver.specs.GenMode.{no_input, summary, TakesSummary, IsGenerated}
 use Rattle.tg_driver.specs.Endings.{end_status}
@@ -156,7 +157,7 @@ settled : {H I O E : Type 0} (c : Call H I O E) (a : Asked) (file : List ℕ) (m
 settled c a file Check reports answer good reads h = to_text c.shelf a.file 262145 _ file answer (good.there (reads tt)) good.readable h.1
 settled c a file Build reports answer good reads h = of_written c.streams.out _ _ answer good.all_written (meant_source _)
     (to_text c.shelf a.file 262145 _ file answer (good.there (reads tt)) good.readable h.2)
-settled c a file Run reports answer good reads h = run_more (told_runs c reports a) (settled_runs c reports a) a _ answer
+settled c a file Run reports answer good reads h = run_more IsAsMeant (told_runs c reports a) (settled_runs c reports a) a _ answer
     (λ image end is. ends_and_tells c.streams (if_watched a.flags c.reporters) reports image a.heap a.stack a.steps end good.all_read good.all_written)
     (to_text c.shelf a.file 262145 _ file answer (good.there (reads tt)) good.readable h.1)
 settled c a file Exec reports answer good reads h = exec_more (told_runs c reports a) (settled_runs c reports a) a _ answer

@@ -17,7 +17,7 @@ use Rattle.tg_driver.specs.Watching.{if_watched, run_in}
 use Rattle.tg_driver.specs.Writing.{IsWritten}
 use Rattle.tg_driver.specs.RunMode.{IsRun}
 use Rattle.tg_driver.specs.GenMode.{IsGenerated}
-use Rattle.tg_driver.specs.Modes.{InMode, most_of}
+use Rattle.tg_driver.specs.Modes.{InMode, texts_meant, most_of}
 use Rattle.tg_driver.specs.Answered.{told_runs, Answers}
 use Rattle.tg_driver.specs.laws.Laws.{ReadsFile, IsGood, Gives}
 use Rattle.tg_driver.specs.laws.MeantCommands.{BuildsByMeaning, RunsByMeaning, GeneratesByMeaning, ByMeaning, DoesAsMeant}
@@ -115,7 +115,7 @@ module _ (ends : EndedIsMeant) (goes_on : RunningIsMeant) where
           DoesAsMeant c status a (take (most_of a.mode) file) ⊎ Gives c status [] OutOfMemory
       by (inr wanting) = inr wanting
       by (inl told) =
-          let in_mode = in_mode_more c.rule (told_runs c h.reports a) (HasRun c.streams) a.mode c.shelf c.streams a h.answer
+          let in_mode = in_mode_more (texts_meant c.rule) (told_runs c h.reports a) (HasRun c.streams) a.mode c.shelf c.streams a h.answer
           (λ image end is. run_in c.streams (if_watched a.flags c.reporters) h.reports image a.heap a.stack a.steps end) told in
           inl (record {
             answer = h.answer;

@@ -35,7 +35,7 @@ use Rattle.tg_driver.specs.RunMode.{IsRun}
 use Rattle.tg_driver.specs.ExecMode.{IsExecuted}
 use Rattle.tg_driver.specs.GenMode.{no_input, summary, IsGenerated}
 use Rattle.tg_driver.specs.FormatMode.{Formats, IsFormatted}
-use Rattle.tg_driver.specs.Modes.{InMode, ReadsNoInput, most_of}
+use Rattle.tg_driver.specs.Modes.{InMode, texts_meant, ReadsNoInput, most_of}
 use Rattle.tg_driver.specs.laws.Laws.{ReadsFile}
 use Rattle.tg_driver.specs.Telling.{IsTold}
 use Rattle.tg_driver.specs.Answered.{IsDue, told_runs, usage, no_memory, asked, Answers}
@@ -411,7 +411,7 @@ module _ {H I O E : Type 0} (c : Call H I O E) (answer : Answer) where
       let P : Asked → Type 0 = λ x. ReadsNoInput x.mode → Stays c.streams.input in
       record {
         input = subst P (asked_once c.words a b ask other) (λ none. input_stays c.rule a.mode c.shelf c.streams a answer none h);
-        shelf = stays_in_gen c.rule (λ _. HasRun c.streams) c.words c.shelf c.streams answer (asked a ask h) b other;
+        shelf = stays_in_gen (texts_meant c.rule) (λ _. HasRun c.streams) c.words c.shelf c.streams answer (asked a ask h) b other;
       }
 
   unreadable_due : IsDue c.rule (λ _. HasRun c.streams) c.words c.shelf c.streams answer → answer ≡ Unreadable → IsFileUnread c
@@ -440,11 +440,11 @@ module _ {H I O E : Type 0} (c : Call H I O E) (answer : Answer) where
 
 pub safe : {H I O E : Type 0} (c : Call H I O E) (status : ℕ) (given : Answers c status) → IsSafe c status given.reports given.answer
 safe c status given =
-    let due = due_more c.rule (told_runs c given.reports) (λ _. HasRun c.streams) c.words c.shelf c.streams given.answer
+    let due = due_more (texts_meant c.rule) (told_runs c given.reports) (λ _. HasRun c.streams) c.words c.shelf c.streams given.answer
     (λ a image end is. run_in c.streams (if_watched a.flags c.reporters) given.reports image a.heap a.stack a.steps end) given.due in
     let caused = caused_due c given.answer due in
     record {
-      refused = λ before. left_alone c.rule (λ _. HasRun c.streams) c.words c.shelf c.streams given.answer before due;
+      refused = λ before. left_alone (texts_meant c.rule) (λ _. HasRun c.streams) c.words c.shelf c.streams given.answer before due;
       unread = unread_due c given.answer due;
       unreadable = unreadable_due c given.answer due;
       front = front_due c given.answer due;

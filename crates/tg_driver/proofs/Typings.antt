@@ -18,9 +18,7 @@ use Rattle.tg_literal_bounds.specs.laws.Laws.{StaticsFitSegment}
 use Rattle.tg_compile.specs.Compiling.{LiteralsFit, findings_of, Compiles, HasImage}
 use Rattle.tg_driver.specs.laws.Meanings.{SourcesAreNeverStuck}
 use Rattle.tg_correct.specs.Sources.{IsSource, IsSourceOf}
-use Rattle.tg_correct.specs.Assemblies.{IsAsMeant}
-use Rattle.tg_compile_proof.specs.Builds.{CompilesTo}
-use Rattle.tg_compile_proof.specs.laws.TextLaws.{BuildIsCorrect}
+use Rattle.tg_compile_proof.specs.Builds.{CompilesTo, Builds}
 use Rattle.tg_compile_proof.proofs.Building as built
 use Rattle.tg_driver.specs.AllocMode.{Lists}
 use Rattle.tg_driver.specs.declared.writing.Wanted.{Wanted}
@@ -72,20 +70,20 @@ compiles_to rule text names program sorted allocations assembly t h compiles =
       compiles = compiles;
     }
 
--- so that does what the source means, the allocations are listed, and the assembly text is assembled without a fault
-pub as_meant : BuildIsCorrect → (rule : SpillRule) (text : List ℕ) (allocations : List Allocation) (assembly : List ℕ) →
-    CompilesTo rule text allocations assembly → IsAsMeant text assembly
-as_meant meant rule text allocations assembly h = meant rule text assembly (record { allocations = allocations; compiles = h })
+-- so that is built, the allocations are listed, and the assembly text is assembled without a fault
+pub builds : (rule : SpillRule) (text : List ℕ) (allocations : List Allocation) (assembly : List ℕ) →
+    CompilesTo rule text allocations assembly → Builds rule text assembly
+builds rule text allocations assembly h = record { allocations = allocations; compiles = h }
 
 pub lists : (rule : SpillRule) (text : List ℕ) (allocations : List Allocation) (assembly : List ℕ) →
     CompilesTo rule text allocations assembly → Lists rule text (listed allocations)
 lists rule text allocations assembly h = record { allocations = allocations; assembly = assembly; compiles = h; listing_is = refl }
 
 -- and what is wanted of a source is a text that may be written of it
-pub writes_wanted : BuildIsCorrect → (w : Wanted) (rule : SpillRule) (text : List ℕ) (allocations : List Allocation) (assembly : List ℕ) →
+pub writes_wanted : (w : Wanted) (rule : SpillRule) (text : List ℕ) (allocations : List Allocation) (assembly : List ℕ) →
     CompilesTo rule text allocations assembly → writes_of w rule text (wanted_text w allocations assembly)
-writes_wanted meant Assembly rule text allocations assembly h = as_meant meant rule text allocations assembly h
-writes_wanted meant Allocations rule text allocations assembly h = lists rule text allocations assembly h
+writes_wanted Assembly rule text allocations assembly h = builds rule text allocations assembly h
+writes_wanted Allocations rule text allocations assembly h = lists rule text allocations assembly h
 
 pub has_image : (rule : SpillRule) (text : List ℕ) (allocations : List Allocation) (assembly : List ℕ) →
     CompilesTo rule text allocations assembly → HasImage assembly

@@ -17,14 +17,18 @@ use Rattle.tg_command.specs.declared.modes.Mode.TheVariants.{Check, Build, Run, 
 use Rattle.tg_command.specs.Commands.{Asked, Ask}
 use Rattle.tg_command.proofs.CommandLemmas.{asked_once}
 use Rattle.tg_driver.specs.declared.answers.Answer.{Answer}
-use Rattle.tg_driver.specs.declared.answers.Answer.TheVariants.{Usage, Faulty, BadLine, TooLong, OutOfMemory, Finished}
-use Rattle.tg_driver.specs.Calls.{stream_of, Streams, streams_of, Shelved, Call, Takes, part}
+use Rattle.tg_driver.specs.declared.answers.Answer.TheVariants.{Usage, Faulty, BadLine, TooLong, Written, Unwritten, OutOfMemory, Finished}
+use Rattle.tg_driver.specs.Calls.{Stream, stream_of, Streams, streams_of, Shelved, Call, Takes, part}
 use Rattle.tg_driver.specs.OfFiles.{OfFile, unreadable, read, HasStarted}
 use Rattle.tg_driver.specs.Runs.{RunRelation}
-use Rattle.tg_driver.specs.RunMode.{IsRun}
+use Rattle.tg_driver.specs.RunMode.{IsRunBy}
+use Rattle.tg_driver.specs.GenMode.{IsGeneratedBy}
+use Rattle.tg_driver.specs.Writing.{TextRelation, Texts, IsWritten}
+use Rattle.tg_driver.specs.Compiled.{texts_compiled}
+use Rattle.tg_compile_proof.specs.laws.TextLaws.{BuildIsCorrect}
 use Rattle.tg_driver.specs.ExecMode.{IsExecuted}
-use Rattle.tg_driver.specs.Modes.{InMode, ReadsNoInput}
-use Rattle.tg_driver.specs.Answered.{IsDue, NoneUnasked, told_runs, usage, no_memory, asked, Answers}
+use Rattle.tg_driver.specs.Modes.{InModeBy, texts_meant, ReadsNoInput}
+use Rattle.tg_driver.specs.Answered.{IsDueBy, NoneUnasked, told_runs, usage, no_memory, asked, AnswersBy}
 use Rattle.tg_driver.specs.Telling.{IsReported}
 use Rattle.tg_driver.specs.Watching.{HasToldRun, HasWatchedRun, NoneBeforeEnd, Tell, TellAfter, if_watched}
 use Rattle.tg_driver.proofs.AnswerLemmas.{answers_of, took_all}
@@ -34,15 +38,15 @@ abbrev pub SaidMore : (runs others : RunRelation) → Asked → Answer → Type 
 SaidMore runs others a answer = (image : Image) (end : RunEnd) → answer ≡ Finished end →
     runs image a.heap a.stack a.steps end → others image a.heap a.stack a.steps end
 
-pub run_more : (runs others : RunRelation) (a : Asked) (text : List ℕ) (answer : Answer) → SaidMore runs others a answer →
-    IsRun runs a text answer → IsRun others a text answer
-run_more runs others a text (Faulty f) more h = h
-run_more runs others a text (Finished end) more h = record {
+pub run_more : (texts : TextRelation) (runs others : RunRelation) (a : Asked) (text : List ℕ) (answer : Answer) → SaidMore runs others a answer →
+    IsRunBy texts runs a text answer → IsRunBy texts others a text answer
+run_more texts runs others a text (Faulty f) more h = h
+run_more texts runs others a text (Finished end) more h = record {
   assembly = h.assembly;
   meant = h.meant;
   ran = record { image = h.ran.image; assembles = h.ran.assembles; run = more h.ran.image end refl h.ran.run };
 }
-run_more runs others a text _ more h = absurd h
+run_more texts runs others a text _ more h = absurd h
 
 pub exec_more : (runs others : RunRelation) (a : Asked) (text : List ℕ) (answer : Answer) → SaidMore runs others a answer →
     IsExecuted runs a text answer → IsExecuted others a text answer
@@ -57,25 +61,25 @@ file_more : {H : Type 0} (shelf : Shelved H) (name : List ℕ) (most : ℕ) (due
 file_more shelf name most due others answer more (unreadable is u) = unreadable is u
 file_more shelf name most due others answer more (read text front h) = read text front (more text h)
 
-pub in_mode_more : {H I O : Type 0} (rule : SpillRule) (runs others : RunRelation) (mode : Mode) (shelf : Shelved H) (s : Streams I O) (a : Asked)
-    (answer : Answer) → SaidMore runs others a answer → InMode rule runs mode shelf s a answer → InMode rule others mode shelf s a answer
-in_mode_more rule runs others Check shelf s a answer more h = h
-in_mode_more rule runs others Build shelf s a answer more h = h
-in_mode_more rule runs others Run shelf s a answer more h =
-    (h.0, file_more shelf a.file 262145 _ _ answer (λ text. run_more runs others a text answer more) h.1)
-in_mode_more rule runs others Exec shelf s a answer more h =
+pub in_mode_more : {H I O : Type 0} (texts : Texts) (runs others : RunRelation) (mode : Mode) (shelf : Shelved H) (s : Streams I O) (a : Asked)
+    (answer : Answer) → SaidMore runs others a answer → InModeBy texts runs mode shelf s a answer → InModeBy texts others mode shelf s a answer
+in_mode_more texts runs others Check shelf s a answer more h = h
+in_mode_more texts runs others Build shelf s a answer more h = h
+in_mode_more texts runs others Run shelf s a answer more h =
+    (h.0, file_more shelf a.file 262145 _ _ answer (λ text. run_more texts.assembly runs others a text answer more) h.1)
+in_mode_more texts runs others Exec shelf s a answer more h =
     (h.0, file_more shelf a.file 67108865 _ _ answer (λ text. exec_more runs others a text answer more) h.1)
-in_mode_more rule runs others Alloc shelf s a answer more h = h
-in_mode_more rule runs others Gen shelf s a answer more h = h
-in_mode_more rule runs others Format shelf s a answer more h = h
+in_mode_more texts runs others Alloc shelf s a answer more h = h
+in_mode_more texts runs others Gen shelf s a answer more h = h
+in_mode_more texts runs others Format shelf s a answer more h = h
 
-pub due_more : {H I O : Type 0} (rule : SpillRule) (runs others : Asked → RunRelation) (words : List (List ℕ)) (shelf : Shelved H) (s : Streams I O)
-    (answer : Answer) → ((a : Asked) → SaidMore (runs a) (others a) a answer) → IsDue rule runs words shelf s answer →
-    IsDue rule others words shelf s answer
-due_more rule runs others words shelf s answer more (usage is fault same u) = usage is fault same u
-due_more rule runs others words shelf s answer more (no_memory is kept u) = no_memory is kept u
-due_more rule runs others words shelf s answer more (asked a ask h) =
-    asked a ask (in_mode_more rule (runs a) (others a) a.mode shelf s a answer (more a) h)
+pub due_more : {H I O : Type 0} (texts : Texts) (runs others : Asked → RunRelation) (words : List (List ℕ)) (shelf : Shelved H) (s : Streams I O)
+    (answer : Answer) → ((a : Asked) → SaidMore (runs a) (others a) a answer) → IsDueBy texts runs words shelf s answer →
+    IsDueBy texts others words shelf s answer
+due_more texts runs others words shelf s answer more (usage is fault same u) = usage is fault same u
+due_more texts runs others words shelf s answer more (no_memory is kept u) = no_memory is kept u
+due_more texts runs others words shelf s answer more (asked a ask h) =
+    asked a ask (in_mode_more texts (runs a) (others a) a.mode shelf s a answer (more a) h)
 
 -- no reports are told where no run has ended
 none_before : (answer : Answer) → NoneBeforeEnd [] answer
@@ -95,9 +99,9 @@ none_watched flags all off = ap (λ (b : Bool). if b then all else []) off
 
 module _ {W I O : Type 0} (stands : W → List Seen → ℕ → Type 0) (report : W → Report) (new : List W) (s : Streams I O) where
   -- of a run in a mode: the reports, and who tells them
-  record Told {H : Type 0} (rule : SpillRule) (mode : Mode) (shelf : Shelved H) (a : Asked) (end : RunEnd) (old : List W) : Type 0 where
+  record Told {H : Type 0} (texts : Texts) (mode : Mode) (shelf : Shelved H) (a : Asked) (end : RunEnd) (old : List W) : Type 0 where
     reports : List ℕ
-    in_mode : InMode rule (HasToldRun s (map report old) reports) mode shelf s a (Finished end)
+    in_mode : InModeBy texts (HasToldRun s (map report old) reports) mode shelf s a (Finished end)
     tell : Tell stands report new reports
     none : old ≡ [] → reports ≡ []
 
@@ -126,10 +130,10 @@ module _ {W I O : Type 0} (stands : W → List Seen → ℕ → Type 0) (report 
     reports_are = ap (λ l. reports_text l h.seen (length image.code)) (sym h.have_seen.same);
   }
 
-  told_run : {H : Type 0} (rule : SpillRule) (shelf : Shelved H) (a : Asked) (end : RunEnd) (old : List W) →
-      OfFile shelf a.file 262145 (IsRun (HasWatchedRun stands report old new s) a) (Finished end) → Told rule Run shelf a end old
-  told_run rule shelf a end old (unreadable is u) = absurd (cc)
-  told_run rule shelf a end old (read text front h) =
+  told_run : {H : Type 0} (texts : Texts) (shelf : Shelved H) (a : Asked) (end : RunEnd) (old : List W) →
+      OfFile shelf a.file 262145 (IsRunBy texts.assembly (HasWatchedRun stands report old new s) a) (Finished end) → Told texts Run shelf a end old
+  told_run texts shelf a end old (unreadable is u) = absurd (cc)
+  told_run texts shelf a end old (read text front h) =
       let image = h.ran.image in
       let r = h.ran.run in
       record {
@@ -146,10 +150,10 @@ module _ {W I O : Type 0} (stands : W → List Seen → ℕ → Type 0) (report 
         none = λ is. ap (λ l. reports_text (map report l) r.seen (length image.code)) is;
       }
 
-  told_exec : {H : Type 0} (rule : SpillRule) (shelf : Shelved H) (a : Asked) (end : RunEnd) (old : List W) →
-      OfFile shelf a.file 67108865 (IsExecuted (HasWatchedRun stands report old new s) a) (Finished end) → Told rule Exec shelf a end old
-  told_exec rule shelf a end old (unreadable is u) = absurd (cc)
-  told_exec rule shelf a end old (read text front h) =
+  told_exec : {H : Type 0} (texts : Texts) (shelf : Shelved H) (a : Asked) (end : RunEnd) (old : List W) →
+      OfFile shelf a.file 67108865 (IsExecuted (HasWatchedRun stands report old new s) a) (Finished end) → Told texts Exec shelf a end old
+  told_exec texts shelf a end old (unreadable is u) = absurd (cc)
+  told_exec texts shelf a end old (read text front h) =
       let run = told_of old h.image a.heap a.stack a.steps end h.run in
       record {
         reports = reports_text (map report old) h.run.seen (length h.image.code);
@@ -158,39 +162,39 @@ module _ {W I O : Type 0} (stands : W → List Seen → ℕ → Type 0) (report 
         none = λ is. ap (λ l. reports_text (map report l) h.run.seen (length h.image.code)) is;
       }
 
-  told_in : {H : Type 0} (rule : SpillRule) (mode : Mode) (shelf : Shelved H) (a : Asked) (end : RunEnd) (old : List W) →
-      (ReadsNoInput mode → new ≡ []) → InMode rule (HasWatchedRun stands report old new s) mode shelf s a (Finished end) →
-      Told rule mode shelf a end old
-  told_in rule Check shelf a end old others h = record { reports = []; in_mode = h; tell = tell_none (others tt); none = λ _. refl }
-  told_in rule Build shelf a end old others h = record { reports = []; in_mode = h; tell = tell_none (others tt); none = λ _. refl }
-  told_in rule Run shelf a end old others h = told_run rule shelf a end old h.1
-  told_in rule Exec shelf a end old others h = told_exec rule shelf a end old h.1
-  told_in rule Alloc shelf a end old others h = record { reports = []; in_mode = h; tell = tell_none (others tt); none = λ _. refl }
-  told_in rule Gen shelf a end old others h = record { reports = []; in_mode = h; tell = tell_none (others tt); none = λ _. refl }
-  told_in rule Format shelf a end old others h = record { reports = []; in_mode = h; tell = tell_none (others tt); none = λ _. refl }
+  told_in : {H : Type 0} (texts : Texts) (mode : Mode) (shelf : Shelved H) (a : Asked) (end : RunEnd) (old : List W) →
+      (ReadsNoInput mode → new ≡ []) → InModeBy texts (HasWatchedRun stands report old new s) mode shelf s a (Finished end) →
+      Told texts mode shelf a end old
+  told_in texts Check shelf a end old others h = record { reports = []; in_mode = h; tell = tell_none (others tt); none = λ _. refl }
+  told_in texts Build shelf a end old others h = record { reports = []; in_mode = h; tell = tell_none (others tt); none = λ _. refl }
+  told_in texts Run shelf a end old others h = told_run texts shelf a end old h.1
+  told_in texts Exec shelf a end old others h = told_exec texts shelf a end old h.1
+  told_in texts Alloc shelf a end old others h = record { reports = []; in_mode = h; tell = tell_none (others tt); none = λ _. refl }
+  told_in texts Gen shelf a end old others h = record { reports = []; in_mode = h; tell = tell_none (others tt); none = λ _. refl }
+  told_in texts Format shelf a end old others h = record { reports = []; in_mode = h; tell = tell_none (others tt); none = λ _. refl }
 
   -- of an answer: the reports, and who tells them
-  pub record ToldDue {H : Type 0} (rule : SpillRule) (reporters : List Report) (words : List (List ℕ)) (shelf : Shelved H)
+  pub record ToldDue {H : Type 0} (texts : Texts) (reporters : List Report) (words : List (List ℕ)) (shelf : Shelved H)
       (answer : Answer) : Type 0 where
     pub reports : List ℕ
-    pub due : IsDue rule (λ a. HasToldRun s (if_watched a.flags reporters) reports) words shelf s answer
+    pub due : IsDueBy texts (λ a. HasToldRun s (if_watched a.flags reporters) reports) words shelf s answer
     pub before_end : NoneBeforeEnd reports answer
     pub unasked : NoneUnasked words reports
     pub tell : TellAfter stands report new answer reports
 
-  module _ {H : Type 0} (rule : SpillRule) (old : List W) (words : List (List ℕ)) (shelf : Shelved H) where
+  module _ {H : Type 0} (texts : Texts) (old : List W) (words : List (List ℕ)) (shelf : Shelved H) where
     -- nothing is told of an answer that is no end of a run
     quiet : (answer : Answer) → TellAfter stands report new answer [] →
-        IsDue rule (λ a. HasToldRun s (if_watched a.flags (map report old)) []) words shelf s answer →
-        ToldDue rule (map report old) words shelf answer
+        IsDueBy texts (λ a. HasToldRun s (if_watched a.flags (map report old)) []) words shelf s answer →
+        ToldDue texts (map report old) words shelf answer
     quiet answer tell due = record { reports = []; due = due; before_end = none_before answer; unasked = λ a ask off. refl; tell = tell }
 
     ended : (end : RunEnd) (a : Asked) → Ask words a → (ReadsNoInput a.mode → new ≡ []) →
-        InMode rule (HasWatchedRun stands report (if_watched a.flags old) new s) a.mode shelf s a (Finished end) →
-        ToldDue rule (map report old) words shelf (Finished end)
+        InModeBy texts (HasWatchedRun stands report (if_watched a.flags old) new s) a.mode shelf s a (Finished end) →
+        ToldDue texts (map report old) words shelf (Finished end)
     ended end a ask others h =
-        let t = told_in rule a.mode shelf a end (if_watched a.flags old) others h in
-        let P : List Report → Type 0 = λ l. InMode rule (HasToldRun s l t.reports) a.mode shelf s a (Finished end) in
+        let t = told_in texts a.mode shelf a end (if_watched a.flags old) others h in
+        let P : List Report → Type 0 = λ l. InModeBy texts (HasToldRun s l t.reports) a.mode shelf s a (Finished end) in
         record {
           reports = t.reports;
           due = asked a ask (subst P (map_watched report a.flags old) t.in_mode);
@@ -202,30 +206,78 @@ module _ {W I O : Type 0} (stands : W → List Seen → ℕ → Type 0) (report 
         }
 
     by_answer : (answer : Answer) (a : Asked) → Ask words a → (HasStarted answer → ReadsNoInput a.mode → new ≡ []) →
-        InMode rule (HasWatchedRun stands report (if_watched a.flags old) new s) a.mode shelf s a answer →
-        ToldDue rule (map report old) words shelf answer
+        InModeBy texts (HasWatchedRun stands report (if_watched a.flags old) new s) a.mode shelf s a answer →
+        ToldDue texts (map report old) words shelf answer
     by_answer (Finished end) a ask others h = ended end a ask (others tt) h
     by_answer answer a ask others h =
-        quiet answer refl (asked a ask (in_mode_more rule _ _ a.mode shelf s a answer (λ image end is. absurd (cc)) h))
+        quiet answer refl (asked a ask (in_mode_more texts _ _ a.mode shelf s a answer (λ image end is. absurd (cc)) h))
 
     pub told_due : (answer : Answer) → (HasStarted answer → (a : Asked) → Ask words a → ReadsNoInput a.mode → new ≡ []) →
-        IsDue rule (λ a. HasWatchedRun stands report (if_watched a.flags old) new s) words shelf s answer →
-        ToldDue rule (map report old) words shelf answer
+        IsDueBy texts (λ a. HasWatchedRun stands report (if_watched a.flags old) new s) words shelf s answer →
+        ToldDue texts (map report old) words shelf answer
     told_due answer others (usage is fault same u) =
-        let P : Answer → Type 0 = λ x. ToldDue rule (map report old) words shelf x in
+        let P : Answer → Type 0 = λ x. ToldDue texts (map report old) words shelf x in
         subst P (sym is) (quiet Usage refl (usage refl fault same u))
     told_due answer others (no_memory is kept u) =
-        let P : Answer → Type 0 = λ x. ToldDue rule (map report old) words shelf x in
+        let P : Answer → Type 0 = λ x. ToldDue texts (map report old) words shelf x in
         subst P (sym is) (quiet OutOfMemory refl (no_memory refl kept u))
     told_due answer others (asked a ask h) = by_answer answer a ask (λ started. others started a ask) h
 
 -- and so by the rule of the policy in the box
-pub answers_by : {H I O E : Type 0} (rule : SpillRule) (c : Call H I O E) (status : ℕ) (reports : List ℕ) (answer : Answer) → rule ≡ c.rule →
-    IsDue rule (told_runs c reports) c.words c.shelf c.streams answer → NoneBeforeEnd reports answer → NoneUnasked c.words reports →
-    IsReported c.err reports answer status → Answers c status
-answers_by rule c status reports answer is due before_end unasked told =
-    let P : SpillRule → Type 0 = λ r. IsDue r (told_runs c reports) c.words c.shelf c.streams answer in
-    answers_of c status reports answer (subst P is due) before_end unasked told
+pub answers_by : {H I O E : Type 0} (by : SpillRule → Texts) (rule : SpillRule) (c : Call H I O E) (status : ℕ) (reports : List ℕ) (answer : Answer) →
+    rule ≡ c.rule → IsDueBy (by rule) (told_runs c reports) c.words c.shelf c.streams answer → NoneBeforeEnd reports answer →
+    NoneUnasked c.words reports → IsReported c.err reports answer status → AnswersBy (by c.rule) c status
+answers_by by rule c status reports answer is due before_end unasked told =
+    let P : SpillRule → Type 0 = λ r. IsDueBy (by r) (told_runs c reports) c.words c.shelf c.streams answer in
+    answers_of (by c.rule) c status reports answer (subst P is due) before_end unasked told
+
+-- what is said of texts, more weakly
+module _ (texts others : Texts) (assembly : (source written : List ℕ) → texts.assembly source written → others.assembly source written)
+    (listing : (source written : List ℕ) → texts.listing source written → others.listing source written) where
+  written_texts : {O : Type 0} (out : Stream O) (writes wider : TextRelation) →
+      ((source written : List ℕ) → writes source written → wider source written) → (source : List ℕ) (answer : Answer) →
+      IsWritten out writes source answer → IsWritten out wider source answer
+  written_texts out writes wider more source (Faulty f) h = h
+  written_texts out writes wider more source Written h = record { written = h.written; is_of = more source h.written h.is_of; takes = h.takes }
+  written_texts out writes wider more source Unwritten h = record { written = h.written; is_of = more source h.written h.is_of; takes = h.takes }
+  written_texts out writes wider more source _ h = absurd h
+
+  run_texts : (runs : RunRelation) (a : Asked) (text : List ℕ) (answer : Answer) → IsRunBy texts.assembly runs a text answer →
+      IsRunBy others.assembly runs a text answer
+  run_texts runs a text (Faulty f) h = h
+  run_texts runs a text (Finished end) h = record { assembly = h.assembly; meant = assembly text h.assembly h.meant; ran = h.ran }
+  run_texts runs a text _ h = absurd h
+
+  gen_texts : {O : Type 0} (out : Stream O) (a : Asked) (answer : Answer) → IsGeneratedBy texts.assembly out a answer →
+      IsGeneratedBy others.assembly out a answer
+  gen_texts out a answer h = record {
+    end = h.end;
+    ends = record { assembly = h.ends.assembly; meant = assembly _ h.ends.assembly h.ends.meant; ran = h.ends.ran };
+  }
+
+  in_mode_texts : {H I O : Type 0} (runs : RunRelation) (mode : Mode) (shelf : Shelved H) (s : Streams I O) (a : Asked) (answer : Answer) →
+      InModeBy texts runs mode shelf s a answer → InModeBy others runs mode shelf s a answer
+  in_mode_texts runs Check shelf s a answer h = h
+  in_mode_texts runs Build shelf s a answer h =
+      (h.0, h.1, file_more shelf a.file 262145 _ _ answer (λ text. written_texts s.out texts.assembly others.assembly assembly text answer) h.2)
+  in_mode_texts runs Run shelf s a answer h = (h.0, file_more shelf a.file 262145 _ _ answer (λ text. run_texts runs a text answer) h.1)
+  in_mode_texts runs Exec shelf s a answer h = h
+  in_mode_texts runs Alloc shelf s a answer h =
+      (h.0, h.1, file_more shelf a.file 262145 _ _ answer (λ text. written_texts s.out texts.listing others.listing listing text answer) h.2)
+  in_mode_texts runs Gen shelf s a answer h = (h.0, h.1, h.2, gen_texts s.out a answer h.3)
+  in_mode_texts runs Format shelf s a answer h = h
+
+  pub due_texts : {H I O : Type 0} (runs : Asked → RunRelation) (words : List (List ℕ)) (shelf : Shelved H) (s : Streams I O)
+      (answer : Answer) → IsDueBy texts runs words shelf s answer → IsDueBy others runs words shelf s answer
+  due_texts runs words shelf s answer (usage is fault same u) = usage is fault same u
+  due_texts runs words shelf s answer (no_memory is kept u) = no_memory is kept u
+  due_texts runs words shelf s answer (asked a ask h) = asked a ask (in_mode_texts (runs a) a.mode shelf s a answer h)
+
+-- what the source is compiled to does what it means
+pub due_as_meant : {H I O : Type 0} → BuildIsCorrect → (rule : SpillRule) (runs : Asked → RunRelation) (words : List (List ℕ)) (shelf : Shelved H)
+    (s : Streams I O) (answer : Answer) → IsDueBy (texts_compiled rule) runs words shelf s answer → IsDueBy (texts_meant rule) runs words shelf s answer
+due_as_meant correct rule runs words shelf s answer h =
+    due_texts (texts_compiled rule) (texts_meant rule) (correct rule) (λ source written l. l) runs words shelf s answer h
 
 -- a machine that ran with nobody watching
 pub saw_nothing : {W I O : Type 0} (stands : W → List Seen → ℕ → Type 0) (report : W → Report) (watchers : List W)

@@ -8,7 +8,7 @@ use Rattle.tg_command.specs.Commands.{Asked}
 use Rattle.tg_driver.specs.declared.answers.Answer.{Answer}
 use Rattle.tg_driver.specs.Calls.{Shelved, Streams}
 use Rattle.tg_compile_proof.specs.Builds.{CompilesTo}
-use Rattle.tg_driver.specs.Writing.{ByWriting}
+use Rattle.tg_driver.specs.Writing.{TextRelation, ByWriting}
 
 -- the source is compiled to allocations, of which this is the text
 pub record Lists (rule : SpillRule) (text listing : List ℕ) : Type 0 where
@@ -18,5 +18,5 @@ pub record Lists (rule : SpillRule) (text listing : List ℕ) : Type 0 where
   pub listing_is : listing ≡ listed allocations
 
 abbrev pub ByAlloc :
-    {H I O : Type 0} → SpillRule → Shelved H → Streams I O → Asked → Answer → Type 0
-ByAlloc rule shelf s asked answer = ByWriting shelf s (Lists rule) asked answer
+    {H I O : Type 0} → (listing : TextRelation) → Shelved H → Streams I O → Asked → Answer → Type 0
+ByAlloc listing shelf s asked answer = ByWriting shelf s listing asked answer

@@ -6,10 +6,11 @@ use Rattle.tg_command.specs.Commands.{Asked, Ask, IsUsageFault}
 use Rattle.tg_driver.specs.declared.answers.Answer.{Answer}
 use Rattle.tg_driver.specs.declared.answers.Answer.TheVariants.{Usage, OutOfMemory}
 use Rattle.tg_driver.specs.Calls.{Shelved, Streams, Untouched, Call}
-use Rattle.tg_driver.specs.Modes.{InMode}
+use Rattle.tg_driver.specs.Modes.{InModeBy, texts_meant}
 use Rattle.tg_driver.specs.Runs.{RunRelation}
 use Rattle.tg_driver.specs.Telling.{IsTold}
 use Rattle.tg_driver.specs.Watching.{HasToldRun, NoneBeforeEnd, if_watched}
+use Rattle.tg_driver.specs.Writing.{Texts}
 
 -- where the words ask for `gen`, the shelf is as it was
 abbrev pub StaysInGen : {H : Type 0} → (words : List (List ℕ)) → Shelved H → Type 0
@@ -18,25 +19,30 @@ StaysInGen words shelf =
 
 -- The answer is due: the words are no command; memory ran out, before anything was read from
 -- the input or written, and in `gen` no file was asked for; or the mode that the words ask for
--- gives it, by what is said of runs where they ask for this.
-pub data IsDue {H I O : Type 0} (rule : SpillRule) (runs : Asked → RunRelation)
+-- gives it, by these texts of sources, and what is said of runs where they ask for this.
+pub data IsDueBy {H I O : Type 0} (texts : Texts) (runs : Asked → RunRelation)
     (words : List (List ℕ)) (shelf : Shelved H) (s : Streams I O) (answer : Answer) : Type 0 where
   usage :
       answer ≡ Usage →
       IsUsageFault words →
       shelf.after ≡ shelf.before →
       Untouched s →
-      IsDue rule runs words shelf s answer
+      IsDueBy texts runs words shelf s answer
   no_memory :
       answer ≡ OutOfMemory →
       StaysInGen words shelf →
       Untouched s →
-      IsDue rule runs words shelf s answer
+      IsDueBy texts runs words shelf s answer
   asked :
       (a : Asked) →
       Ask words a →
-      InMode rule (runs a) a.mode shelf s a answer →
-      IsDue rule runs words shelf s answer
+      InModeBy texts (runs a) a.mode shelf s a answer →
+      IsDueBy texts runs words shelf s answer
+
+-- the answer is due by assembly texts that do what the source means
+abbrev pub IsDue : {H I O : Type 0} → SpillRule → (runs : Asked → RunRelation) →
+    (words : List (List ℕ)) → Shelved H → Streams I O → Answer → Type 0
+IsDue rule runs words shelf s answer = IsDueBy (texts_meant rule) runs words shelf s answer
 
 -- without the flag no reports are told
 abbrev pub NoneUnasked : (words : List (List ℕ)) → (reports : List ℕ) → Type 0
@@ -49,10 +55,14 @@ told_runs c reports a = HasToldRun c.streams (if_watched a.flags c.reporters) re
 
 -- The answer is due. The error sink took the reports of its run and its line, and the status is its
 -- own; or a write of these failed, and the status is 74.
-pub record Answers {H I O E : Type 0} (c : Call H I O E) (status : ℕ) : Type 0 where
+pub record AnswersBy {H I O E : Type 0} (texts : Texts) (c : Call H I O E) (status : ℕ) : Type 0 where
   pub answer : Answer
   pub reports : List ℕ
-  pub due : IsDue c.rule (told_runs c reports) c.words c.shelf c.streams answer
+  pub due : IsDueBy texts (told_runs c reports) c.words c.shelf c.streams answer
   pub before_end : NoneBeforeEnd reports answer
   pub unasked : NoneUnasked c.words reports
   pub told : IsTold c.err reports answer status
+
+-- by assembly texts that do what the source means
+abbrev pub Answers : {H I O E : Type 0} → Call H I O E → (status : ℕ) → Type 0
+Answers c status = AnswersBy (texts_meant c.rule) c status

@@ -13,9 +13,11 @@ use Rattle.tg_driver.specs.declared.answers.Answer.{Answer}
 use Rattle.tg_driver.specs.declared.answers.Answer.TheVariants.{Unwritten, Finished}
 use Rattle.tg_driver.specs.Calls.{Shelved, Stream, Streams, stream_of, streams_of, Stays, Takes}
 use Rattle.tg_driver.specs.OfFiles.{UntouchedBeforeStart}
-use Rattle.tg_driver.specs.MeantRuns.{EndsAsMeant}
+use Rattle.tg_correct.specs.Assemblies.{IsAsMeant}
+use Rattle.tg_driver.specs.MeantRuns.{EndsBy}
 use Rattle.tg_driver.specs.Endings.{end_status}
 use Rattle.tg_driver.specs.Runs.{HasRun}
+use Rattle.tg_driver.specs.Writing.{TextRelation}
 
 -- `functions N source B output O`, and after it ` status S`
 abbrev pub counts : (functions source output : ℕ) → List ℕ
@@ -60,22 +62,32 @@ pub record SumsUpRun {O : Type 0} (out : Stream O) (functions source : ℕ)
   pub end : RunEnd
   pub sums_up : SumsUp out functions source answer image heap stack steps end
 
--- and so did that of an assembly text that does what a source of so many functions means
-pub record SumsUpMeant {O : Type 0} (out : Stream O)
+-- and so did that of an assembly text that a source of so many functions may have
+pub record SumsUpBy {O : Type 0} (texts : TextRelation) (out : Stream O)
     (functions : ℕ) (text : List ℕ) (heap stack steps : ℕ) (answer : Answer) : Type 0 where
   pub end : RunEnd
-  pub ends : EndsAsMeant (SumsUp out functions (length text) answer) text heap stack steps end
+  pub ends : EndsBy texts (SumsUp out functions (length text) answer) text heap stack steps end
+
+-- of one that does what the source means
+abbrev pub SumsUpMeant : {O : Type 0} → Stream O →
+    (functions : ℕ) (text : List ℕ) (heap stack steps : ℕ) (answer : Answer) → Type 0
+SumsUpMeant out functions text heap stack steps answer =
+    SumsUpBy IsAsMeant out functions text heap stack steps answer
 
 -- what comes of a generated source
-abbrev pub IsGenerated : {O : Type 0} → Stream O → Asked → Answer → Type 0
-IsGenerated out asked answer =
-    SumsUpMeant out asked.number (generated asked.number)
+abbrev pub IsGeneratedBy : {O : Type 0} → TextRelation → Stream O → Asked → Answer → Type 0
+IsGeneratedBy texts out asked answer =
+    SumsUpBy texts out asked.number (generated asked.number)
     asked.heap asked.stack asked.steps answer
 
-abbrev pub ByGen : {H I O : Type 0} → Shelved H → Streams I O → Asked → Answer → Type 0
-ByGen shelf s asked answer =
+abbrev pub IsGenerated : {O : Type 0} → Stream O → Asked → Answer → Type 0
+IsGenerated out asked answer = IsGeneratedBy IsAsMeant out asked answer
+
+abbrev pub ByGen :
+    {H I O : Type 0} → TextRelation → Shelved H → Streams I O → Asked → Answer → Type 0
+ByGen texts shelf s asked answer =
     (shelf.after ≡ shelf.before) × Stays s.input × UntouchedBeforeStart s answer
-    × IsGenerated s.out asked answer
+    × IsGeneratedBy texts s.out asked answer
 
 -- whatever the sink takes: an end of the run, or that the summary failed
 abbrev pub IsGenerable : Answer → Type 0

@@ -15,6 +15,7 @@ pub mod FormatMode
 pub mod GenMode
 pub mod Modes
 pub mod Answered
+pub mod Compiled
 pub mod Telling
 pub mod Endings
 pub mod glue

@@ -1,4 +1,4 @@
--- Runs of an assembly text that does what a source means.
+-- Runs of an assembly text that a source may have: one that does what the source means.
 use Rattle.std.specs.Prelude.{ℕ, ◌≡◌, List, Ok}
 use Rattle.tg_state.specs.declared.ends.RunEnd.{RunEnd}
 use Rattle.tg_isa.specs.declared.images.Image.{Image}
@@ -6,6 +6,7 @@ use Rattle.tg_asm_text.specs.Assembly.{assembled}
 use Rattle.tg_asm.specs.Images.{image_of}
 use Rattle.tg_correct.specs.Assemblies.{IsAsMeant}
 use Rattle.tg_driver.specs.Runs.{RunRelation}
+use Rattle.tg_driver.specs.Writing.{TextRelation}
 
 -- the image of an assembly text runs so with these sizes and steps
 pub record RunsAssembled (runs : RunRelation)
@@ -14,9 +15,14 @@ pub record RunsAssembled (runs : RunRelation)
   pub assembles : assembled assembly ≡ Ok (image_of image)
   pub run : runs image heap stack steps end
 
--- and so does that of an assembly text that does what the source means
-pub record EndsAsMeant (runs : RunRelation)
+-- and so does that of an assembly text that the source may have
+pub record EndsBy (texts : TextRelation) (runs : RunRelation)
     (text : List ℕ) (heap stack steps : ℕ) (end : RunEnd) : Type 0 where
   pub assembly : List ℕ
-  pub meant : IsAsMeant text assembly
+  pub meant : texts text assembly
   pub ran : RunsAssembled runs assembly heap stack steps end
+
+-- of one that does what the source means
+abbrev pub EndsAsMeant :
+    RunRelation → (text : List ℕ) (heap stack steps : ℕ) (end : RunEnd) → Type 0
+EndsAsMeant runs text heap stack steps end = EndsBy IsAsMeant runs text heap stack steps end

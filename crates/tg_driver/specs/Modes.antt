@@ -10,26 +10,38 @@ use Rattle.tg_driver.specs.declared.answers.Answer.{Answer}
 use Rattle.tg_driver.specs.Calls.{Shelved, Streams, Untouched}
 use Rattle.tg_driver.specs.Runs.{RunRelation}
 use Rattle.tg_driver.specs.CheckMode.{IsChecked, ByCheck}
-use Rattle.tg_driver.specs.Writing.{IsWritable}
+use Rattle.tg_driver.specs.Writing.{IsWritable, Texts}
+use Rattle.tg_correct.specs.Assemblies.{IsAsMeant}
 use Rattle.tg_driver.specs.BuildMode.{ByBuild}
 use Rattle.tg_driver.specs.RunMode.{IsRun, ByRun}
 use Rattle.tg_driver.specs.ExecMode.{IsExecuted, ByExec}
-use Rattle.tg_driver.specs.AllocMode.{ByAlloc}
+use Rattle.tg_driver.specs.AllocMode.{Lists, ByAlloc}
 use Rattle.tg_driver.specs.GenMode.{IsGenerable, ByGen}
 use Rattle.tg_driver.specs.FormatMode.{IsFormattable, ByFormat}
 
--- the answer is due in the mode; what `alloc` lists is by the rule of the call's policy, and of the
--- runs of `run` and of `exec` this is said
+-- the answer is due in the mode, by these texts of sources, and of the runs of `run` and of `exec`
+-- this is said
+abbrev pub InModeBy :
+    {H I O : Type 0} → Texts → (runs : RunRelation) →
+    Mode → Shelved H → Streams I O → Asked → Answer → Type 0
+InModeBy texts runs Check shelf s asked answer = ByCheck shelf s asked answer
+InModeBy texts runs Build shelf s asked answer = ByBuild texts.assembly shelf s asked answer
+InModeBy texts runs Run shelf s asked answer = ByRun texts.assembly runs shelf s asked answer
+InModeBy texts runs Exec shelf s asked answer = ByExec runs shelf s asked answer
+InModeBy texts runs Alloc shelf s asked answer = ByAlloc texts.listing shelf s asked answer
+InModeBy texts runs Gen shelf s asked answer = ByGen texts.assembly shelf s asked answer
+InModeBy texts runs Format shelf s asked answer = ByFormat shelf s asked answer
+
+-- assembly texts that do what the source means, and listings by the rule of the call's policy
+abbrev pub texts_meant : SpillRule → Texts
+texts_meant rule = record { assembly = IsAsMeant; listing = Lists rule }
+
+-- the answer is due by these
 abbrev pub InMode :
     {H I O : Type 0} → SpillRule → (runs : RunRelation) →
     Mode → Shelved H → Streams I O → Asked → Answer → Type 0
-InMode rule runs Check shelf s asked answer = ByCheck shelf s asked answer
-InMode rule runs Build shelf s asked answer = ByBuild shelf s asked answer
-InMode rule runs Run shelf s asked answer = ByRun runs shelf s asked answer
-InMode rule runs Exec shelf s asked answer = ByExec runs shelf s asked answer
-InMode rule runs Alloc shelf s asked answer = ByAlloc rule shelf s asked answer
-InMode rule runs Gen shelf s asked answer = ByGen shelf s asked answer
-InMode rule runs Format shelf s asked answer = ByFormat shelf s asked answer
+InMode rule runs mode shelf s asked answer =
+    InModeBy (texts_meant rule) runs mode shelf s asked answer
 
 -- what a mode left alone where memory ran out: the streams, and in `gen` the shelf
 abbrev pub LeavesAlone : {H I O : Type 0} → Mode → Shelved H → Streams I O → Type 0

@@ -16,6 +16,11 @@ TakesText out text answer = Takes out text Written Unwritten answer
 abbrev pub TextRelation : Type 1
 TextRelation = (source written : List ℕ) → Type 0
 
+-- which assembly texts a source may have, and which listings of what the allocator did
+pub record Texts : Type 1 where
+  pub assembly : TextRelation
+  pub listing : TextRelation
+
 -- the sink took such a text of the source, or a write of it failed
 pub record WritesText {O : Type 0} (out : Stream O) (writes : TextRelation)
     (source : List ℕ) (answer : Answer) : Type 0 where

@@ -7,12 +7,13 @@ ghost use Rattle.tg_isa.specs.declared.images.Image.{Image as ImageOf};
 ghost use Rattle.tg_machine.specs.Machines.{loaded};
 ghost use Rattle.tg_command.specs.Counts.{IsWithin, function_limits};
 ghost use Rattle.tg_command.specs.Commands.{KeepsLimits, asked_of};
+ghost use Rattle.tg_compile_proof.specs.Builds.{Builds};
 ghost use Rattle.tg_correct.specs.Sources.{IsSource};
 ghost use Rattle.tg_driver.specs.Calls.{stream_of};
 ghost use Rattle.tg_driver.specs.Endings.{end_status};
 ghost use Rattle.tg_driver.specs.GenMode.{
-  IsGenerated,
-  SumsUpMeant,
+  IsGeneratedBy,
+  SumsUpBy,
   SumsUpRun,
   TakesSummary,
   counts,
@@ -27,7 +28,6 @@ use crate::images::image_of;
 use std::alloc::Global;
 use tg_base::{Failed, PlainSource, Sink, write_all};
 use tg_command::Command;
-use tg_compile_proof::build_is_correct;
 use tg_generate::generate;
 use tg_generate_laws::generated_is_accepted;
 use tg_irc::SpillPolicy;
@@ -45,8 +45,8 @@ pub(crate) fn answer_gen<O: Sink>(
 ) -> Answer
     requires limits { KeepsLimits (asked_of command.now) }
     requires number { IsWithin function_limits command.now.number }
-    ensures due { OrMemory ⊤ (IsGenerated (stream_of O.taken O.faults out.old out.new)
-        (asked_of command.now)) result }
+    ensures due { OrMemory ⊤ (IsGeneratedBy (Builds (rule policy.old))
+        (stream_of O.taken O.faults out.old out.new) (asked_of command.now)) result }
     ensures before_start { StaysBeforeStart (stream_of O.taken O.faults out.old out.new) result }
 {
     generated_is_accepted();
@@ -66,11 +66,11 @@ fn run_generated<O: Sink>(
 ) -> Answer
     requires limits { KeepsLimits (asked_of command.now) }
     requires source { IsSource text.now }
-    ensures due { OrMemory ⊤ (SumsUpMeant (stream_of O.taken O.faults out.old out.new)
-        command.now.number text.now command.now.heap command.now.stack command.now.steps) result }
+    ensures due { OrMemory ⊤ (SumsUpBy (Builds (rule policy.old))
+        (stream_of O.taken O.faults out.old out.new) command.now.number text.now
+        command.now.heap command.now.stack command.now.steps) result }
     ensures before_start { StaysBeforeStart (stream_of O.taken O.faults out.old out.new) result }
 {
-    build_is_correct();
     match compile_accepted(alloc, text, policy) {
         Ok(compiled) => match image_of(alloc, &compiled.text) {
             Ok(image) => execute_generated(alloc, command, &image, text.len(), out),

@@ -1,9 +1,10 @@
 ghost use Rattle.std.specs.Prelude.{◌≡◌, ⊤};
 ghost use Rattle.tg_command.specs.Commands.{KeepsLimits, asked_of};
 ghost use Rattle.tg_compile.specs.Compiling.{HasImage};
+ghost use Rattle.tg_compile_proof.specs.Builds.{Builds};
 ghost use Rattle.tg_driver.specs.Calls.{shelf_of, stream_of, streams_of};
 ghost use Rattle.tg_driver.specs.OfFiles.{OfFile, OrMemory, UntouchedBeforeStart};
-ghost use Rattle.tg_driver.specs.RunMode.{EndsAssembled, IsRun};
+ghost use Rattle.tg_driver.specs.RunMode.{EndsAssembled, IsRunBy};
 ghost use Rattle.tg_driver.specs.Watching.{HasWatchedRun};
 
 use crate::answers::{Answer, unread};
@@ -16,7 +17,6 @@ use crate::streams::Streams;
 use std::alloc::Global;
 use tg_base::{Shelf, Sink, Source};
 use tg_command::Command;
-use tg_compile_proof::build_is_correct;
 use tg_irc::SpillPolicy;
 use tg_watch::Watcher;
 
@@ -32,7 +32,7 @@ pub(crate) fn answer_run<H: Shelf, I: Source, O: Sink>(
     requires { KeepsLimits (asked_of command.now) }
     ensures due { OrMemory ⊤ (OfFile (shelf_of H.files H.faults shelf.old shelf.new)
         (asked_of command.now).file 262145
-        (IsRun (HasWatchedRun (λ w. stands w) (λ w. report w)
+        (IsRunBy (Builds (rule policy.old)) (HasWatchedRun (λ w. stands w) (λ w. report w)
         watchers.old.items watchers.new.items (streams_of
         (stream_of I.left I.faults streams.entry.input.now streams.exit.0.now)
         (stream_of O.taken O.faults streams.entry.out.now streams.exit.1.0.now)))
@@ -58,7 +58,8 @@ fn run_text<I: Source, O: Sink>(
     watchers: &mut Vec<Box<dyn Watcher>>,
 ) -> Answer
     requires { KeepsLimits (asked_of command.now) }
-    ensures due { OrMemory ⊤ (IsRun (HasWatchedRun (λ w. stands w) (λ w. report w)
+    ensures due { OrMemory ⊤ (IsRunBy (Builds (rule policy.old))
+        (HasWatchedRun (λ w. stands w) (λ w. report w)
         watchers.old.items watchers.new.items (streams_of
         (stream_of I.left I.faults streams.entry.input.now streams.exit.0.now)
         (stream_of O.taken O.faults streams.entry.out.now streams.exit.1.0.now)))
@@ -67,7 +68,6 @@ fn run_text<I: Source, O: Sink>(
         (stream_of I.left I.faults streams.entry.input.now streams.exit.0.now)
         (stream_of O.taken O.faults streams.entry.out.now streams.exit.1.0.now)) result }
 {
-    build_is_correct();
     match compile(alloc, text, policy) {
         Ok(compiled) => run_assembly(alloc, command, &compiled.text, streams, watchers),
         Err(refusal) => refused(text, refusal),

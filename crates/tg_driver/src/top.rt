@@ -1,10 +1,11 @@
 ghost use Rattle.std.specs.Prelude.{◌≡◌, ◌≤◌, ⊤, [], map, string_bytes};
 ghost use Rattle.tg_command.specs.Counts.{IsWithin, function_limits};
 ghost use Rattle.tg_command.specs.Commands.{Ask, Asked, KeepsLimits, asked_of};
-ghost use Rattle.tg_driver.specs.Answered.{Answers, IsDue};
+ghost use Rattle.tg_driver.specs.Answered.{Answers, IsDueBy};
 ghost use Rattle.tg_driver.specs.Calls.{call_of, shelf_of, stream_of, streams_of};
-ghost use Rattle.tg_driver.specs.GenMode.{IsGenerated};
-ghost use Rattle.tg_driver.specs.Modes.{InMode, LeavesAlone, ReadsNoInput};
+ghost use Rattle.tg_driver.specs.Compiled.{AnswersCompiled, texts_compiled};
+ghost use Rattle.tg_driver.specs.GenMode.{IsGeneratedBy};
+ghost use Rattle.tg_driver.specs.Modes.{InModeBy, LeavesAlone, ReadsNoInput};
 ghost use Rattle.tg_driver.specs.OfFiles.{HasStarted, OfFile, OrMemory, StaysBeforeStart};
 ghost use Rattle.tg_driver.specs.Watching.{HasWatchedRun, if_watched};
 
@@ -21,6 +22,7 @@ use crate::writing::{Wanted, answer_written};
 use std::alloc::Global;
 use tg_base::{Shelf, Sink, Source};
 use tg_command::{Command, CommandFault, Flags, Mode, read_words};
+use tg_compile_proof::build_is_correct;
 use tg_irc::SpillPolicy;
 use tg_watch::Watcher;
 
@@ -28,6 +30,10 @@ use tg_watch::Watcher;
 /// it compiles is compiled by the policy of the tools. With `--watch` their watchers see the run, and
 /// each tells its report, line by line, on the error sink before the line of the status. The tools
 /// are dropped by the end.
+///
+/// The answer is due both by what sources mean and by what they are compiled to: what `build`
+/// writes, and what `run` and `gen` run, does what the source means, and is an assembly text that
+/// the source is compiled to by the rule of the policy.
 pub fn tiger<H: Shelf, I: Source, O: Sink, E: Sink>(
     alloc: Global,
     words: &[String],
@@ -43,9 +49,16 @@ pub fn tiger<H: Shelf, I: Source, O: Sink, E: Sink>(
         (stream_of I.left I.faults input.old input.new)
         (stream_of O.taken O.faults out.old out.new)
         (stream_of E.taken E.faults err.old err.new)) result }
+    ensures compiled { AnswersCompiled (call_of (rule tools.policy)
+        (map (λ w. report w) tools.watchers.items) (map string_bytes words.now)
+        (shelf_of H.files H.faults shelf.old shelf.new)
+        (stream_of I.left I.faults input.old input.new)
+        (stream_of O.taken O.faults out.old out.new)
+        (stream_of E.taken E.faults err.old err.new)) result }
     ensures files { H.files shelf.new ≡ H.files shelf.old }
     ensures err_later { E.faults err.old ≤ E.faults err.new }
 {
+    build_is_correct();
     let mut tools = tools;
     let streams = Streams { input, out };
     let answer = answer_words(
@@ -68,7 +81,7 @@ fn answer_words<H: Shelf, I: Source, O: Sink>(
     policy: &mut dyn SpillPolicy,
     watchers: &mut Vec<Box<dyn Watcher>>,
 ) -> Answer
-    ensures due { IsDue (rule policy.old)
+    ensures due { IsDueBy (texts_compiled (rule policy.old))
         (λ a. HasWatchedRun (λ w. stands w) (λ w. report w)
         (if_watched a.flags watchers.old.items) watchers.new.items (streams_of
         (stream_of I.left I.faults streams.entry.input.now streams.exit.0.now)
@@ -109,7 +122,7 @@ fn answer_command<H: Shelf, I: Source, O: Sink>(
         (if_watched command.now.flags watchers.old.items) watchers.new.items (streams_of
         (stream_of I.left I.faults streams.entry.input.now streams.exit.0.now)
         (stream_of O.taken O.faults streams.entry.out.now streams.exit.1.0.now)) in
-        OrMemory left_alone (InMode (rule policy.old) runs command.now.mode
+        OrMemory left_alone (InModeBy (texts_compiled (rule policy.old)) runs command.now.mode
         (shelf_of H.files H.faults shelf.old shelf.new)
         (streams_of
         (stream_of I.left I.faults streams.entry.input.now streams.exit.0.now)
@@ -148,7 +161,7 @@ fn generate_to<I: Source, O: Sink>(
 ) -> Answer
     requires limits { KeepsLimits (asked_of command.now) }
     requires number { IsWithin function_limits command.now.number }
-    ensures due { OrMemory ⊤ (IsGenerated
+    ensures due { OrMemory ⊤ (IsGeneratedBy (texts_compiled (rule policy.old)).assembly
         (stream_of O.taken O.faults streams.entry.out.now streams.exit.1.0.now)
         (asked_of command.now)) result }
     ensures before_start { StaysBeforeStart

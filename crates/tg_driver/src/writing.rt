@@ -14,7 +14,6 @@ use std::alloc::Global;
 use tg_base::{Memory, Shelf, Sink, Source, write_all};
 use tg_command::Command;
 use tg_compile::Compiled;
-use tg_compile_proof::build_is_correct;
 use tg_irc::SpillPolicy;
 use tg_regalloc_listing::list;
 
@@ -83,7 +82,6 @@ fn write_source<O: Sink>(
         (writes_of wanted (rule policy.old)) text.now) result }
     ensures before_start { StaysBeforeStart (stream_of O.taken O.faults out.old out.new) result }
 {
-    build_is_correct();
     match compile(alloc, text, policy) {
         Ok(compiled) => write_compiled(alloc, compiled, out, wanted),
         Err(refusal) => refused(text, refusal),

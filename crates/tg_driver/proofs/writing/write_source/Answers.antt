@@ -13,7 +13,7 @@ returns-in-Ok-clause-due g c =
     let assembly = c.in-Ok.compiled.text.items in
     let written = wanted_text c.args.wanted allocations assembly in
     writes_text out (writes_of c.args.wanted rule) c.args.text.now written c.write_compiled.result
-    (writes_wanted c.build_is_correct.ensures c.args.wanted rule c.args.text.now allocations assembly c.in-Ok.ensures.compiled) c.write_compiled.ensures.takes
+    (writes_wanted c.args.wanted rule c.args.text.now allocations assembly c.in-Ok.ensures.compiled) c.write_compiled.ensures.takes
 
 pub returns-in-Err-clause-due : goal.returns-in-Err-clause-due
 returns-in-Err-clause-due g c =

@@ -1,0 +1,17 @@
+-- That the texts of `build`, `run` and `gen` are what the source is compiled to.
+use Rattle.std.specs.Prelude.{ℕ}
+use Rattle.tg_irc.specs.Policies.{Rule as SpillRule}
+use Rattle.tg_compile_proof.specs.Builds.{Builds}
+use Rattle.tg_driver.specs.AllocMode.{Lists}
+use Rattle.tg_driver.specs.Answered.{AnswersBy}
+use Rattle.tg_driver.specs.Calls.{Call}
+use Rattle.tg_driver.specs.Writing.{Texts}
+
+-- assembly texts that the source is compiled to by the rule of the call's policy, and listings by it
+abbrev pub texts_compiled : SpillRule → Texts
+texts_compiled rule = record { assembly = Builds rule; listing = Lists rule }
+
+-- what the program answers is due by these: so `build` writes, and `run` and `gen` run, what their
+-- source is compiled to by the rule of the policy
+abbrev pub AnswersCompiled : {H I O E : Type 0} → Call H I O E → (status : ℕ) → Type 0
+AnswersCompiled c status = AnswersBy (texts_compiled c.rule) c status
