@@ -21,7 +21,7 @@ ghost use Rattle.tg_driver.specs.GenMode.{
 ghost use Rattle.tg_driver.specs.OfFiles.{HasStarted, OrMemory, StaysBeforeStart};
 
 use crate::answers::Answer;
-use crate::compiling::compile_accepted;
+use crate::compiling::{compile_accepted, passes_of};
 use crate::endings::end_status;
 use crate::images::image_of;
 use std::alloc::Global;
@@ -71,7 +71,7 @@ fn run_generated<O: Sink>(
     ensures before_start { StaysBeforeStart (stream_of O.taken O.faults out.old out.new) result }
 {
     build_is_correct();
-    match compile_accepted(alloc, text, policy) {
+    match compile_accepted(alloc, text, passes_of(command), policy) {
         Ok(compiled) => match image_of(alloc, &compiled.text) {
             Ok(image) => execute_generated(alloc, command, &image, text.len(), out),
             Err(_) => Answer::OutOfMemory,

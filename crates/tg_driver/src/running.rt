@@ -8,7 +8,7 @@ ghost use Rattle.tg_driver.specs.Watching.{HasWatchedRun};
 
 use crate::answers::{Answer, unread};
 use crate::checking::refused;
-use crate::compiling::compile;
+use crate::compiling::{compile, passes_of};
 use crate::executing::execute;
 use crate::images::image_of;
 use crate::reading::LONGEST;
@@ -68,7 +68,7 @@ fn run_text<I: Source, O: Sink>(
         (stream_of O.taken O.faults streams.entry.out.now streams.exit.1.0.now)) result }
 {
     build_is_correct();
-    match compile(alloc, text, policy) {
+    match compile(alloc, text, passes_of(command), policy) {
         Ok(compiled) => run_assembly(alloc, command, &compiled.text, streams, watchers),
         Err(refusal) => refused(text, refusal),
     }

@@ -7,7 +7,7 @@ use Rattle.tg_driver.proofs.Typings.{as_meant, has_image}
 use Rattle.tg_driver.proofs.running.run_text.Goals as goal
 
 pub run_assembly-requires-clause-image : goal.run_assembly-requires-clause-image
-run_assembly-requires-clause-image g c = rw c.deref.ensures.value (has_image _ _ _ _ c.in-Ok.ensures.compiled)
+run_assembly-requires-clause-image g c = rw c.deref.ensures.value (has_image _ _ _ _ _ c.in-Ok.ensures.compiled)
 
 pub returns-in-Ok-clause-due : goal.returns-in-Ok-clause-due
 returns-in-Ok-clause-due g c =
@@ -16,7 +16,7 @@ returns-in-Ok-clause-due g c =
     (stream_of g.O.Sink.taken g.O.Sink.faults c.args.streams.out.now c.run_assembly.new.streams.1.0) in
     let runs = HasWatchedRun (λ b. (goal.Watcher-dyn g (b.vtable, b.value)).stands b.value) (λ b. (goal.Watcher-dyn g (b.vtable, b.value)).report b.value)
     c.args.watchers.now.items c.run_assembly.new.watchers.items streams in
-    ends_as_meant runs (asked_of c.args.command.now) _ _ c.run_assembly.result (as_meant c.build_is_correct.ensures _ _ _ _ c.in-Ok.ensures.compiled)
+    ends_as_meant runs (asked_of c.args.command.now) _ _ c.run_assembly.result (as_meant c.build_is_correct.ensures _ _ _ _ _ c.in-Ok.ensures.compiled)
     (rw c.deref.ensures.value at c.run_assembly.ensures.runs)
 
 pub returns-in-Err-clause-due : goal.returns-in-Err-clause-due

@@ -67,7 +67,7 @@ returns-in-Alloc-clause-due g c =
     let runs = HasWatchedRun (λ b. (goal.Watcher-dyn g (b.vtable, b.value)).stands b.value) (λ b. (goal.Watcher-dyn g (b.vtable, b.value)).report b.value)
     (if_watched c.args.command.now.flags c.args.watchers.now.items) c.keep_asked.new.watchers.items streams in
     in_mode _ runs Alloc shelf streams asked c.answer_written-in-Alloc.result (no_gen Alloc tt) c.in-Alloc.is
-    (by_writing shelf streams (Lists _) asked c.answer_written-in-Alloc.result c.answer_written-in-Alloc.ensures.unread
+    (by_writing shelf streams (Lists _ _) asked c.answer_written-in-Alloc.result c.answer_written-in-Alloc.ensures.unread
     c.answer_written-in-Alloc.ensures.before_start c.answer_written-in-Alloc.ensures.due)
 
 pub returns-in-Format-clause-due : goal.returns-in-Format-clause-due
