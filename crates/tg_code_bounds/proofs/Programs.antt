@@ -81,8 +81,7 @@ reduced_bounded (f ∷ fs) (g ∷ gs) r h =
     let no_longer = r.0.short in
     let no_larger = r.0.small in
     let s = h.0.short in
-    let n = h.0.small in
-    (
+    let n = h.0.small in (
       record { may = r.0.may h.0.may; short = omega (arith, no_longer, s); small = omega (arith, no_larger, n) },
       reduced_bounded fs gs r.1 h.1,
     )
