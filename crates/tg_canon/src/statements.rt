@@ -11,6 +11,7 @@ use tg_base::{Memory, Temp};
 use tg_tree::{Bin, Ts, Tx};
 
 /// A temporary becomes the value of a hoisted expression.
+#[inline(never)]
 pub(crate) fn move_to(alloc: Global, temp: Temp, a: Hoisted) -> Result<Part, Memory>
     ensures { IfOk result (λ p. plain_part p ≡
         canon.with_one (λ v. canon.assigning temp.0 (tree.Move temp.0 v)) (plain_hoisted a)) }
@@ -20,6 +21,7 @@ pub(crate) fn move_to(alloc: Global, temp: Temp, a: Hoisted) -> Result<Part, Mem
 }
 
 /// The value of a hoisted expression is returned.
+#[inline(never)]
 pub(crate) fn return_of(alloc: Global, a: Hoisted) -> Result<Part, Memory>
     ensures { IfOk result (λ p. plain_part p ≡
         canon.with_one (λ v. canon.still (tree.Return v)) (plain_hoisted a)) }
@@ -29,6 +31,7 @@ pub(crate) fn return_of(alloc: Global, a: Hoisted) -> Result<Part, Memory>
 }
 
 /// A hoisted word is stored at a hoisted address.
+#[inline(never)]
 pub(crate) fn store(alloc: Global, both: Two) -> Result<Part, Memory>
     ensures { IfOk result (λ p. plain_part p ≡ canon.with_two tree.Store (plain_two both)) }
 {
@@ -37,6 +40,7 @@ pub(crate) fn store(alloc: Global, both: Two) -> Result<Part, Memory>
 }
 
 /// The low byte of a hoisted word is stored at a hoisted address.
+#[inline(never)]
 pub(crate) fn store_byte(alloc: Global, both: Two) -> Result<Part, Memory>
     ensures { IfOk result (λ p. plain_part p ≡ canon.with_two tree.StoreByte (plain_two both)) }
 {
@@ -73,6 +77,7 @@ fn dropped(alloc: Global, x: Tx) -> Part
 }
 
 /// The value of a hoisted expression isn't wanted.
+#[inline(never)]
 pub(crate) fn drop_value(alloc: Global, a: Hoisted) -> Result<Part, Memory>
     ensures { IfOk result (λ p. plain_part p ≡ canon.with_one canon.dropped (plain_hoisted a)) }
 {
