@@ -59,27 +59,27 @@ pub if_ok : {A E : Type 0} {P Q : A → Type 0} (r : Result A E) → ((a : A) �
 if_ok (Ok a) f p = f a p
 if_ok (Err e) f p = p
 
-pub hoists_if : (out : ℕ → ℕ) {x y : CodeTx} {k l : ℕ} → x ≡ y → (r : Result CodeHoisted Memory) →
+pub hoists_if : (out : ℕ → ℕ) {x y : CodeTx} (k l : ℕ) → x ≡ y → (r : Result CodeHoisted Memory) →
     IfOk r (λ a. DrawsFrom (hoist out (plain_tx y)) k (plain_hoisted a) l) → IfOk r (λ a. DrawsFrom (hoist out (plain_tx x)) k (plain_hoisted a) l)
-hoists_if out e r p = if_ok r (λ a g. hoists_as out e g) p
+hoists_if out k l e r p = if_ok r (λ a g. hoists_as out e g) p
 
-pub tests_if : (out : ℕ → ℕ) {c d : CodeCond} {k l : ℕ} → c ≡ d → (r : Result CodeTested Memory) →
+pub tests_if : (out : ℕ → ℕ) {c d : CodeCond} (k l : ℕ) → c ≡ d → (r : Result CodeTested Memory) →
     IfOk r (λ t. DrawsFrom (condition out (plain_cond d)) k (plain_tested t) l) → IfOk r (λ t. DrawsFrom (condition out (plain_cond c)) k (plain_tested t) l)
-tests_if out e r p = if_ok r (λ t g. tests_as out e g) p
+tests_if out k l e r p = if_ok r (λ t g. tests_as out e g) p
 
-pub leaves_if : (out : ℕ → ℕ) (w : Bool) (n : ℕ) {c d : CodeCond} {k l : ℕ} → c ≡ d → (r : Result CodePart Memory) →
+pub leaves_if : (out : ℕ → ℕ) (w : Bool) (n : ℕ) {c d : CodeCond} (k l : ℕ) → c ≡ d → (r : Result CodePart Memory) →
     IfOk r (λ p. DrawsFrom (leave out w n (plain_cond d)) k (plain_part p) l) → IfOk r (λ p. DrawsFrom (leave out w n (plain_cond c)) k (plain_part p) l)
-leaves_if out w n e r p = if_ok r (λ q g. leaves_as out w n e g) p
+leaves_if out w n k l e r p = if_ok r (λ q g. leaves_as out w n e g) p
 
-pub goes_if : (out : ℕ → ℕ) {s t : CodeTs} {k l : ℕ} → s ≡ t → (r : Result CodePart Memory) →
+pub goes_if : (out : ℕ → ℕ) {s t : CodeTs} (k l : ℕ) → s ≡ t → (r : Result CodePart Memory) →
     IfOk r (λ p. DrawsFrom (linear out (plain_ts t)) k (plain_part p) l) → IfOk r (λ p. DrawsFrom (linear out (plain_ts s)) k (plain_part p) l)
-goes_if out e r p = if_ok r (λ q g. goes_as out e g) p
+goes_if out k l e r p = if_ok r (λ q g. goes_as out e g) p
 
-pub calls_if : (out : ℕ → ℕ) {x : CodeTx} (label : Label) (xs : CodeTxs) {k l : ℕ} → x ≡ Call label xs → (r : Result CodeHoisted Memory) →
+pub calls_if : (out : ℕ → ℕ) {x : CodeTx} (label : Label) (xs : CodeTxs) (k l : ℕ) → x ≡ Call label xs → (r : Result CodeHoisted Memory) →
     IfOk r (λ a. DrawsFrom (hoist out (tree.Call label.0 (txs_of xs.items.items))) k (plain_hoisted a) l) →
     IfOk r (λ a. DrawsFrom (hoist out (plain_tx x)) k (plain_hoisted a) l)
-calls_if out label xs e r p = if_ok r (λ a g. call_as out label xs e g) p
+calls_if out label xs k l e r p = if_ok r (λ a g. call_as out label xs e g) p
 
-pub sequences_if : (out : ℕ → ℕ) {s : CodeTs} (ss : CodeStms) {k l : ℕ} → s ≡ Seq ss → (r : Result CodePart Memory) →
+pub sequences_if : (out : ℕ → ℕ) {s : CodeTs} (ss : CodeStms) (k l : ℕ) → s ≡ Seq ss → (r : Result CodePart Memory) →
     IfOk r (λ p. DrawsFrom (linear out (tree.Seq (stms_of ss.items.items))) k (plain_part p) l) → IfOk r (λ p. DrawsFrom (linear out (plain_ts s)) k (plain_part p) l)
-sequences_if out ss e r p = if_ok r (λ q g. sequence_as out ss e g) p
+sequences_if out ss k l e r p = if_ok r (λ q g. sequence_as out ss e g) p

@@ -55,7 +55,6 @@ pub(crate) fn no_arguments(alloc: Global) -> Arguments
 }
 
 /// An expression after one more part.
-#[inline(never)]
 pub(crate) fn behind(alloc: Global, first: Part, a: Hoisted) -> Result<Hoisted, Memory>
     ensures { IfOk result (λ b.
         plain_hoisted b ≡ canon.behind (plain_part first) (plain_hoisted a)) }
@@ -85,7 +84,6 @@ fn is_effect(x: &Tx) -> bool
 }
 
 /// The word of a call or service is held.
-#[inline(never)]
 pub(crate) fn word(supply: &mut Supply, a: Hoisted) -> Result<Hoisted, Memory>
     ensures { IfOk result (λ b. DrawsFrom
         (canon.hold_effect (canon.is_effect (plain_tx a.rest)) (plain_hoisted a))
@@ -189,7 +187,6 @@ fn in_front_of(supply: &mut Supply, part: &Part, a: Hoisted) -> Result<Hoisted, 
 }
 
 /// Two expressions, of which the right one is hoisted before the left one.
-#[inline(never)]
 pub(crate) fn side_by_side(
     supply: &mut Supply,
     left: Hoisted,
@@ -208,7 +205,6 @@ pub(crate) fn side_by_side(
 }
 
 /// One more argument in front of the others.
-#[inline(never)]
 pub(crate) fn argument(
     supply: &mut Supply,
     first: Hoisted,
@@ -228,7 +224,6 @@ pub(crate) fn argument(
 }
 
 /// An operator over two hoisted expressions.
-#[inline(never)]
 pub(crate) fn operate(alloc: Global, op: Bin, both: Two) -> Result<Hoisted, Memory>
     ensures { IfOk result (λ a.
         plain_hoisted a ≡ canon.over_two (tree.Binary op) (plain_two both)) }
@@ -238,7 +233,6 @@ pub(crate) fn operate(alloc: Global, op: Bin, both: Two) -> Result<Hoisted, Memo
 }
 
 /// The word at a hoisted address.
-#[inline(never)]
 pub(crate) fn load_from(alloc: Global, a: Hoisted) -> Result<Hoisted, Memory>
     ensures { IfOk result (λ b. plain_hoisted b ≡ canon.over tree.Load (plain_hoisted a)) }
 {
@@ -247,7 +241,6 @@ pub(crate) fn load_from(alloc: Global, a: Hoisted) -> Result<Hoisted, Memory>
 }
 
 /// The byte at a hoisted address.
-#[inline(never)]
 pub(crate) fn load_byte_from(alloc: Global, a: Hoisted) -> Result<Hoisted, Memory>
     ensures { IfOk result (λ b. plain_hoisted b ≡ canon.over tree.LoadByte (plain_hoisted a)) }
 {
@@ -256,7 +249,6 @@ pub(crate) fn load_byte_from(alloc: Global, a: Hoisted) -> Result<Hoisted, Memor
 }
 
 /// A service with a hoisted argument.
-#[inline(never)]
 pub(crate) fn serve(alloc: Global, number: u32, a: Hoisted) -> Result<Hoisted, Memory>
     ensures { IfOk result (λ b.
         plain_hoisted b ≡ canon.over (tree.Service number) (plain_hoisted a)) }

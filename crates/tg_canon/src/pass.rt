@@ -43,7 +43,6 @@ fn descend(height: u32) -> Result<u32, Memory>
 // What is hoisted out of an expression, and what is left of it. Each kind of expression has a
 // function of its own, so that a walk into a part leaves only what it needs on the stack.
 #[cycle(canon)]
-#[inline(never)]
 fn hoist(x: Tx, supply: &mut Supply, breaks: &Breaks, height: u32) -> Result<Hoisted, Memory>
     ensures { IfOk result (λ a. DrawsFrom (canon.hoist (leads breaks.now) (plain_tx x))
         supply.old.next (plain_hoisted a) supply.new.next) }
@@ -64,7 +63,6 @@ fn hoist(x: Tx, supply: &mut Supply, breaks: &Breaks, height: u32) -> Result<Hoi
 }
 
 #[cycle(canon)]
-#[inline(never)]
 fn hoist_binary(
     op: Bin,
     x: Box<Tx>,
@@ -83,7 +81,6 @@ fn hoist_binary(
 }
 
 #[cycle(canon)]
-#[inline(never)]
 fn hoist_load(
     x: Box<Tx>,
     supply: &mut Supply,
@@ -99,7 +96,6 @@ fn hoist_load(
 }
 
 #[cycle(canon)]
-#[inline(never)]
 fn hoist_load_byte(
     x: Box<Tx>,
     supply: &mut Supply,
@@ -115,7 +111,6 @@ fn hoist_load_byte(
 }
 
 #[cycle(canon)]
-#[inline(never)]
 fn hoist_call(
     label: Label,
     xs: Txs,
@@ -132,7 +127,6 @@ fn hoist_call(
 }
 
 #[cycle(canon)]
-#[inline(never)]
 fn hoist_service(
     number: u32,
     x: Box<Tx>,
@@ -149,7 +143,6 @@ fn hoist_service(
 }
 
 #[cycle(canon)]
-#[inline(never)]
 fn hoist_after(
     s: Box<Ts>,
     x: Box<Tx>,
@@ -168,7 +161,6 @@ fn hoist_after(
 
 // The same, as a word.
 #[cycle(canon)]
-#[inline(never)]
 fn hoist_word(x: Tx, supply: &mut Supply, breaks: &Breaks, height: u32) -> Result<Hoisted, Memory>
     ensures { IfOk result (λ a. DrawsFrom (canon.word (canon.hoist (leads breaks.now) (plain_tx x)))
         supply.old.next (plain_hoisted a) supply.new.next) }
@@ -180,7 +172,6 @@ fn hoist_word(x: Tx, supply: &mut Supply, breaks: &Breaks, height: u32) -> Resul
 
 // Two words side by side, the right one hoisted first: this is no walk of its own into a part.
 #[cycle(canon)]
-#[inline(never)]
 fn hoist_both(
     left: Tx,
     right: Tx,
@@ -199,7 +190,6 @@ fn hoist_both(
 
 // A call's arguments, from the last to the first.
 #[cycle(canon)]
-#[inline(never)]
 fn hoist_all(
     mut xs: Txs,
     supply: &mut Supply,
@@ -221,7 +211,6 @@ fn hoist_all(
 
 // A condition that stays whole.
 #[cycle(canon)]
-#[inline(never)]
 fn condition(
     test: Cond,
     supply: &mut Supply,
@@ -241,7 +230,6 @@ fn condition(
 }
 
 #[cycle(canon)]
-#[inline(never)]
 fn comparison(
     rel: Rel,
     x: Box<Tx>,
@@ -260,7 +248,6 @@ fn comparison(
 }
 
 #[cycle(canon)]
-#[inline(never)]
 fn negation(
     c: Box<Cond>,
     supply: &mut Supply,
@@ -276,7 +263,6 @@ fn negation(
 }
 
 #[cycle(canon)]
-#[inline(never)]
 fn conjunction(
     c: Box<Cond>,
     d: Box<Cond>,
@@ -294,7 +280,6 @@ fn conjunction(
 }
 
 #[cycle(canon)]
-#[inline(never)]
 fn disjunction(
     c: Box<Cond>,
     d: Box<Cond>,
@@ -313,7 +298,6 @@ fn disjunction(
 
 // Leaves so many loops and one more where a condition comes out so, tested part by part.
 #[cycle(canon)]
-#[inline(never)]
 fn leave(
     test: Cond,
     supply: &mut Supply,
@@ -348,7 +332,6 @@ fn leave(
 }
 
 #[cycle(canon)]
-#[inline(never)]
 fn leave_where(
     rel: Rel,
     x: Box<Tx>,
@@ -370,7 +353,6 @@ fn leave_where(
 }
 
 #[cycle(canon)]
-#[inline(never)]
 fn leave_if_both(
     c: Box<Cond>,
     d: Box<Cond>,
@@ -383,7 +365,7 @@ fn leave_if_both(
         (tree.Both (plain_cond c.value) (plain_cond d.value)))
         supply.old.next (plain_part p) supply.new.next) }
 {
-    let inner = Breaks::Deeper(1, breaks);
+    let inner = Breaks::Deeper(1, &*breaks);
     let further = more_loops(loops, 1)?;
     let q = leave(Box::into_inner(d), supply, &inner, true, further, height)?;
     let p = leave(Box::into_inner(c), supply, &inner, false, 0, height)?;
@@ -392,7 +374,6 @@ fn leave_if_both(
 }
 
 #[cycle(canon)]
-#[inline(never)]
 fn leave_unless_both(
     c: Box<Cond>,
     d: Box<Cond>,
@@ -411,7 +392,6 @@ fn leave_unless_both(
 }
 
 #[cycle(canon)]
-#[inline(never)]
 fn leave_if_either(
     c: Box<Cond>,
     d: Box<Cond>,
@@ -430,7 +410,6 @@ fn leave_if_either(
 }
 
 #[cycle(canon)]
-#[inline(never)]
 fn leave_unless_either(
     c: Box<Cond>,
     d: Box<Cond>,
@@ -443,7 +422,7 @@ fn leave_unless_either(
         (tree.Either (plain_cond c.value) (plain_cond d.value)))
         supply.old.next (plain_part p) supply.new.next) }
 {
-    let inner = Breaks::Deeper(1, breaks);
+    let inner = Breaks::Deeper(1, &*breaks);
     let further = more_loops(loops, 1)?;
     let q = leave(Box::into_inner(d), supply, &inner, false, further, height)?;
     let p = leave(Box::into_inner(c), supply, &inner, true, 0, height)?;
@@ -453,7 +432,6 @@ fn leave_unless_either(
 
 // A statement in canonical form.
 #[cycle(canon)]
-#[inline(never)]
 fn linear(s: Ts, supply: &mut Supply, breaks: &Breaks, height: u32) -> Result<Part, Memory>
     ensures { IfOk result (λ p. DrawsFrom (canon.linear (leads breaks.now) (plain_ts s))
         supply.old.next (plain_part p) supply.new.next) }
@@ -477,7 +455,6 @@ fn linear(s: Ts, supply: &mut Supply, breaks: &Breaks, height: u32) -> Result<Pa
 }
 
 #[cycle(canon)]
-#[inline(never)]
 fn linear_move(
     temp: Temp,
     x: Tx,
@@ -494,7 +471,6 @@ fn linear_move(
 }
 
 #[cycle(canon)]
-#[inline(never)]
 fn linear_store(
     x: Tx,
     y: Tx,
@@ -511,7 +487,6 @@ fn linear_store(
 }
 
 #[cycle(canon)]
-#[inline(never)]
 fn linear_store_byte(
     x: Tx,
     y: Tx,
@@ -528,7 +503,6 @@ fn linear_store_byte(
 }
 
 #[cycle(canon)]
-#[inline(never)]
 fn linear_do(
     x: Tx,
     supply: &mut Supply,
@@ -544,7 +518,6 @@ fn linear_do(
 }
 
 #[cycle(canon)]
-#[inline(never)]
 fn linear_if(
     test: Cond,
     this: Box<Ts>,
@@ -565,7 +538,6 @@ fn linear_if(
 }
 
 #[cycle(canon)]
-#[inline(never)]
 fn choose_whole(
     test: Cond,
     this: Box<Ts>,
@@ -586,7 +558,6 @@ fn choose_whole(
 }
 
 #[cycle(canon)]
-#[inline(never)]
 fn choose_in_parts(
     test: Cond,
     this: Box<Ts>,
@@ -600,8 +571,8 @@ fn choose_in_parts(
         (tree.If (plain_cond test) (plain_ts this.value) (plain_ts other.value)))
         supply.old.next (plain_part p) supply.new.next) }
 {
-    let once = Breaks::Deeper(1, breaks);
-    let twice = Breaks::Deeper(2, breaks);
+    let once = Breaks::Deeper(1, &*breaks);
+    let twice = Breaks::Deeper(2, &*breaks);
     let q = linear(Box::into_inner(other), supply, &once, height)?;
     let p = linear(Box::into_inner(this), supply, &twice, height)?;
     let t = leave(test, supply, &twice, false, 0, height)?;
@@ -609,7 +580,6 @@ fn choose_in_parts(
 }
 
 #[cycle(canon)]
-#[inline(never)]
 fn linear_loop(
     s: Box<Ts>,
     supply: &mut Supply,
@@ -620,13 +590,12 @@ fn linear_loop(
         (canon.linear (leads breaks.now) (tree.Loop (plain_ts s.value)))
         supply.old.next (plain_part p) supply.new.next) }
 {
-    let inner = Breaks::Inside(breaks);
+    let inner = Breaks::Inside(&*breaks);
     let p = linear(Box::into_inner(s), supply, &inner, height)?;
     p.repeated(supply.alloc)
 }
 
 #[cycle(canon)]
-#[inline(never)]
 fn linear_return(
     x: Tx,
     supply: &mut Supply,
@@ -642,7 +611,6 @@ fn linear_return(
 }
 
 #[cycle(canon)]
-#[inline(never)]
 fn linear_sequence(
     ss: Stms,
     supply: &mut Supply,
@@ -659,7 +627,6 @@ fn linear_sequence(
 
 // Statements, from the last to the first.
 #[cycle(canon)]
-#[inline(never)]
 fn linear_all(
     mut ss: Stms,
     supply: &mut Supply,

@@ -11,7 +11,6 @@ use tg_base::{Memory, Temp};
 use tg_tree::{Bin, Ts, Tx};
 
 /// A temporary becomes the value of a hoisted expression.
-#[inline(never)]
 pub(crate) fn move_to(alloc: Global, temp: Temp, a: Hoisted) -> Result<Part, Memory>
     ensures { IfOk result (λ p. plain_part p ≡
         canon.with_one (λ v. canon.assigning temp.0 (tree.Move temp.0 v)) (plain_hoisted a)) }
@@ -21,7 +20,6 @@ pub(crate) fn move_to(alloc: Global, temp: Temp, a: Hoisted) -> Result<Part, Mem
 }
 
 /// The value of a hoisted expression is returned.
-#[inline(never)]
 pub(crate) fn return_of(alloc: Global, a: Hoisted) -> Result<Part, Memory>
     ensures { IfOk result (λ p. plain_part p ≡
         canon.with_one (λ v. canon.still (tree.Return v)) (plain_hoisted a)) }
@@ -31,7 +29,6 @@ pub(crate) fn return_of(alloc: Global, a: Hoisted) -> Result<Part, Memory>
 }
 
 /// A hoisted word is stored at a hoisted address.
-#[inline(never)]
 pub(crate) fn store(alloc: Global, both: Two) -> Result<Part, Memory>
     ensures { IfOk result (λ p. plain_part p ≡ canon.with_two tree.Store (plain_two both)) }
 {
@@ -40,7 +37,6 @@ pub(crate) fn store(alloc: Global, both: Two) -> Result<Part, Memory>
 }
 
 /// The low byte of a hoisted word is stored at a hoisted address.
-#[inline(never)]
 pub(crate) fn store_byte(alloc: Global, both: Two) -> Result<Part, Memory>
     ensures { IfOk result (λ p. plain_part p ≡ canon.with_two tree.StoreByte (plain_two both)) }
 {
@@ -77,7 +73,6 @@ fn dropped(alloc: Global, x: Tx) -> Part
 }
 
 /// The value of a hoisted expression isn't wanted.
-#[inline(never)]
 pub(crate) fn drop_value(alloc: Global, a: Hoisted) -> Result<Part, Memory>
     ensures { IfOk result (λ p. plain_part p ≡ canon.with_one canon.dropped (plain_hoisted a)) }
 {

@@ -54,7 +54,6 @@ pub(crate) fn is_whole(test: &Cond) -> bool
 }
 
 /// A comparison of two hoisted expressions.
-#[inline(never)]
 pub(crate) fn compare_both(alloc: Global, rel: Rel, operands: Two) -> Result<Tested, Memory>
     ensures { IfOk result (λ t.
         plain_tested t ≡ canon.compared (tree.Compare rel) (plain_two operands)) }
@@ -66,7 +65,6 @@ pub(crate) fn compare_both(alloc: Global, rel: Rel, operands: Two) -> Result<Tes
 
 impl Tested {
     /// The opposite.
-    #[inline(never)]
     pub(crate) fn opposite(self, alloc: Global) -> Result<Tested, Memory>
         ensures { IfOk result (λ t. plain_tested t ≡ canon.opposite (plain_tested self)) }
     {
@@ -75,7 +73,6 @@ impl Tested {
     }
 
     /// Whether this one and another hold.
-    #[inline(never)]
     pub(crate) fn and(self, alloc: Global, other: Tested) -> Result<Tested, Memory>
         ensures { IfOk result (λ t.
             plain_tested t ≡ canon.joined tree.Both (plain_tested self) (plain_tested other)) }
@@ -87,7 +84,6 @@ impl Tested {
     }
 
     /// Whether this one or another holds.
-    #[inline(never)]
     pub(crate) fn or(self, alloc: Global, other: Tested) -> Result<Tested, Memory>
         ensures { IfOk result (λ t.
             plain_tested t ≡ canon.joined tree.Either (plain_tested self) (plain_tested other)) }
@@ -99,7 +95,6 @@ impl Tested {
     }
 
     /// One of two statements, by the condition.
-    #[inline(never)]
     pub(crate) fn choose(self, alloc: Global, this: Part, other: Part) -> Result<Part, Memory>
         ensures { IfOk result (λ p. plain_part p ≡
             canon.choice (plain_tested self) (plain_part this) (plain_part other)) }
@@ -118,7 +113,6 @@ impl Tested {
 
     /// Leaves so many loops and one more where the condition comes out so, and goes on where it
     /// doesn't.
-    #[inline(never)]
     pub(crate) fn exit_where(self, alloc: Global, when: bool, loops: u32) -> Result<Part, Memory>
         ensures { IfOk result (λ p. plain_part p ≡
             canon.exit_where when loops (plain_tested self)) }
@@ -136,7 +130,6 @@ impl Tested {
 /// One of two statements, where a condition is tested part by part: the first one stands in two
 /// loops after the test, which leaves the inner one where it fails, and the second one in the
 /// outer one after that.
-#[inline(never)]
 pub(crate) fn choose_by_parts(
     alloc: Global,
     test: Part,

@@ -30,22 +30,22 @@ hoist-returns-in-FrameAddress t c =
     hoists_as (leads c.args.breaks.now) c.in-FrameAddress.is (frame_hoists (leads c.args.breaks.now) c.whole-in-FrameAddress.ensures)
 
 pub hoist-returns-in-Binary : goal.hoist-returns-in-Binary
-hoist-returns-in-Binary t c = hoists_if (leads c.args.breaks.now) c.in-Binary.is c.hoist_binary.result c.hoist_binary.ensures
+hoist-returns-in-Binary t c = hoists_if (leads c.args.breaks.now) _ _ c.in-Binary.is c.hoist_binary.result c.hoist_binary.ensures
 
 pub hoist-returns-in-Load : goal.hoist-returns-in-Load
-hoist-returns-in-Load t c = hoists_if (leads c.args.breaks.now) c.in-Load.is c.hoist_load.result c.hoist_load.ensures
+hoist-returns-in-Load t c = hoists_if (leads c.args.breaks.now) _ _ c.in-Load.is c.hoist_load.result c.hoist_load.ensures
 
 pub hoist-returns-in-LoadByte : goal.hoist-returns-in-LoadByte
-hoist-returns-in-LoadByte t c = hoists_if (leads c.args.breaks.now) c.in-LoadByte.is c.hoist_load_byte.result c.hoist_load_byte.ensures
+hoist-returns-in-LoadByte t c = hoists_if (leads c.args.breaks.now) _ _ c.in-LoadByte.is c.hoist_load_byte.result c.hoist_load_byte.ensures
 
 pub hoist-returns-in-Service : goal.hoist-returns-in-Service
-hoist-returns-in-Service t c = hoists_if (leads c.args.breaks.now) c.in-Service.is c.hoist_service.result c.hoist_service.ensures
+hoist-returns-in-Service t c = hoists_if (leads c.args.breaks.now) _ _ c.in-Service.is c.hoist_service.result c.hoist_service.ensures
 
 pub hoist-returns-in-After : goal.hoist-returns-in-After
-hoist-returns-in-After t c = hoists_if (leads c.args.breaks.now) c.in-After.is c.hoist_after.result c.hoist_after.ensures
+hoist-returns-in-After t c = hoists_if (leads c.args.breaks.now) _ _ c.in-After.is c.hoist_after.result c.hoist_after.ensures
 
 pub hoist-returns-in-Call : goal.hoist-returns-in-Call
-hoist-returns-in-Call t c = calls_if (leads c.args.breaks.now) c.in-Call.label c.in-Call.xs c.in-Call.is c.hoist_call.result c.hoist_call.ensures
+hoist-returns-in-Call t c = calls_if (leads c.args.breaks.now) c.in-Call.label c.in-Call.xs _ _ c.in-Call.is c.hoist_call.result c.hoist_call.ensures
 
 pub hoist_binary-returns : goal.hoist_binary-returns
 hoist_binary-returns t c = if_ok c.operate.result (λ _ e. binary_hoists (leads c.args.breaks.now) c.args.op (plain_tx c.args.x.value) (plain_tx c.args.y.value)
@@ -91,16 +91,16 @@ hoist_all-returns t c =
     ends_with c.loop-x.invariant (none_left c.loop-x.xs.items.items (sym c.loop-x.xs.items.ok.0 ∙ c.in_default.ensures.cases.0))
 
 pub condition-returns-in-Compare : goal.condition-returns-in-Compare
-condition-returns-in-Compare t c = tests_if (leads c.args.breaks.now) c.in-Compare.is c.comparison.result c.comparison.ensures
+condition-returns-in-Compare t c = tests_if (leads c.args.breaks.now) _ _ c.in-Compare.is c.comparison.result c.comparison.ensures
 
 pub condition-returns-in-Not : goal.condition-returns-in-Not
-condition-returns-in-Not t c = tests_if (leads c.args.breaks.now) c.in-Not.is c.negation.result c.negation.ensures
+condition-returns-in-Not t c = tests_if (leads c.args.breaks.now) _ _ c.in-Not.is c.negation.result c.negation.ensures
 
 pub condition-returns-in-Both : goal.condition-returns-in-Both
-condition-returns-in-Both t c = tests_if (leads c.args.breaks.now) c.in-Both.is c.conjunction.result c.conjunction.ensures
+condition-returns-in-Both t c = tests_if (leads c.args.breaks.now) _ _ c.in-Both.is c.conjunction.result c.conjunction.ensures
 
 pub condition-returns-in-Either : goal.condition-returns-in-Either
-condition-returns-in-Either t c = tests_if (leads c.args.breaks.now) c.in-Either.is c.disjunction.result c.disjunction.ensures
+condition-returns-in-Either t c = tests_if (leads c.args.breaks.now) _ _ c.in-Either.is c.disjunction.result c.disjunction.ensures
 
 pub comparison-returns : goal.comparison-returns
 comparison-returns t c = if_ok c.compare_both.result (λ _ e. compare_tests (leads c.args.breaks.now) c.args.rel (plain_tx c.args.x.value) (plain_tx c.args.y.value)
@@ -121,7 +121,7 @@ disjunction-returns t c = if_ok c.or.result (λ _ e. either_tests (leads c.args.
     (tests_as (leads c.args.breaks.now) (sym c.into_inner-2.ensures) c.in_ok-t.ensures) e) c.or.ensures
 
 pub leave-returns-in-Compare : goal.leave-returns-in-Compare
-leave-returns-in-Compare t c = leaves_if (leads c.args.breaks.now) c.args.when c.args.loops c.in-Compare.is c.leave_where.result c.leave_where.ensures
+leave-returns-in-Compare t c = leaves_if (leads c.args.breaks.now) c.args.when c.args.loops _ _ c.in-Compare.is c.leave_where.result c.leave_where.ensures
 
 pub leave-returns-in-Not : goal.leave-returns-in-Not
 leave-returns-in-Not t c = if_ok c.leave.result (λ _ e. leaves_as (leads c.args.breaks.now) c.args.when c.args.loops c.in-Not.is
@@ -154,28 +154,28 @@ leave_unless_either-returns t c = if_ok c.block.result (λ _ e. either_fails (le
     (leaves_as (deeper 1 (leads c.args.breaks.now)) true 0 (sym c.into_inner-2.ensures) c.in_ok-p.ensures) c.in_ok-both.ensures e) c.block.ensures
 
 pub linear-returns-in-Move : goal.linear-returns-in-Move
-linear-returns-in-Move t c = goes_if (leads c.args.breaks.now) c.in-Move.is c.linear_move.result c.linear_move.ensures
+linear-returns-in-Move t c = goes_if (leads c.args.breaks.now) _ _ c.in-Move.is c.linear_move.result c.linear_move.ensures
 
 pub linear-returns-in-Store : goal.linear-returns-in-Store
-linear-returns-in-Store t c = goes_if (leads c.args.breaks.now) c.in-Store.is c.linear_store.result c.linear_store.ensures
+linear-returns-in-Store t c = goes_if (leads c.args.breaks.now) _ _ c.in-Store.is c.linear_store.result c.linear_store.ensures
 
 pub linear-returns-in-StoreByte : goal.linear-returns-in-StoreByte
-linear-returns-in-StoreByte t c = goes_if (leads c.args.breaks.now) c.in-StoreByte.is c.linear_store_byte.result c.linear_store_byte.ensures
+linear-returns-in-StoreByte t c = goes_if (leads c.args.breaks.now) _ _ c.in-StoreByte.is c.linear_store_byte.result c.linear_store_byte.ensures
 
 pub linear-returns-in-Do : goal.linear-returns-in-Do
-linear-returns-in-Do t c = goes_if (leads c.args.breaks.now) c.in-Do.is c.linear_do.result c.linear_do.ensures
+linear-returns-in-Do t c = goes_if (leads c.args.breaks.now) _ _ c.in-Do.is c.linear_do.result c.linear_do.ensures
 
 pub linear-returns-in-If : goal.linear-returns-in-If
-linear-returns-in-If t c = goes_if (leads c.args.breaks.now) c.in-If.is c.linear_if.result c.linear_if.ensures
+linear-returns-in-If t c = goes_if (leads c.args.breaks.now) _ _ c.in-If.is c.linear_if.result c.linear_if.ensures
 
 pub linear-returns-in-Loop : goal.linear-returns-in-Loop
-linear-returns-in-Loop t c = goes_if (leads c.args.breaks.now) c.in-Loop.is c.linear_loop.result c.linear_loop.ensures
+linear-returns-in-Loop t c = goes_if (leads c.args.breaks.now) _ _ c.in-Loop.is c.linear_loop.result c.linear_loop.ensures
 
 pub linear-returns-in-Return : goal.linear-returns-in-Return
-linear-returns-in-Return t c = goes_if (leads c.args.breaks.now) c.in-Return.is c.linear_return.result c.linear_return.ensures
+linear-returns-in-Return t c = goes_if (leads c.args.breaks.now) _ _ c.in-Return.is c.linear_return.result c.linear_return.ensures
 
 pub linear-returns-in-Seq : goal.linear-returns-in-Seq
-linear-returns-in-Seq t c = sequences_if (leads c.args.breaks.now) c.in-Seq.ss c.in-Seq.is c.linear_sequence.result c.linear_sequence.ensures
+linear-returns-in-Seq t c = sequences_if (leads c.args.breaks.now) c.in-Seq.ss _ _ c.in-Seq.is c.linear_sequence.result c.linear_sequence.ensures
 
 pub linear_move-returns : goal.linear_move-returns
 linear_move-returns t c = if_ok c.move_to.result (λ _ e. move_goes (leads c.args.breaks.now) c.args.temp.0 (plain_tx c.args.x) c.in_ok-a.ensures e) c.move_to.ensures
