@@ -1,0 +1,3 @@
+pub mod glue
+pub mod laws
+pub mod mirror

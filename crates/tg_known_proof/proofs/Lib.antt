@@ -1,0 +1,9 @@
+pub mod Getting
+pub mod Holding
+pub mod Doing
+pub mod Stepping
+pub mod Landing
+pub mod Programs
+pub mod Quiet
+pub mod Kept
+pub mod Whole
