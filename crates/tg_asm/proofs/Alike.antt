@@ -1,7 +1,7 @@
 -- The second pass asks a layout only for places: of layouts that are alike it makes the same.
 use Rattle.std.proofs.Common.{◌≡◌, ◌+◌, ℕ, List, [], ◌∷◌, ◌++◌, length, Option, Some, None, Result, Ok, Err, refl, ap, ◌∙◌}
 use Rattle.std.specs.Prelude.{codes, slice_index_or}
-use Rattle.tg_state.specs.State.{statics_base}
+use Rattle.tg_machine_state.specs.State.{statics_base}
 use Rattle.tg_base.specs.Words.{add}
 use Rattle.tg_isa.specs.declared.mips.Mips.{Mips}
 use Rattle.tg_asm_text.specs.declared.keywords.AsmRule.{AsmRule}

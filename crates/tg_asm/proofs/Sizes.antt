@@ -6,7 +6,7 @@ use Rattle.std.proofs.lemmas.List.{length-replicate}
 use Rattle.tg_asm_text.specs.declared.keywords.AsmRule.{AsmRule}
 use Rattle.tg_asm_text.specs.Lines.{lines}
 use Rattle.tg_asm_text.specs.Items.{Item, Nothing, Section, Words, Data', Coded, Datum, Value, AddressOfLabel, Single, Bytes, Zeros, width, widths}
-use Rattle.tg_state.specs.State.{most_words, most_bytes}
+use Rattle.tg_machine_state.specs.State.{most_words, most_bytes}
 use Rattle.tg_asm_text.specs.Assembly.{Layout, LabelTarget, Reading, Made, blank, unmade, spot_of, add_label, add_new, add_one, add_labels, add_words}
 use Rattle.tg_asm_text.specs.Assembly.{add_data, add_item, add_reading, add_line, layout, round_up, word, make_words, label_address, datum_bytes, place_bytes}
 use Rattle.tg_asm_text.specs.Assembly.{make_data, pad, make_item, make_reading, make_line, make, reading}

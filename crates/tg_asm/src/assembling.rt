@@ -1,5 +1,5 @@
 ghost use Rattle.std.specs.Prelude.{◌≡◌, ◌≤◌, ◌==◌, IfOk, count_by, length};
-ghost use Rattle.tg_state.specs.State.{most_bytes, most_words};
+ghost use Rattle.tg_machine_state.specs.State.{most_bytes, most_words};
 ghost use Rattle.tg_asm_text.specs.Assembly as assembly;
 ghost use Rattle.tg_asm.specs.Images.{GivesImage};
 ghost use Rattle.tg_asm.specs.glue.Layouts.{layout_of};

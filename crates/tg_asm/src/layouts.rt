@@ -13,7 +13,7 @@ ghost use Rattle.std.specs.Prelude.{
   IfOk,
   Ok,
 };
-ghost use Rattle.tg_state.specs.State.{most_bytes};
+ghost use Rattle.tg_machine_state.specs.State.{most_bytes};
 ghost use Rattle.tg_asm_text.specs.Assembly as assembly;
 ghost use Rattle.tg_asm_text.specs.Items as items;
 ghost use Rattle.tg_asm.specs.glue.Cuts.{labels_of, operand_of};
@@ -59,7 +59,7 @@ use crate::spots::LabelTarget;
 use std::alloc::Global;
 use tg_asm_text::{AsmRule, Keyword, Segment};
 use tg_base::Memory;
-use tg_state::{MOST_BYTES, MOST_WORDS};
+use tg_machine_state::{MOST_BYTES, MOST_WORDS};
 
 /// More bytes than any segment takes.
 const CAP: u64 = 1099511627776;

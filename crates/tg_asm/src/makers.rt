@@ -11,7 +11,7 @@ use crate::spots::LabelTarget;
 use tg_asm_text::AsmRule;
 use tg_base::{add, mul};
 use tg_isa::{Bits, Mips, Reg, encode};
-use tg_state::{CODE_BASE, STATICS_BASE};
+use tg_machine_state::{CODE_BASE, STATICS_BASE};
 
 /// The place of a spot.
 pub(crate) fn address(layout: &Layout<'_>, spot: LabelTarget) -> u32

@@ -7,7 +7,7 @@ ghost use Rattle.tg_asm.specs.glue.Numbers.{signed_of};
 
 use crate::numbers::Signed;
 use tg_asm_text::{Keyword, Segment, Slot};
-use tg_state::MOST_BYTES;
+use tg_machine_state::MOST_BYTES;
 
 /// The item that a word is spelled as.
 fn spelled(text: &[u8]) -> Option<Keyword>

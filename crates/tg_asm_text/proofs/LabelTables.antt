@@ -4,7 +4,7 @@ use Rattle.std.proofs.Common.{◌≡◌, ◌≤◌, ◌+◌, ℕ, true, false, B
 use Rattle.std.proofs.Common.{subst, ◌∙◌, arith, append_assoc, length-append}
 use Rattle.std.specs.Str.{bytes_eq}
 use Rattle.std.proofs.lemmas.List.{map-append, get_or-append-add}
-use Rattle.tg_state.specs.State.{most_words, most_bytes}
+use Rattle.tg_machine_state.specs.State.{most_words, most_bytes}
 use Rattle.tg_asm_text.specs.declared.keywords.Segment.{Segment}
 use Rattle.tg_asm_text.specs.declared.keywords.Segment.TheVariants.{Code, Statics}
 use Rattle.tg_asm_text.specs.Items.{Item, Nothing, Section, Words, Data', widths}

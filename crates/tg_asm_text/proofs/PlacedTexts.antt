@@ -1,7 +1,7 @@
 -- A text whose lines are read without a fault is the image of its readings.
 use Rattle.std.specs.Prelude.{codes, nat_lt}
 use Rattle.std.proofs.Common.{◌≡◌, ◌<◌, ◌≤◌, ℕ, true, List, [], length, Option, Some, None, Ok, sym, ap, subst, ◌∙◌, arith, lt-ltb}
-use Rattle.tg_state.specs.State.{most_words}
+use Rattle.tg_machine_state.specs.State.{most_words}
 use Rattle.tg_asm_text.specs.declared.keywords.Segment.TheVariants.{Code}
 use Rattle.tg_asm_text.specs.Lines.{lines}
 use Rattle.tg_asm_text.specs.Assembly.{Reading, LabelTarget, InCode, InStatics, Layout, blank, spot_of, target_address, entry_at, entry_point, unmade, make}

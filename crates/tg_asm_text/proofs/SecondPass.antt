@@ -3,7 +3,7 @@ use Rattle.std.specs.Prelude.{◌-◌, ◌/◌, replicate, nat_lt, nat_le}
 use Rattle.std.proofs.Common.{◌≡◌, ◌≤◌, ◌+◌, ◌^◌, ℕ, suc, true, false, Bool, List, [], ◌∷◌, ◌++◌, length, Option, Some, None, Result, Ok, Err, refl}
 use Rattle.std.proofs.Common.{sym, ap, subst, ◌∙◌, arith, append_assoc, length-append, le-leb, lt-ltb, ltb-true, ltb-false}
 use Rattle.std.proofs.lemmas.List.{append-nil, length-replicate}
-use Rattle.tg_state.specs.State.{code_base}
+use Rattle.tg_machine_state.specs.State.{code_base}
 use Rattle.tg_isa.specs.declared.mips.Mips.{Mips}
 use Rattle.tg_asm_text.specs.declared.keywords.Segment.{Segment}
 use Rattle.tg_asm_text.specs.declared.keywords.AsmRule.{AsmRule}

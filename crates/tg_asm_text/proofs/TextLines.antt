@@ -5,7 +5,7 @@ use Rattle.std.proofs.Common.{subst, ◌∙◌, arith, append_assoc, le-leb, eqb
 use Rattle.std.specs.List.{All}
 use Rattle.std.specs.Fmt.{decimal}
 use Rattle.std.proofs.lemmas.List.{append-nil}
-use Rattle.tg_state.specs.State.{most_bytes}
+use Rattle.tg_machine_state.specs.State.{most_bytes}
 use Rattle.tg_asm_text.specs.declared.keywords.Keyword.{Keyword}
 use Rattle.tg_asm_text.specs.declared.keywords.Keyword.TheVariants as word
 use Rattle.tg_asm_text.specs.declared.keywords.Segment.{Segment}

@@ -4,7 +4,7 @@ use Rattle.std.specs.Prelude.{ℕ, ◌+◌, ◌-◌, ◌/◌, ◌%◌, ◌^◌, 
 use Rattle.std.specs.Prelude.{slice_index_or, ◌==◌, nat_le, nat_lt, if◌then◌else◌, codes, Option}
 use Rattle.std.specs.Prelude.{Some, None, Result, Ok, Err}
 use Rattle.std.specs.Str.{bytes_eq}
-use Rattle.tg_state.specs.State.{code_base, statics_base, most_words, most_bytes}
+use Rattle.tg_machine_state.specs.State.{code_base, statics_base, most_words, most_bytes}
 use Rattle.tg_base.specs.Words.{add, mul}
 use Rattle.tg_isa.specs.declared.mips.Mips.{Mips}
 use Rattle.tg_isa.specs.declared.mips.Mips.TheVariants as row

@@ -4,7 +4,7 @@ use Rattle.std.specs.Prelude.{ℕ, ◌+◌, ◌-◌, ◌*◌, ◌/◌, ◌%◌, 
 use Rattle.std.specs.Prelude.{◌++◌, length, map, replicate, AllPairs, if◌then◌else◌, codes, Option}
 use Rattle.std.specs.Prelude.{Some, None, Ok, IsSome}
 use Rattle.std.specs.Str.{bytes_eq}
-use Rattle.tg_state.specs.State.{code_base, statics_base, most_words, most_bytes}
+use Rattle.tg_machine_state.specs.State.{code_base, statics_base, most_words, most_bytes}
 use Rattle.tg_isa.specs.declared.mips.Mips.TheVariants as row
 use Rattle.tg_asm_text.specs.declared.keywords.Segment.{Segment}
 use Rattle.tg_asm_text.specs.declared.keywords.Segment.TheVariants.{Code, Statics}

@@ -3,7 +3,7 @@
 use Rattle.std.specs.Prelude.{ℕ, ◌^◌, ◌<◌, ◌≤◌, List, [], ◌∷◌, ◌++◌, length, map, All, Bool, false}
 use Rattle.std.specs.Prelude.{IsTrue, ◌==◌, ◌||◌, if◌then◌else◌, codes}
 use Rattle.std.specs.Fmt.{decimal}
-use Rattle.tg_state.specs.State.{most_bytes}
+use Rattle.tg_machine_state.specs.State.{most_bytes}
 use Rattle.tg_isa.specs.declared.mips.Mips.{Mips}
 use Rattle.tg_asm_text.specs.declared.keywords.Segment.{Segment}
 use Rattle.tg_asm_text.specs.declared.keywords.Segment.TheVariants.{Code, Statics}

@@ -1,6 +1,6 @@
 -- Statements that are done by parts, construct by construct.
 use Rattle.std.proofs.Common.{◌≡◌, ℕ, zero, suc, ◌+◌, ◌≤◌, Bool, true, false, Option, Some, None, if◌then◌else◌, refl, sym, ap, ◌∙◌, arith}
-use Rattle.tg_state.specs.declared.ends.RunEnd.TheVariants.{Break as Broken}
+use Rattle.tg_machine_state.specs.declared.ends.RunEnd.TheVariants.{Break as Broken}
 use Rattle.tg_simulation.specs.Ran.{Ended, Wrong}
 use Rattle.tg_simulation.proofs.Simulations.{simulates_stopping, simulates_wrong}
 use Rattle.tg_tree.specs.Tree.{Tx, Const, Address, Temp, FrameAddress, Binary, Load, LoadByte, Call, Service, After, Cond, Ts, Move, Do, If, Loop}

@@ -2,8 +2,8 @@
 use Rattle.std.proofs.Common.{◌≡◌, ℕ, zero, suc, ◌+◌, ◌<◌, ◌≤◌, List, [], ◌∷◌, map, refl, arith}
 use Rattle.std.specs.List.{Contains}
 use Rattle.std.specs.Prelude.{pos}
-use Rattle.tg_state.specs.declared.ends.RunEnd.TheVariants.{Exit}
-use Rattle.tg_state.specs.State.{stack_top}
+use Rattle.tg_machine_state.specs.declared.ends.RunEnd.TheVariants.{Exit}
+use Rattle.tg_machine_state.specs.State.{stack_top}
 use Rattle.tg_simulation.specs.Runs.{Run}
 use Rattle.tg_simulation.specs.Ran.{Ran, Ended, Wrong}
 use Rattle.tg_simulation.specs.Preserving.{Preserves}

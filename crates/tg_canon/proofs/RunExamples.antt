@@ -1,8 +1,8 @@
 -- Programs run before and after the pass, computed.
 use Rattle.std.proofs.Common.{◌≡◌, ℕ, ◌-◌, List, [], ◌∷◌, refl}
 use Rattle.std.specs.Prelude.{pos}
-use Rattle.tg_state.specs.declared.ends.RunEnd.TheVariants.{Exit}
-use Rattle.tg_state.specs.State.{stack_top}
+use Rattle.tg_machine_state.specs.declared.ends.RunEnd.TheVariants.{Exit}
+use Rattle.tg_machine_state.specs.State.{stack_top}
 use Rattle.tg_simulation.specs.Ran.{Ran, Stop, Ended}
 use Rattle.tg_tree.specs.declared.operators.Bin.TheVariants.{Add}
 use Rattle.tg_tree.specs.declared.operators.Rel.TheVariants.{Less, Equal}

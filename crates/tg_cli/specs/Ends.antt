@@ -1,8 +1,8 @@
 -- How the program ends.
 use Rattle.std.specs.Prelude.{◌≡◌, ◌⊎◌, ℕ, List, None}
 use Rattle.tg_base.specs.Causes.{Rose}
-use Rattle.tg_irc.specs.Policies.{least_use}
-use Rattle.tg_watch.specs.Watching.{Report}
+use Rattle.tg_irc_definition.specs.Policies.{least_use}
+use Rattle.tg_profiler.specs.Watching.{Report}
 use Rattle.tg_driver.specs.Calls.{Stream, stream_of, shelf_of, call_of}
 use Rattle.tg_driver.specs.Answered.{Answers}
 

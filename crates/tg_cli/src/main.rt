@@ -22,8 +22,8 @@ use std::io::{self, ErrorKind, Write};
 use std::process::ExitCode;
 use tg_base::{Sink, write_all};
 use tg_driver::{Tools, tiger, usage};
-use tg_irc::LeastUse;
-use tg_watch::{Coverage, Profile, Trace, Watcher};
+use tg_irc_definition::LeastUse;
+use tg_profiler::{Coverage, Profile, Trace, Watcher};
 
 fn main(rt: HostRuntime) -> ExitCode {
     ExitCode::from(status(&rt))

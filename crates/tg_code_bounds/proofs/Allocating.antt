@@ -3,8 +3,8 @@ use Rattle.std.proofs.Common.{◌+◌, ◌≡◌, ◌≢◌, ◌≤◌, List, []
 use Rattle.tg_tree.specs.Tree.{Tx, Call, Txs, no_txs, tx, Ts, Move, Do, Linear, Do', Function}
 use Rattle.tg_tree.specs.Units.{Canonical}
 use Rattle.tg_tree.specs.Sizes.{arguments_length, expression_length, statement_length, element_length, code_length, flat_length, flat_needs}
-use Rattle.tg_flatten_proof.specs.Flattened.{flattened}
-use Rattle.tg_flatten_proof.specs.laws.Laws as carried
+use Rattle.tg_canon_trace_proof.specs.Flattened.{flattened}
+use Rattle.tg_canon_trace_proof.specs.laws.Laws as carried
 use Rattle.tg_instr.specs.declared.operands.Opnd.{Opnd}
 use Rattle.tg_instr.specs.declared.instr.Instr.{Instr}
 use Rattle.tg_instr.specs.declared.instr.Instr.TheVariants as instr

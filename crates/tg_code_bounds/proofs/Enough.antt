@@ -1,8 +1,8 @@
 -- A function whose tree is small meets the conditions of the passes.
 use Rattle.std.proofs.Common.{arith}
 use Rattle.tg_canon.specs.laws.Meaning as canon
-use Rattle.tg_flatten_proof.specs.Flattened.{flattened}
-use Rattle.tg_flatten_proof.specs.laws.Laws as carried
+use Rattle.tg_canon_trace_proof.specs.Flattened.{flattened}
+use Rattle.tg_canon_trace_proof.specs.laws.Laws as carried
 use Rattle.tg_munch.specs.laws.Lengths.{InstructionsAreFew}
 use Rattle.tg_code_bounds.specs.laws.Conditions.{SmallIsEnough}
 

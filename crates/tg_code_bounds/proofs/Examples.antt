@@ -10,7 +10,7 @@ use Rattle.tg_tree.specs.Tree.{Ts, Function}
 use Rattle.tg_tree.specs.Sizes.{tree_length}
 use Rattle.tg_translate.specs.mirror.Scopes.{Findings}
 use Rattle.tg_translate.specs.mirror.Translate.{translated}
-use Rattle.tg_flatten_proof.specs.Flattened.{flattened}
+use Rattle.tg_canon_trace_proof.specs.Flattened.{flattened}
 use Rattle.tg_instr.specs.declared.operands.Opnd.TheVariants.{Reg}
 use Rattle.tg_instr.specs.declared.instr.Instr.{Instr}
 use Rattle.tg_instr.specs.declared.instr.Instr.TheVariants.{FrameLoad, FrameStore, FrameAddress, Address, Mark, Branch, Return}

@@ -9,10 +9,10 @@ use Rattle.std.proofs.lemmas.List.Elements.{All-weaker, All-contains_itself, rec
 use Rattle.std.proofs.lemmas.List.Sums.{sum_by-cons}
 use Rattle.tg_syntax.specs.Spans.{span_of}
 use Rattle.tg_syntax.specs.Functions.{Measures, program_functions, program_size}
-use Rattle.tg_types.specs.declared.faults.TypeRule.TheVariants.{T20, T21, T22}
-use Rattle.tg_types.specs.laws.Laws.{CheckedHasType}
-use Rattle.tg_types.specs.Limits.{above, first_above}
-use Rattle.tg_types.specs.Programs.{CheckedProgram, IsAccepted}
+use Rattle.tg_typecheck.specs.declared.faults.TypeRule.TheVariants.{T20, T21, T22}
+use Rattle.tg_typecheck.specs.laws.Laws.{CheckedHasType}
+use Rattle.tg_typecheck.specs.Limits.{above, first_above}
+use Rattle.tg_typecheck.specs.Programs.{CheckedProgram, IsAccepted}
 use Rattle.tg_escape.specs.Escaping.{escapes_of}
 use Rattle.tg_tree.specs.Tree.{Ts, Function}
 use Rattle.tg_tree.specs.Named.{temporary}
@@ -24,10 +24,10 @@ use Rattle.tg_translate.specs.mirror.Translate.{translated}
 use Rattle.tg_translate_laws.specs.laws.Laws.{names, findings_in, FunctionIsWithin, FunctionsAreWithin, CheckedBodiesAreClosed, CheckedTemporariesAreDrawn}
 use Rattle.tg_translate_laws.specs.laws.Laws.{CheckedFramesAreSmall}
 use Rattle.tg_translate_laws.proofs.Bounding.{within_limit}
-use Rattle.tg_flatten_proof.specs.Flattened.{MayBeFlattened}
+use Rattle.tg_canon_trace_proof.specs.Flattened.{MayBeFlattened}
 use Rattle.tg_instr.specs.declared.codes.Allocated.{Allocated}
 use Rattle.tg_instr.proofs.Tests.{all_at, both_hold}
-use Rattle.tg_irc.specs.Policies.{Rule}
+use Rattle.tg_irc_definition.specs.Policies.{Rule}
 use Rattle.tg_regalloc.specs.declared.allocations.Allocation.{Allocation}
 use Rattle.tg_regalloc.specs.Allocations.{codes_of}
 use Rattle.tg_emit.specs.mirror.Lines.{size_of, is_long, function_lines, functions_lines, literals_lines, words}

@@ -3,13 +3,13 @@ use Rattle.std.specs.Prelude.{◌≡◌, ◌<◌, ◌^◌, Bool, nat_lt, IsTrue}
 use Rattle.std.specs.List.{list_all}
 use Rattle.tg_frame.specs.declared.frames.Frame.{Frame}
 use Rattle.tg_tree.specs.Tree.{Ts, Function}
-use Rattle.tg_flatten_proof.specs.Flattened.{flattened}
+use Rattle.tg_canon_trace_proof.specs.Flattened.{flattened}
 use Rattle.tg_instr.specs.declared.codes.Code.{Code}
 use Rattle.tg_instr.specs.declared.codes.Allocated.{Allocated}
 use Rattle.tg_instr.specs.Codes.{is_allocated, names_registers}
 use Rattle.tg_munch.specs.mirror.Choosing.{Chosen}
 use Rattle.tg_munch.specs.mirror.Bodies.{munched, outs}
-use Rattle.tg_irc.specs.Policies.{Rule}
+use Rattle.tg_irc_definition.specs.Policies.{Rule}
 use Rattle.tg_regalloc.specs.declared.allocations.Allocation.{Allocation}
 use Rattle.tg_regalloc.specs.Allocations.{IsAllocation}
 use Rattle.tg_emit.specs.mirror.Lines.{size_of}

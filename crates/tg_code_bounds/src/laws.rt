@@ -9,12 +9,12 @@ ghost use Rattle.tg_code_bounds.specs.laws.Laws.{
   ProgramFramesAreSmall,
 };
 
-use tg_flatten_proof::flatten_is_bounded;
+use tg_canon_trace_proof::flatten_is_bounded;
 use tg_munch::munch_is_bounded;
 use tg_regalloc::{allocations_are_short, regalloc_is_bounded};
 use tg_runtime::routines_are_closed;
 use tg_translate_laws::{bodies_are_closed, temporaries_are_drawn, translate_is_bounded};
-use tg_types::checked_has_type;
+use tg_typecheck::checked_has_type;
 
 /// The law of the number of functions: twice as many, with their parameters, are at most the nodes
 /// of the program, and one more. For a declaration and its parameters are nodes of the body that

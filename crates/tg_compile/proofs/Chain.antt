@@ -6,7 +6,7 @@ use Rattle.std.specs.FinSet.{FinSet, from_list}
 use Rattle.std.specs.Ordering.{nat_cmp}
 use Rattle.std.proofs.lemmas.List.{map-append}
 use Rattle.tg_syntax.specs.Tree.{Exp}
-use Rattle.tg_types.specs.declared.notes.Note.{Note}
+use Rattle.tg_typecheck.specs.declared.notes.Note.{Note}
 use Rattle.tg_escape.specs.Escaping.{escapes_of}
 use Rattle.tg_escape.specs.Links.{links_of}
 use Rattle.tg_translate.specs.mirror.Scopes.{found}
@@ -25,21 +25,21 @@ use Rattle.tg_asm_text.specs.Texts.{readings_of}
 use Rattle.tg_instr.specs.declared.codes.Allocated.{Allocated}
 use Rattle.tg_instr.specs.declared.codes.Code.{Code as Instructions}
 use Rattle.tg_munch.specs.mirror.Bodies.{munched, outs}
-use Rattle.tg_irc.specs.Policies.{Rule}
+use Rattle.tg_irc_definition.specs.Policies.{Rule}
 use Rattle.tg_regalloc.specs.declared.allocations.Allocation.{Allocation}
 use Rattle.tg_regalloc.specs.Allocations.{codes_of}
 use Rattle.tg_canon.specs.mirror.Drawing.{Drawn, DrawsFrom}
 use Rattle.tg_canon.specs.mirror.Canon.{linearized}
-use Rattle.tg_trace.specs.Block.{Block}
-use Rattle.tg_trace.specs.mirror.Cutting.{blocks_of}
-use Rattle.tg_trace.specs.mirror.Laying.{traced}
+use Rattle.tg_trace_schedule.specs.Block.{Block}
+use Rattle.tg_trace_schedule.specs.mirror.Cutting.{blocks_of}
+use Rattle.tg_trace_schedule.specs.mirror.Laying.{traced}
 use Rattle.tg_emit.specs.mirror.Lines.{assembly_of}
 use Rattle.tg_emit.specs.mirror.Text.{text_of}
 use Rattle.tg_emit_laws.specs.Programs.{IsWholeProgram, AreTyped}
 use Rattle.tg_emit_laws.specs.Images.{program_written}
 use Rattle.tg_emit_laws.proofs.Soundness.{program_has_image}
 use Rattle.tg_compile.specs.declared.programs.Placement.{Placement}
-use Rattle.tg_flatten_proof.specs.Flattened.{flattened}
+use Rattle.tg_canon_trace_proof.specs.Flattened.{flattened}
 use Rattle.tg_code_bounds.specs.Allocating.{Chooses, IsAllocationOf}
 use Rattle.tg_compile.specs.Compiling.{fragments_of, CompileFunctions, HasImage, Compiles}
 use Rattle.tg_compile.specs.glue.Passes.{allocation_of, CompileApart}

@@ -7,7 +7,7 @@ use Rattle.std.proofs.lemmas.Bool.{lt-ltb, and_from, and_parts, or_left, or_righ
 use Rattle.std.proofs.lemmas.Bool.Decides.{eqb_tells, nat_tests}
 use Rattle.std.proofs.lemmas.List.Sums.{sum_by-cons}
 use Rattle.tg_base.specs.declared.ids.Label.{Label}
-use Rattle.tg_state.specs.State.{most_bytes, padded}
+use Rattle.tg_machine_state.specs.State.{most_bytes, padded}
 use Rattle.tg_tree.specs.declared.fragments.Literal.{Literal}
 use Rattle.tg_tree.specs.Tree as tree
 use Rattle.tg_tree.specs.Tree.{Ts, Function, Code}
@@ -21,17 +21,17 @@ use Rattle.tg_instr.specs.Renaming.{renamed}
 use Rattle.tg_translate_laws.specs.laws.Laws.{names}
 use Rattle.tg_canon.specs.laws.Laws as canon
 use Rattle.tg_canon.specs.mirror.Canon.{linearized}
-use Rattle.tg_trace.specs.laws.Laws as trace
+use Rattle.tg_trace_schedule.specs.laws.Laws as trace
 use Rattle.tg_munch.specs.Naming.{names_allowed}
 use Rattle.tg_munch.specs.laws.Laws as munch
-use Rattle.tg_irc.specs.Policies.{Rule}
+use Rattle.tg_irc_definition.specs.Policies.{Rule}
 use Rattle.tg_regalloc.specs.declared.allocations.Allocation.{Allocation}
 use Rattle.tg_regalloc.specs.laws.Explained.{IgnoresOperands, AllocationsKeepTests}
 use Rattle.tg_emit.specs.Conditions.{has_code, is_emittable}
 use Rattle.tg_emit_laws.specs.Programs.{IsWholeProgram, bytes_of, function_labels, literal_labels, is_among, labels_differ, names_those, calls_those}
 use Rattle.tg_code_bounds.specs.Allocating.{has_small_frame}
 use Rattle.tg_compile.specs.declared.programs.Placement.{Placement}
-use Rattle.tg_flatten_proof.specs.Flattened.{flattened}
+use Rattle.tg_canon_trace_proof.specs.Flattened.{flattened}
 use Rattle.tg_code_bounds.specs.Allocating.{IsAllocationOf}
 use Rattle.tg_compile.specs.glue.Passes.{CompileApart, allocation_of, is_there, have_codes, CodeNamesNoMore, AreLinked, AreSmall}
 

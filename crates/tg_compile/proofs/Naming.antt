@@ -11,7 +11,7 @@ use Rattle.tg_munch.specs.Naming as munch
 use Rattle.tg_munch.specs.laws.Laws.{RegistersAreFixed, SlotsAreBelow}
 use Rattle.tg_instr.specs.Codes.{has_register, names_registers}
 use Rattle.tg_regalloc.specs.Conditions.{is_fixed}
-use Rattle.tg_flatten_proof.specs.Flattened.{flattened}
+use Rattle.tg_canon_trace_proof.specs.Flattened.{flattened}
 use Rattle.tg_code_bounds.specs.Allocating.{chosen}
 use Rattle.tg_compile.specs.glue.Passes.{CodeNamesItsOwn}
 

@@ -3,7 +3,7 @@ use Rattle.std.proofs.Common.{subst}
 use Rattle.std.specs.Prelude.{map}
 use Rattle.std.specs.List.{zip}
 use Rattle.std.specs.FinSet.{from_list}
-use Rattle.tg_types.specs.Programs.{CheckedProgram, IsAccepted}
+use Rattle.tg_typecheck.specs.Programs.{CheckedProgram, IsAccepted}
 use Rattle.tg_escape.specs.Links.{links_of}
 use Rattle.tg_code_bounds.specs.laws.Laws.{AreAllocationsOf, ProgramCodeFits, ProgramFramesAreSmall}
 use Rattle.tg_compile.specs.Compiling.{fragments_of}

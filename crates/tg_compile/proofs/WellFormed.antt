@@ -7,7 +7,7 @@ use Rattle.std.proofs.lemmas.List.{get_or-map, length-map}
 use Rattle.std.proofs.lemmas.Bool.{lt-ltb, ltb-true, and_parts}
 use Rattle.std.proofs.lemmas.List.Elements.{All-append, All-weaker, All-contains, All-contains_itself}
 use Rattle.std.proofs.lemmas.List.Sums.{AllPass-from_list_all}
-use Rattle.tg_types.specs.Programs.{CheckedProgram, IsAccepted}
+use Rattle.tg_typecheck.specs.Programs.{CheckedProgram, IsAccepted}
 use Rattle.tg_escape.specs.Escaping.{escapes_of}
 use Rattle.tg_escape.specs.Links.{links_of}
 use Rattle.tg_tree.specs.declared.fragments.Fragment.{Fragment}
@@ -21,9 +21,9 @@ use Rattle.tg_runtime.specs.mirror.Routines.{runtime}
 use Rattle.tg_translate_laws.specs.laws.Laws.{names, CheckedBodiesAreClosed, CheckedTemporariesAreDrawn, CheckedFramesAreSmall}
 use Rattle.tg_canon.specs.laws.Laws.{GivesClosed, AreTempsBelow, TempsStay}
 use Rattle.tg_canon.specs.mirror.Canon.{linearized}
-use Rattle.tg_trace.specs.laws.Laws as trace
-use Rattle.tg_trace.specs.mirror.Cutting.{blocks_of}
-use Rattle.tg_flatten_proof.specs.Flattened.{flattened}
+use Rattle.tg_trace_schedule.specs.laws.Laws as trace
+use Rattle.tg_trace_schedule.specs.mirror.Cutting.{blocks_of}
+use Rattle.tg_canon_trace_proof.specs.Flattened.{flattened}
 use Rattle.tg_compile.specs.Compiling.{findings_of, fragments_of}
 use Rattle.tg_compile.specs.glue.Passes.{IsWellFormed, FlatCodeIsWellMarked}
 

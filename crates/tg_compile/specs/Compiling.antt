@@ -2,9 +2,9 @@
 use Rattle.std.specs.Prelude.{◌≡◌, ◌≤◌, ℕ, List, length, map, Ok}
 use Rattle.std.specs.List.{AllZip, sum_by}
 use Rattle.std.specs.FinSet.{from_list}
-use Rattle.tg_state.specs.State.{most_bytes, padded}
+use Rattle.tg_machine_state.specs.State.{most_bytes, padded}
 use Rattle.tg_syntax.specs.Tree.{Exp}
-use Rattle.tg_types.specs.declared.notes.Note.{Note}
+use Rattle.tg_typecheck.specs.declared.notes.Note.{Note}
 use Rattle.tg_escape.specs.Escaping.{escapes_of}
 use Rattle.tg_escape.specs.Links.{links_of}
 use Rattle.tg_tree.specs.declared.fragments.Literal.{Literal}
@@ -14,7 +14,7 @@ use Rattle.tg_translate.specs.mirror.Scopes.{Findings, found}
 use Rattle.tg_translate.specs.mirror.Translate.{translated}
 use Rattle.tg_translate_laws.specs.Programs.{with_runtime}
 use Rattle.tg_asm_text.specs.Assembly.{Assembled, assembled}
-use Rattle.tg_irc.specs.Policies.{Rule}
+use Rattle.tg_irc_definition.specs.Policies.{Rule}
 use Rattle.tg_regalloc.specs.declared.allocations.Allocation.{Allocation}
 use Rattle.tg_regalloc.specs.Allocations.{codes_of}
 use Rattle.tg_code_bounds.specs.Allocating.{IsAllocationOf}

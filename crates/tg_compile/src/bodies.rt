@@ -1,7 +1,7 @@
 ghost use Rattle.std.specs.Prelude.{◌≡◌, IfOk};
 ghost use Rattle.tg_tree.specs.glue.Lists.{code_of};
 ghost use Rattle.tg_tree.specs.glue.Plain.{plain_fragment, plain_function, plain_ts};
-ghost use Rattle.tg_flatten_proof.specs.Flattened.{flattened};
+ghost use Rattle.tg_canon_trace_proof.specs.Flattened.{flattened};
 ghost use Rattle.tg_code_bounds.specs.Allocating.{Chooses, IsAllocationOf};
 ghost use Rattle.tg_compile.specs.glue.Passes.{IsWellFormed};
 
@@ -11,10 +11,10 @@ use tg_base::Memory;
 use tg_canon::linearize;
 use tg_frame::Frame;
 use tg_instr::Code;
-use tg_irc::SpillPolicy;
+use tg_irc_definition::SpillPolicy;
 use tg_munch::munch;
 use tg_regalloc::{Allocation, allocate};
-use tg_trace::{blocks, trace};
+use tg_trace_schedule::{blocks, trace};
 use tg_tree::{Fragment, Linear, Ts};
 
 /// The code of a function over registers; what is spilled is the policy's choice. After `Memory`

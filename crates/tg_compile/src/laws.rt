@@ -14,9 +14,9 @@ use tg_code_bounds::programs_are_bounded;
 use tg_munch::code_names_its_own;
 use tg_regalloc::allocations_keep_tests;
 use tg_runtime::routines_are_closed;
-use tg_trace::{blocks_are_well_formed, code_is_well_formed};
+use tg_trace_schedule::{blocks_are_well_formed, code_is_well_formed};
 use tg_translate_laws::{bodies_are_closed, temporaries_are_drawn, translate_is_bounded};
-use tg_types::Checked;
+use tg_typecheck::Checked;
 
 /// Each function of a checked program, and of the runtime, is well formed.
 pub(crate) fn functions_are_well_formed(checked: &Checked)
@@ -39,7 +39,7 @@ pub(crate) fn flat_code_is_well_marked()
     tg_canon::names_stay();
     blocks_are_well_formed();
     code_is_well_formed();
-    tg_trace::names_stay();
+    tg_trace_schedule::names_stay();
 }
 
 /// The law that the instructions of a function name registers and slots that they may name before
@@ -56,7 +56,7 @@ pub(crate) fn code_names_no_more()
     ensures { CodeNamesNoMore }
 {
     tg_canon::names_stay();
-    tg_trace::names_stay();
+    tg_trace_schedule::names_stay();
     code_names_its_own();
     allocations_keep_tests();
 }

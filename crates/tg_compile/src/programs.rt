@@ -1,6 +1,6 @@
 ghost use Rattle.std.specs.Prelude.{◌≡◌, ◌≤◌, All, IfOk, map};
 ghost use Rattle.std.specs.List.{zip};
-ghost use Rattle.tg_state.specs.State.{most_bytes};
+ghost use Rattle.tg_machine_state.specs.State.{most_bytes};
 ghost use Rattle.tg_syntax.specs.glue.Plain.{plain};
 ghost use Rattle.tg_tree.specs.glue.Plain.{plain_fragment, plain_fragments};
 ghost use Rattle.tg_tree.specs.Named.{IsLinked};
@@ -25,13 +25,13 @@ use tg_base::Memory;
 use tg_emit::{emit, text};
 use tg_escape::escapes;
 use tg_instr::Allocated;
-use tg_irc::SpillPolicy;
+use tg_irc_definition::SpillPolicy;
 use tg_regalloc::{Allocation, Locations, Rounds};
 use tg_runtime::runtime;
 use tg_translate::translate;
 use tg_translate_laws::programs_are_linked;
 use tg_tree::{Fragment, Fragments, Literal};
-use tg_types::Checked;
+use tg_typecheck::Checked;
 
 /// What an allocation tells besides its code.
 #[derive(Drop)]

@@ -3,22 +3,22 @@ use Rattle.std.proofs.Common.{ℕ, ◌≡◌, ◌≤◌, ◌+◌, ◌*◌, ◌-�
 use Rattle.std.proofs.Common.{sym, subst, arith}
 use Rattle.std.specs.Prelude.{IsTrue, if◌then◌else◌}
 use Rattle.std.specs.List.{AllZip, list_all}
-use Rattle.tg_state.specs.State.{stack_top}
+use Rattle.tg_machine_state.specs.State.{stack_top}
 use Rattle.tg_simulation.specs.Preserving.{Preserves}
 use Rattle.tg_frame.specs.Homes.{slot_bound}
 use Rattle.tg_tree.specs.Tree.{Ts, Function}
 use Rattle.tg_tree.specs.Running.{function_of}
 use Rattle.tg_canon.specs.laws.Meaning.{canonical}
-use Rattle.tg_trace.specs.laws.Carried.{in_blocks}
-use Rattle.tg_trace.specs.laws.Traced.{laid}
-use Rattle.tg_flatten_proof.specs.Flattened.{flattened}
+use Rattle.tg_trace_schedule.specs.laws.Carried.{in_blocks}
+use Rattle.tg_trace_schedule.specs.laws.Traced.{laid}
+use Rattle.tg_canon_trace_proof.specs.Flattened.{flattened}
 use Rattle.tg_instr.specs.declared.instr.Instr.{Instr}
 use Rattle.tg_instr.specs.declared.instr.Instr.TheVariants as instr
 use Rattle.tg_instr.specs.declared.codes.Allocated.{Allocated}
 use Rattle.tg_instr.specs.Codes.{names_registers}
 use Rattle.tg_instr.specs.Running.{everywhere, code_run}
 use Rattle.tg_munch_proof.specs.laws.Chosen.{chosen}
-use Rattle.tg_irc.specs.Policies.{Rule}
+use Rattle.tg_irc_definition.specs.Policies.{Rule}
 use Rattle.tg_regalloc_proof.specs.Keeping.{AreHeld, Surroundings}
 use Rattle.tg_regalloc.specs.declared.allocations.Allocation.{Allocation}
 use Rattle.tg_regalloc.specs.Conditions.{is_fixed}

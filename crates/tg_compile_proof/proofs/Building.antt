@@ -8,14 +8,14 @@ use Rattle.tg_syntax_laws.proofs.NamesKnown.{all_named}
 use Rattle.tg_syntax_laws.proofs.Standing.{tokens_stand}
 use Rattle.tg_syntax_laws.proofs.Orders.{apart}
 use Rattle.tg_syntax_laws.proofs.Begun.{in_order}
-use Rattle.tg_types.specs.Programs.{CheckedProgram, IsAccepted}
+use Rattle.tg_typecheck.specs.Programs.{CheckedProgram, IsAccepted}
 use Rattle.tg_literal_bounds.specs.laws.Laws.{TreesAreOfWords}
-use Rattle.tg_irc.specs.Policies.{Rule as SpillRule}
+use Rattle.tg_irc_definition.specs.Policies.{Rule as SpillRule}
 use Rattle.tg_regalloc.specs.declared.allocations.Allocation.{Allocation}
 use Rattle.tg_compile_proof.specs.laws.Laws.{CompileIsCorrect}
-use Rattle.tg_correct.specs.Sources.{HasTree}
+use Rattle.tg_correctness.specs.Sources.{HasTree}
 use Rattle.tg_compile_proof.specs.Builds.{CompilesTo}
-use Rattle.tg_correct.specs.Assemblies.{IsAsMeant}
+use Rattle.tg_correctness.specs.Assemblies.{IsAsMeant}
 use Rattle.tg_compile_proof.specs.laws.TextLaws.{BuildIsCorrect}
 
 -- a text's tree is typed under the conditions that the check asks for

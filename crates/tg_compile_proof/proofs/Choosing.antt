@@ -3,7 +3,7 @@ use Rattle.std.proofs.Common.{ℕ, zero, suc, ◌≡◌, ◌<◌, ◌≤◌, ◌
 use Rattle.std.proofs.Common.{get_or, refl, sym, ap, ◌∙◌, subst, arith}
 use Rattle.std.specs.Prelude.{All}
 use Rattle.std.specs.List.{Contains}
-use Rattle.tg_state.specs.State.{stack_top, statics_base, heap_base, padded}
+use Rattle.tg_machine_state.specs.State.{stack_top, statics_base, heap_base, padded}
 use Rattle.tg_simulation.specs.Bytes.{AreBytes}
 use Rattle.tg_frame.specs.Homes.{slot_bound, temp_bound}
 use Rattle.tg_tree.specs.declared.fragments.Literal.{Literal}
@@ -14,9 +14,9 @@ use Rattle.tg_tree.specs.glue.Plain.{plain_literal}
 use Rattle.tg_tree.specs.Named.{named_ts, HasWords}
 use Rattle.tg_tree.specs.FrameSizes.{IsSizeOf}
 use Rattle.tg_canon.specs.laws.Meaning.{canonical}
-use Rattle.tg_trace.specs.laws.Carried.{in_blocks}
-use Rattle.tg_trace.specs.laws.Traced.{laid}
-use Rattle.tg_flatten_proof.specs.Flattened.{flattened}
+use Rattle.tg_trace_schedule.specs.laws.Carried.{in_blocks}
+use Rattle.tg_trace_schedule.specs.laws.Traced.{laid}
+use Rattle.tg_canon_trace_proof.specs.Flattened.{flattened}
 use Rattle.tg_emit.specs.Ranges.{LiteralFits}
 use Rattle.tg_munch_proof.specs.laws.Chosen.{chosen, MayBeChosen, HasRoom, MunchKeepsWords}
 use Rattle.tg_compile_proof.specs.laws.Lowering.{MayBeLowered, FlatCodeMayBeChosen}

@@ -8,9 +8,9 @@ use Rattle.std.proofs.lemmas.List.{get_or-map, length-map}
 use Rattle.tg_tree.specs.Tree.{Ts, Function}
 use Rattle.tg_tree.specs.FrameSizes.{IsSizeOf}
 use Rattle.tg_canon.specs.laws.Meaning.{canonical}
-use Rattle.tg_trace.specs.laws.Carried.{in_blocks}
-use Rattle.tg_trace.specs.laws.Traced.{laid}
-use Rattle.tg_flatten_proof.specs.Flattened.{flattened}
+use Rattle.tg_trace_schedule.specs.laws.Carried.{in_blocks}
+use Rattle.tg_trace_schedule.specs.laws.Traced.{laid}
+use Rattle.tg_canon_trace_proof.specs.Flattened.{flattened}
 use Rattle.tg_instr.specs.declared.instr.Instr.{Instr}
 use Rattle.tg_instr.specs.declared.codes.Allocated.{Allocated}
 use Rattle.tg_instr.specs.Codes.{is_allocated, names_registers, has_registers_alone, is_of_colours}
@@ -18,7 +18,7 @@ use Rattle.tg_instr.proofs.Tests.{left_holds, right_holds, both_hold}
 use Rattle.tg_instr.proofs.Colours.{of_colours}
 use Rattle.tg_munch.specs.mirror.Bodies.{outs}
 use Rattle.tg_munch_proof.specs.laws.Chosen.{chosen}
-use Rattle.tg_irc.specs.Policies.{Rule}
+use Rattle.tg_irc_definition.specs.Policies.{Rule}
 use Rattle.tg_regalloc.specs.declared.allocations.Allocation.{Allocation}
 use Rattle.tg_regalloc.specs.Allocations.{codes_of}
 use Rattle.tg_emit.specs.mirror.Lines.{size_of}

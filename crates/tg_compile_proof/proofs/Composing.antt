@@ -2,25 +2,25 @@
 use Rattle.std.proofs.Common.{ℕ, ◌-◌, ap, ◌∙◌}
 use Rattle.std.specs.Prelude.{All}
 use Rattle.std.proofs.lemmas.List.Elements.{All-contains}
-use Rattle.tg_state.specs.State.{initial_machine, stack_top}
+use Rattle.tg_machine_state.specs.State.{initial_machine, stack_top}
 use Rattle.tg_semantics.specs.laws.Laws.{FormsAgree}
 use Rattle.tg_semantics.specs.Passing.{evaluate_passing}
 use Rattle.tg_semantics.specs.MachineEnds.{program_run, NoEndingIsFull, OnlyStuckIsStuck}
-use Rattle.tg_types.specs.Programs.{CheckedProgram, IsAccepted}
-use Rattle.tg_types.specs.laws.Laws.{IsNeverStuck}
+use Rattle.tg_typecheck.specs.Programs.{CheckedProgram, IsAccepted}
+use Rattle.tg_typecheck.specs.laws.Laws.{IsNeverStuck}
 use Rattle.tg_asm_text.specs.Assembly.{Assembled, assembled}
 use Rattle.tg_isa.specs.ImageRuns.{MachineStaysOver}
 use Rattle.tg_tree.specs.Tree.{Ts, Function}
 use Rattle.tg_tree.specs.Units.{Trees}
 use Rattle.tg_tree.specs.laws.Laws.{TreesStayOver}
-use Rattle.tg_flatten_proof.specs.laws.Laws.{FlattenIsCorrect}
-use Rattle.tg_flatten_proof.specs.Flattened.{MayBeFlattened}
+use Rattle.tg_canon_trace_proof.specs.laws.Laws.{FlattenIsCorrect}
+use Rattle.tg_canon_trace_proof.specs.Flattened.{MayBeFlattened}
 use Rattle.tg_emit_laws.specs.Images.{ProgramHasImage}
 use Rattle.tg_compile.specs.Compiling.{fragments_of}
 use Rattle.tg_compile.specs.glue.Passes.{IsWellFormed}
 use Rattle.tg_emit_proof.specs.laws.Emission.{FitRegions, EmitIsCorrect, emitted_image}
-use Rattle.tg_correct.specs.laws.Laws.{PassesAgree, AgreementIsMeant}
-use Rattle.tg_correct.specs.Images.{AreSizes}
+use Rattle.tg_correctness.specs.laws.Laws.{PassesAgree, AgreementIsMeant}
+use Rattle.tg_correctness.specs.Images.{AreSizes}
 use Rattle.tg_compile_proof.specs.Forms.{Compilation, IsCompiled, registers, frames, tree_form, flat_form}
 use Rattle.tg_compile_proof.specs.Forms.{instruction_form, register_form, machine_form}
 use Rattle.tg_compile_proof.specs.laws.Laws.{CompiledMayRun, ChoiceIsKept, AllocationIsKept, CompiledAgrees}

@@ -6,10 +6,10 @@ use Rattle.tg_syntax.specs.Functions.{program_functions, program_size}
 use Rattle.tg_syntax.specs.Measures.{size, inner}
 use Rattle.tg_syntax.specs.Spans.{span_of}
 use Rattle.tg_syntax.proofs.FunctionLaws.{program_size_is}
-use Rattle.tg_types.specs.declared.faults.TypeRule.TheVariants.{T22}
-use Rattle.tg_types.specs.Limits.{first_above}
-use Rattle.tg_types.specs.Programs.{CheckedProgram, IsAccepted}
-use Rattle.tg_types.specs.laws.Laws.{CheckedHasType}
+use Rattle.tg_typecheck.specs.declared.faults.TypeRule.TheVariants.{T22}
+use Rattle.tg_typecheck.specs.Limits.{first_above}
+use Rattle.tg_typecheck.specs.Programs.{CheckedProgram, IsAccepted}
+use Rattle.tg_typecheck.specs.laws.Laws.{CheckedHasType}
 use Rattle.tg_escape.specs.Escaping.{escapes_of}
 use Rattle.tg_escape.specs.Links.{links_of}
 use Rattle.tg_runtime.specs.laws.Laws.{RuntimeHasWords}

@@ -1,18 +1,18 @@
 -- The end of a run is as its program means, by what the run's progress tells.
 use Rattle.std.proofs.Common.{◌≡◌, ℕ, ◌⊎◌, inl, inr, sym, subst}
-use Rattle.tg_state.specs.declared.ends.RunEnd.{RunEnd}
-use Rattle.tg_state.specs.declared.ends.RunEnd.TheVariants.{Exit, Break, Overflow, HeapFull, StackFull, StepLimit}
-use Rattle.tg_state.specs.declared.ends.RunEnd.TheVariants.{BadAddress, Unaligned, BadWord, BadService}
-use Rattle.tg_state.specs.declared.ends.RunEnd.TheVariants.{ReadFault, WriteFault}
+use Rattle.tg_machine_state.specs.declared.ends.RunEnd.{RunEnd}
+use Rattle.tg_machine_state.specs.declared.ends.RunEnd.TheVariants.{Exit, Break, Overflow, HeapFull, StackFull, StepLimit}
+use Rattle.tg_machine_state.specs.declared.ends.RunEnd.TheVariants.{BadAddress, Unaligned, BadWord, BadService}
+use Rattle.tg_machine_state.specs.declared.ends.RunEnd.TheVariants.{ReadFault, WriteFault}
 use Rattle.tg_simulation.specs.Outcomes.{ended, Outcome}
 use Rattle.tg_semantics.specs.Values.{Ending, normal, by_nil, by_index, by_division, by_chr}
 use Rattle.tg_semantics.specs.Values.{by_substring, by_size, by_heap, by_overflow, by_exit}
 use Rattle.tg_semantics.specs.MachineEnds.{machine_end}
 use Rattle.tg_semantics.specs.Direct.{evaluate}
 use Rattle.tg_isa.specs.Runs.{Execution, Progress, Ended}
-use Rattle.tg_correct.specs.Images.{EndsAs, IsCutShort}
-use Rattle.tg_correct.specs.laws.EndLaws.{TellsMeaning, EndsTellMeaning}
-use Rattle.tg_correct.specs.Ends.{EndsSo, EndIsMeant}
+use Rattle.tg_correctness.specs.Images.{EndsAs, IsCutShort}
+use Rattle.tg_correctness.specs.laws.EndLaws.{TellsMeaning, EndsTellMeaning}
+use Rattle.tg_correctness.specs.Ends.{EndsSo, EndIsMeant}
 use Rattle.tg_compile_proof.specs.laws.TextLaws.{EndedIsMeant, RunningIsMeant}
 
 -- an end of the machine that may stand for an ending

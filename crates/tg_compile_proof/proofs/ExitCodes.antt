@@ -16,8 +16,8 @@ use Rattle.tg_semantics.specs.Direct.{found, changed, direct, begin, outcome, ev
 use Rattle.tg_translate_laws.specs.Strings.{strings}
 use Rattle.tg_translate_laws.proofs.Fine.{Each, each_append}
 use Rattle.tg_literal_bounds.specs.laws.Laws.{IsTextOf, TreesAreOfWords, StringsAreShort}
-use Rattle.tg_correct.specs.Images.{AreSizes}
-use Rattle.tg_correct.specs.Sources.{IsSourceOf}
+use Rattle.tg_correctness.specs.Images.{AreSizes}
+use Rattle.tg_correctness.specs.Sources.{IsSourceOf}
 use Rattle.tg_compile_proof.specs.laws.TextLaws.{ExitsAreWords}
 use Rattle.tg_compile_proof.proofs.SmallValues.{each_of_all, each_take, each_drop, each_set, each_get, IsByte, HasShortLength, IsShortString}
 use Rattle.tg_compile_proof.proofs.SmallValues.{IsSmallValue, IsSmallObject, IsFitExp, AreFitEntries, outermost_fit, IsFitJob}

@@ -18,27 +18,27 @@ use Rattle.tg_syntax.specs.Tree.{init, Decs, no_decs, types, variable, functions
 use Rattle.tg_syntax.specs.Measures.{form_size, type_size, size, place_size, exps_size, inits_size, decs_size, functions_size, inner}
 use Rattle.tg_syntax.specs.Measures.{inner_place, inner_exps, inner_inits, inner_decs, inner_functions}
 use Rattle.tg_symbols.specs.Tables.{looked_up}
-use Rattle.tg_types.specs.declared.faults.TypeRule.{TypeRule}
-use Rattle.tg_types.specs.declared.notes.Means.{Means}
-use Rattle.tg_types.specs.declared.notes.Means.TheVariants as means
-use Rattle.tg_types.specs.declared.notes.Note.{Note}
-use Rattle.tg_types.specs.Types.{Ty, int_type, string_type, nil_type, none_type, record_type, Shape, record_shape, array_shape, same}
-use Rattle.tg_types.specs.Types.{array_type, joined_type}
-use Rattle.tg_types.specs.Checks.{Noted, CheckResult, fine, fault, Check, give, refuse, keep, present, note, shape_at, add_shape, ◌>>=◌}
+use Rattle.tg_typecheck.specs.declared.faults.TypeRule.{TypeRule}
+use Rattle.tg_typecheck.specs.declared.notes.Means.{Means}
+use Rattle.tg_typecheck.specs.declared.notes.Means.TheVariants as means
+use Rattle.tg_typecheck.specs.declared.notes.Note.{Note}
+use Rattle.tg_typecheck.specs.Types.{Ty, int_type, string_type, nil_type, none_type, record_type, Shape, record_shape, array_shape, same}
+use Rattle.tg_typecheck.specs.Types.{array_type, joined_type}
+use Rattle.tg_typecheck.specs.Checks.{Noted, CheckResult, fine, fault, Check, give, refuse, keep, present, note, shape_at, add_shape, ◌>>=◌}
 use Rattle.tg_semantics.specs.Environments.{name_of}
-use Rattle.tg_types.specs.Scopes.{Signature, Binding, variable_at, function_at, standard_one, Scope, at_of, bound, binding, in_a_loop}
-use Rattle.tg_types.specs.Scopes.{in_no_loop, outermost_scope, signature}
-use Rattle.tg_types.specs.Groups.{no_repeats, type_named, declare_types, function_names, headers, with_functions, with_params, known_form}
-use Rattle.tg_types.specs.Groups.{known_fields, known_forms, chains_end, add_form, add_forms, with_group, param_types, result_type, names_of}
-use Rattle.tg_types.specs.Groups.{known_type}
-use Rattle.tg_types.specs.Typing.{typed, typed_place, typed_last, expect_all, expect_fields, declare, bodies, expect, expect_none, needs_value}
-use Rattle.tg_types.specs.Typing.{variable_of, function_of, assignable, fields_in, fields_of, element_type_in, element_of, placed, select}
-use Rattle.tg_types.specs.Typing.{ordered, equated, left_side, equal_sides, right_side, own_type, body_fits, start_of, place_start}
-use Rattle.tg_types.specs.Accepted.{finding_of, within_limits}
-use Rattle.tg_types.specs.Answered.{Accepts, meaning_at}
-use Rattle.tg_types.specs.Limits.{limit_fault}
-use Rattle.tg_types.specs.Programs.{CheckedProgram, IsAccepted}
-use Rattle.tg_types.proofs.Inversion.{steps, kept, given, presented, refused, noting, shape_added, shape_found}
+use Rattle.tg_typecheck.specs.Scopes.{Signature, Binding, variable_at, function_at, standard_one, Scope, at_of, bound, binding, in_a_loop}
+use Rattle.tg_typecheck.specs.Scopes.{in_no_loop, outermost_scope, signature}
+use Rattle.tg_typecheck.specs.Groups.{no_repeats, type_named, declare_types, function_names, headers, with_functions, with_params, known_form}
+use Rattle.tg_typecheck.specs.Groups.{known_fields, known_forms, chains_end, add_form, add_forms, with_group, param_types, result_type, names_of}
+use Rattle.tg_typecheck.specs.Groups.{known_type}
+use Rattle.tg_typecheck.specs.Typing.{typed, typed_place, typed_last, expect_all, expect_fields, declare, bodies, expect, expect_none, needs_value}
+use Rattle.tg_typecheck.specs.Typing.{variable_of, function_of, assignable, fields_in, fields_of, element_type_in, element_of, placed, select}
+use Rattle.tg_typecheck.specs.Typing.{ordered, equated, left_side, equal_sides, right_side, own_type, body_fits, start_of, place_start}
+use Rattle.tg_typecheck.specs.Accepted.{finding_of, within_limits}
+use Rattle.tg_typecheck.specs.Answered.{Accepts, meaning_at}
+use Rattle.tg_typecheck.specs.Limits.{limit_fault}
+use Rattle.tg_typecheck.specs.Programs.{CheckedProgram, IsAccepted}
+use Rattle.tg_typecheck.proofs.Inversion.{steps, kept, given, presented, refused, noting, shape_added, shape_found}
 use Rattle.tg_translate.specs.mirror.Scopes.{field_number}
 
 -- a place in a list of fields is one of them

@@ -10,15 +10,15 @@ use Rattle.tg_tree.specs.Named.{Named, function, literal, fault, temporary, cons
 use Rattle.tg_canon.specs.laws.Laws as canon
 use Rattle.tg_canon.specs.laws.Laws.{GivesCanonical, GivesClosed, TempsGrow, TempsStay}
 use Rattle.tg_canon.specs.mirror.Canon.{linearized}
-use Rattle.tg_trace.specs.laws.Laws as trace
-use Rattle.tg_trace.specs.laws.Laws.{BlocksAreFlat, BlocksAreWhole, CodeIsFlat, CodeIsWellMarked}
-use Rattle.tg_trace.specs.mirror.Cutting.{blocks_of}
-use Rattle.tg_flatten_proof.specs.Flattened.{flattened, flattened_code}
-use Rattle.tg_flatten_proof.specs.laws.Laws.{FlattenIsCorrect}
-use Rattle.tg_flatten_proof.specs.laws.Laws as flattening
+use Rattle.tg_trace_schedule.specs.laws.Laws as trace
+use Rattle.tg_trace_schedule.specs.laws.Laws.{BlocksAreFlat, BlocksAreWhole, CodeIsFlat, CodeIsWellMarked}
+use Rattle.tg_trace_schedule.specs.mirror.Cutting.{blocks_of}
+use Rattle.tg_canon_trace_proof.specs.Flattened.{flattened, flattened_code}
+use Rattle.tg_canon_trace_proof.specs.laws.Laws.{FlattenIsCorrect}
+use Rattle.tg_canon_trace_proof.specs.laws.Laws as flattening
 use Rattle.tg_munch_proof.specs.laws.Chosen as choosing
 use Rattle.tg_munch_proof.specs.laws.Chosen.{MunchIsCorrect, MunchKeepsWords, MayBeChosen}
-use Rattle.tg_correct.specs.laws.Laws.{unit_words, kept_words}
+use Rattle.tg_correctness.specs.laws.Laws.{unit_words, kept_words}
 use Rattle.tg_compile_proof.specs.laws.Lowering.{MayBeLowered, MayRun, FlatCodeMayBeChosen, LoweringIsCorrect, LoweringKeepsWords}
 
 -- tests of names: constants that are words, and temporaries below a number

@@ -2,17 +2,17 @@
 use Rattle.std.proofs.Common.{ℕ, zero, suc, ◌≡◌, ◌<◌, ◌≤◌, List, [], ◌∷◌, ◌++◌, ◌⊎◌, inl, inr}
 use Rattle.std.proofs.Common.{map, false, true, sym, ap, ◌∙◌, subst, arith}
 use Rattle.std.specs.List.{Contains, sum}
-use Rattle.tg_types.specs.Programs.{CheckedProgram}
+use Rattle.tg_typecheck.specs.Programs.{CheckedProgram}
 use Rattle.tg_tree.specs.Tree.{Ts, Function}
 use Rattle.tg_tree.specs.Named as name
 use Rattle.tg_tree.specs.Named.{Named, named_ts, function_labels}
 use Rattle.tg_tree.specs.Sizes.{tree_length, tree_needs}
 use Rattle.tg_tree.specs.FrameSizes.{IsNested, innermost, calling}
-use Rattle.tg_flatten_proof.specs.Flattened.{MayBeFlattened}
+use Rattle.tg_canon_trace_proof.specs.Flattened.{MayBeFlattened}
 use Rattle.tg_instr.proofs.Tests.{all_at}
 use Rattle.tg_runtime.specs.laws.Laws.{IsRoutine, AreRoutines, AllAreRoutines, is_own}
 use Rattle.tg_runtime.specs.mirror.Routines.{runtime}
-use Rattle.tg_irc.specs.Policies.{Rule}
+use Rattle.tg_irc_definition.specs.Policies.{Rule}
 use Rattle.tg_regalloc.specs.declared.allocations.Allocation.{Allocation}
 use Rattle.tg_tree.specs.declared.fragments.Literal.{Literal}
 use Rattle.tg_translate.specs.mirror.Translate.{translated}

@@ -7,11 +7,11 @@ use Rattle.std.specs.List.{AllZip, AllPairs, Contains}
 use Rattle.std.specs.FinSet.{from_list}
 use Rattle.std.proofs.lemmas.List.{get_or-map, length-map, length-append}
 use Rattle.std.proofs.lemmas.List.Elements.{Contains-append_left, Contains-append_cases}
-use Rattle.tg_state.specs.State.{padded}
+use Rattle.tg_machine_state.specs.State.{padded}
 use Rattle.tg_syntax.specs.Functions.{Measures, program_functions}
 use Rattle.tg_semantics.specs.Levels.{activation}
 use Rattle.tg_escape.specs.Links.{links_of}
-use Rattle.tg_types.specs.Programs.{CheckedProgram, IsAccepted}
+use Rattle.tg_typecheck.specs.Programs.{CheckedProgram, IsAccepted}
 use Rattle.tg_tree.specs.declared.fragments.Literal.{Literal}
 use Rattle.tg_tree.specs.Tree.{Ts, Function}
 use Rattle.tg_tree.specs.glue.Plain.{plain_literal}
@@ -26,7 +26,7 @@ use Rattle.tg_translate_laws.proofs.Measured.{nothing_is_passed}
 use Rattle.tg_runtime_proof.proofs.Running.{IsLow, runtime_low}
 use Rattle.tg_translate_proof.specs.Bounds.{measures_of, bound_by}
 use Rattle.tg_translate_proof.specs.laws.Laws.{findings_of, trees_of, bound_in}
-use Rattle.tg_irc.specs.Policies.{Rule}
+use Rattle.tg_irc_definition.specs.Policies.{Rule}
 use Rattle.tg_regalloc.specs.declared.allocations.Allocation.{Allocation}
 use Rattle.tg_emit.specs.mirror.Lines.{size_of}
 use Rattle.tg_emit_laws.specs.Programs.{bytes_of}

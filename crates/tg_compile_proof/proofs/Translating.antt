@@ -2,7 +2,7 @@
 -- on every input, with frames of the sizes that its allocations have.
 use Rattle.std.proofs.Common.{◌≤◌, length, subst, arith}
 use Rattle.std.specs.FinSet.{from_list}
-use Rattle.tg_state.specs.State.{most_bytes}
+use Rattle.tg_machine_state.specs.State.{most_bytes}
 use Rattle.tg_escape.specs.Links.{links_of}
 use Rattle.tg_tree.specs.Memory.{statics_of}
 use Rattle.tg_translate_laws.specs.laws.Laws.{ProgramsAreLinked}

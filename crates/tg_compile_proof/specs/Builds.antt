@@ -2,13 +2,13 @@
 use Rattle.std.specs.Prelude.{ℕ, List}
 use Rattle.tg_syntax.specs.declared.tokens.Spanned.{Spanned}
 use Rattle.tg_syntax.specs.Tree.{Exp}
-use Rattle.tg_types.specs.declared.notes.Note.{Note}
-use Rattle.tg_types.specs.Accepted.{finding}
-use Rattle.tg_types.specs.Answered.{Accepts}
-use Rattle.tg_irc.specs.Policies.{Rule as SpillRule}
+use Rattle.tg_typecheck.specs.declared.notes.Note.{Note}
+use Rattle.tg_typecheck.specs.Accepted.{finding}
+use Rattle.tg_typecheck.specs.Answered.{Accepts}
+use Rattle.tg_irc_definition.specs.Policies.{Rule as SpillRule}
 use Rattle.tg_regalloc.specs.declared.allocations.Allocation.{Allocation}
 use Rattle.tg_compile.specs.Compiling.{Compiles}
-use Rattle.tg_correct.specs.Sources.{IsSourceOf}
+use Rattle.tg_correctness.specs.Sources.{IsSourceOf}
 
 -- The text is a source, and this is what it is compiled to by the notes of its typing, in the order
 -- of the text, and the rule of a policy: allocations of its functions, and an assembly text.

@@ -2,7 +2,7 @@
 -- the frames that its allocations have.
 use Rattle.std.specs.Prelude.{ℕ, ◌-◌, ◌≡◌, List, map}
 use Rattle.std.specs.List.{Contains}
-use Rattle.tg_state.specs.State.{stack_top}
+use Rattle.tg_machine_state.specs.State.{stack_top}
 use Rattle.tg_simulation.specs.Runs.{Run}
 use Rattle.tg_simulation.specs.Ran.{Ran}
 use Rattle.tg_tree.specs.declared.fragments.Literal.{Literal}
@@ -11,13 +11,13 @@ use Rattle.tg_tree.specs.glue.Plain.{plain_literal}
 use Rattle.tg_tree.specs.Units.{Trees}
 use Rattle.tg_tree.specs.Running.{tree_run}
 use Rattle.tg_tree.specs.Flat.{flat_run}
-use Rattle.tg_flatten_proof.specs.Flattened.{flattened_code, MayBeFlattened}
+use Rattle.tg_canon_trace_proof.specs.Flattened.{flattened_code, MayBeFlattened}
 use Rattle.tg_instr.specs.declared.instr.Instr.{Instr}
 use Rattle.tg_instr.specs.declared.codes.Allocated.{Allocated}
 use Rattle.tg_instr.specs.Lengths.{most_words}
 use Rattle.tg_instr.specs.Running.{everywhere, code_run}
 use Rattle.tg_munch_proof.specs.laws.Chosen.{chosen_code}
-use Rattle.tg_irc.specs.Policies.{Rule}
+use Rattle.tg_irc_definition.specs.Policies.{Rule}
 use Rattle.tg_regalloc.specs.declared.allocations.Allocation.{Allocation}
 use Rattle.tg_regalloc.specs.Allocations.{codes_of}
 use Rattle.tg_emit_laws.specs.Programs.{IsWholeProgram, AreTyped}

@@ -23,10 +23,10 @@ ghost use Rattle.tg_compile_proof.specs.laws.TextLaws.{
 };
 
 use tg_code_bounds::functions_are_bounded;
-use tg_correct::{ends_tell, image_agrees, passes_agree};
+use tg_correctness::{ends_tell, image_agrees, passes_agree};
 use tg_emit_laws::program_has_image;
 use tg_emit_proof::emit_is_correct;
-use tg_flatten_proof::flatten_is_correct;
+use tg_canon_trace_proof::flatten_is_correct;
 use tg_isa::machine_runs_by_fuel;
 use tg_literal_bounds::{strings_fit_text, trees_are_of_words};
 use tg_munch::code_names_its_own;
@@ -41,7 +41,7 @@ use tg_translate_laws::{
 };
 use tg_translate_proof::translate_is_correct;
 use tg_tree::trees_run;
-use tg_types::{checked_has_type, never_stuck};
+use tg_typecheck::{checked_has_type, never_stuck};
 
 /// The laws of runs from trees to instructions: flat code that the passes give is such as
 /// instructions may be chosen for, and these do what the trees did. Each run of the trees that
@@ -56,9 +56,9 @@ pub fn lowering_is_correct()
     flatten_is_correct();
     tg_canon::canonical_statements();
     tg_canon::names_stay();
-    tg_trace::blocks_are_well_formed();
-    tg_trace::code_is_well_formed();
-    tg_trace::names_stay();
+    tg_trace_schedule::blocks_are_well_formed();
+    tg_trace_schedule::code_is_well_formed();
+    tg_trace_schedule::names_stay();
     munch_is_correct();
 }
 

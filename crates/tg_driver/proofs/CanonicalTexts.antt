@@ -10,8 +10,8 @@ use Rattle.tg_syntax.specs.Tree.{Exp}
 use Rattle.tg_lexer.proofs.Excludes.{fault_excludes}
 use Rattle.tg_parser.specs.declared.faults.SyntaxRule.{SyntaxRule}
 use Rattle.tg_parser.specs.Answers.{HasSyntaxFault}
-use Rattle.tg_correct.specs.Sources.{HasTokens, HasTree}
-use Rattle.tg_format.specs.Canonical.{canonical, tokens_of}
+use Rattle.tg_correctness.specs.Sources.{HasTokens, HasTree}
+use Rattle.tg_formatter.specs.Canonical.{canonical, tokens_of}
 use Rattle.tg_driver.specs.declared.answers.Answer.{Answer}
 use Rattle.tg_driver.specs.declared.answers.Answer.TheVariants.{Faulty, OutOfMemory, Written, Unwritten}
 use Rattle.tg_driver.specs.declared.faults.Rule.{Rule}

@@ -3,11 +3,11 @@ use Rattle.std.proofs.Common.{ℕ, ◌≡◌, ◌≤◌, ◌⊎◌, inl, inr, Li
 use Rattle.std.specs.Io.KnownBytes.{Appends}
 use Rattle.tg_base.specs.Causes.{Rose}
 use Rattle.tg_base.specs.Files.{Files, IsFilePrefix}
-use Rattle.tg_state.specs.declared.ends.RunEnd.{RunEnd}
-use Rattle.tg_state.specs.declared.ends.RunEnd.TheVariants.{Exit, Break, Overflow, HeapFull, StackFull, StepLimit, BadAddress, Unaligned, BadWord}
-use Rattle.tg_state.specs.declared.ends.RunEnd.TheVariants.{BadService, ReadFault, WriteFault}
+use Rattle.tg_machine_state.specs.declared.ends.RunEnd.{RunEnd}
+use Rattle.tg_machine_state.specs.declared.ends.RunEnd.TheVariants.{Exit, Break, Overflow, HeapFull, StackFull, StepLimit, BadAddress, Unaligned, BadWord}
+use Rattle.tg_machine_state.specs.declared.ends.RunEnd.TheVariants.{BadService, ReadFault, WriteFault}
 use Rattle.tg_isa.specs.declared.images.Image.{Image}
-use Rattle.tg_watch.specs.Watching.{Report}
+use Rattle.tg_profiler.specs.Watching.{Report}
 use Rattle.tg_command.specs.declared.modes.Mode.{Mode}
 use Rattle.tg_command.specs.declared.modes.Mode.TheVariants.{Check, Build, Run, Exec, Alloc, Gen, Format}
 use Rattle.tg_command.specs.Commands.{Asked}
@@ -16,8 +16,8 @@ use Rattle.tg_driver.specs.declared.answers.Answer.{Answer}
 use Rattle.tg_driver.specs.declared.answers.Answer.TheVariants.{Faulty, Written, Unwritten, Finished, OutOfMemory}
 use Rattle.tg_driver.specs.Calls.{Stream, stream_of, streams_of, Stays, HasFailed, Streams, Shelved, IsUnread, Call, Takes, nothing, all, part}
 use Rattle.tg_driver.specs.OfFiles.{OfFile, unreadable, read}
-use Rattle.tg_correct.specs.Sources.{IsSource}
-use Rattle.tg_correct.specs.Assemblies.{IsAsMeant}
+use Rattle.tg_correctness.specs.Sources.{IsSource}
+use Rattle.tg_correctness.specs.Assemblies.{IsAsMeant}
 use Rattle.tg_driver.specs.Writing.{TextRelation, IsWritten}
 use Rattle.tg_driver.specs.GenMode.{no_input, summary, TakesSummary, IsGenerated}
 use Rattle.tg_driver.specs.Endings.{end_status}

@@ -1,16 +1,16 @@
 -- Runs whose reads and writes all succeed are those of the definition.
 use Rattle.std.proofs.Common.{ℕ, ◌≡◌, List, [], ◌++◌, Some, refl, sym, ap, subst, ◌∙◌, append-nil, length}
 use Rattle.std.specs.Io.KnownBytes.{Appends}
-use Rattle.tg_state.specs.declared.ends.RunEnd.{RunEnd}
-use Rattle.tg_state.specs.declared.ends.RunEnd.TheVariants.{ReadFault, WriteFault}
-use Rattle.tg_state.specs.State.{initial_machine}
+use Rattle.tg_machine_state.specs.declared.ends.RunEnd.{RunEnd}
+use Rattle.tg_machine_state.specs.declared.ends.RunEnd.TheVariants.{ReadFault, WriteFault}
+use Rattle.tg_machine_state.specs.State.{initial_machine}
 use Rattle.tg_isa.specs.declared.images.Image.{Image}
 use Rattle.tg_isa.specs.Runs.{Execution, run}
 use Rattle.tg_machine.specs.Ran.{Stops, still, ended, read_failed, write_failed, begun_on, standing}
 use Rattle.tg_machine.specs.Fetches.{fetches, fetches_until, rest_after}
 use Rattle.tg_machine.proofs.Fetching.{may_rest}
-use Rattle.tg_watch.specs.Told.{reports_text}
-use Rattle.tg_watch.specs.Watching.{Report}
+use Rattle.tg_profiler.specs.Told.{reports_text}
+use Rattle.tg_profiler.specs.Watching.{Report}
 use Rattle.tg_driver.specs.Calls.{Streams, HasFailed}
 use Rattle.tg_driver.specs.Runs.{RunRelation, HasRun, end_in, world_in, IsExact}
 use Rattle.tg_driver.specs.Watching.{HasToldRun, reports_on}

@@ -10,10 +10,10 @@ use Rattle.tg_parser.specs.declared.faults.SyntaxRule.TheVariants.{S1, S2}
 use Rattle.tg_driver.specs.declared.faults.Rule.TheVariants.{Lexical, Syntactic, Typed}
 use Rattle.tg_parser.specs.Answers.{HasSyntaxFault}
 use Rattle.tg_syntax.specs.Tree.{Exp}
-use Rattle.tg_types.specs.declared.faults.TypeRule.{TypeRule}
-use Rattle.tg_types.specs.Accepted.{finding, at_fault}
+use Rattle.tg_typecheck.specs.declared.faults.TypeRule.{TypeRule}
+use Rattle.tg_typecheck.specs.Accepted.{finding, at_fault}
 use Rattle.tg_driver.specs.declared.faults.Rule.{Rule}
-use Rattle.tg_correct.specs.Sources.{HasTokens, HasTree}
+use Rattle.tg_correctness.specs.Sources.{HasTokens, HasTree}
 use Rattle.tg_driver.specs.Faults.{HasFault, lexical, syntactic, ill_typed}
 use Rattle.tg_driver.specs.glue.Readings.{HasBadTokens, HasBadTypes}
 use Rattle.tg_driver.proofs.ProgramsWithin.{AreWithin, tokens_within, type_fault_within, type_fault_small}

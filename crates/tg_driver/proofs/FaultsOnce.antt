@@ -9,13 +9,13 @@ use Rattle.tg_syntax_laws.proofs.Complete.{one_tree}
 use Rattle.tg_parser.specs.declared.faults.SyntaxRule.{SyntaxRule}
 use Rattle.tg_parser.specs.Answers.{HasSyntaxFault}
 use Rattle.tg_parser.proofs.OneFault.{faults_once, fault_excludes_program}
-use Rattle.tg_types.specs.declared.faults.TypeRule.{TypeRule}
-use Rattle.tg_types.specs.declared.notes.Note.{Note}
-use Rattle.tg_types.specs.Accepted.{Finding, finding, accepted, at_fault}
+use Rattle.tg_typecheck.specs.declared.faults.TypeRule.{TypeRule}
+use Rattle.tg_typecheck.specs.declared.notes.Note.{Note}
+use Rattle.tg_typecheck.specs.Accepted.{Finding, finding, accepted, at_fault}
 use Rattle.tg_driver.specs.declared.faults.Rule.{Rule}
 use Rattle.tg_driver.specs.declared.faults.Rule.TheVariants.{Lexical, Syntactic, Typed}
 use Rattle.tg_driver.specs.declared.faults.Fault.{Fault}
-use Rattle.tg_correct.specs.Sources.{HasTokens, HasTree, IsSource, IsSourceOf}
+use Rattle.tg_correctness.specs.Sources.{HasTokens, HasTree, IsSource, IsSourceOf}
 use Rattle.tg_driver.specs.Faults.{HasFault, lexical, syntactic, ill_typed, IsFaultOf}
 use Rattle.tg_driver.proofs.TokensOnce.{tokens_once, AreOne}
 

@@ -1,13 +1,13 @@
 -- Good words for a file that is there, with no fault of a count, are answered by the meaning of the source, or as out of memory.
 use Rattle.std.proofs.Common.{ℕ, ◌≡◌, ◌⊎◌, inl, inr, List, [], Option, Some, None, take, refl, sym, subst, arith}
 use Rattle.std.specs.Io.KnownBytes.{Appends}
-use Rattle.tg_state.specs.declared.ends.RunEnd.TheVariants.{WriteFault}
+use Rattle.tg_machine_state.specs.declared.ends.RunEnd.TheVariants.{WriteFault}
 use Rattle.tg_command.specs.declared.modes.Mode.{Mode}
 use Rattle.tg_command.specs.declared.modes.Mode.TheVariants.{Check, Build, Run, Exec, Alloc, Gen, Format}
 use Rattle.tg_command.specs.Counts.{IsWithin, GivesCount, heap_limits, stack_limits}
 use Rattle.tg_command.specs.Commands.{Asked, Ask}
-use Rattle.tg_correct.specs.Images.{AreSizes}
-use Rattle.tg_correct.specs.Assemblies.{IsAsMeant}
+use Rattle.tg_correctness.specs.Images.{AreSizes}
+use Rattle.tg_correctness.specs.Assemblies.{IsAsMeant}
 use Rattle.tg_compile_proof.specs.laws.TextLaws.{EndedIsMeant, RunningIsMeant}
 use Rattle.tg_driver.specs.declared.answers.Answer.{Answer}
 use Rattle.tg_driver.specs.declared.answers.Answer.TheVariants.{Faulty, Written, Unwritten, Finished, OutOfMemory}

@@ -5,9 +5,9 @@ use Rattle.std.proofs.lemmas.Int.{of_z-to_z}
 use Rattle.std.proofs.lemmas.List.Elements.{All-nil}
 use Rattle.std.specs.Io.KnownBytes.{Appends}
 use Rattle.tg_base.specs.Causes.{Rose}
-use Rattle.tg_state.specs.declared.ends.RunEnd.{RunEnd}
-use Rattle.tg_state.specs.declared.ends.RunEnd.TheVariants.{ReadFault, WriteFault}
-use Rattle.tg_state.specs.State.{initial_machine}
+use Rattle.tg_machine_state.specs.declared.ends.RunEnd.{RunEnd}
+use Rattle.tg_machine_state.specs.declared.ends.RunEnd.TheVariants.{ReadFault, WriteFault}
+use Rattle.tg_machine_state.specs.State.{initial_machine}
 use Rattle.tg_simulation.specs.Bytes.{AreBytes}
 use Rattle.tg_simulation.specs.Outcomes as over
 use Rattle.tg_semantics.specs.Values.{Ending, normal, by_nil, by_index, by_division, by_chr}
@@ -19,9 +19,9 @@ use Rattle.tg_asm_text.specs.Assembly.{Assembled, Fault as AsmFault, assembled}
 use Rattle.tg_isa.specs.Runs.{Execution}
 use Rattle.tg_asm.specs.Images.{image_of}
 use Rattle.tg_machine.specs.Ran.{Stops, still, ended, read_failed, write_failed, begun_on, standing}
-use Rattle.tg_correct.specs.Images.{AreSizes}
-use Rattle.tg_correct.specs.Ends.{EndIsMeant}
-use Rattle.tg_correct.specs.Assemblies.{IsAsMeant}
+use Rattle.tg_correctness.specs.Images.{AreSizes}
+use Rattle.tg_correctness.specs.Ends.{EndIsMeant}
+use Rattle.tg_correctness.specs.Assemblies.{IsAsMeant}
 use Rattle.tg_compile_proof.specs.laws.TextLaws.{EndedIsMeant, RunningIsMeant, ExitsAreWords}
 use Rattle.tg_driver.specs.Calls.{Streams}
 use Rattle.tg_driver.proofs.ToldInputs.{on_input}

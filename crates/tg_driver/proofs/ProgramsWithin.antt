@@ -7,11 +7,11 @@ use Rattle.tg_syntax.specs.Tree.{Exp}
 use Rattle.tg_syntax.specs.Lexing.{Lexes, ends, blank, comment, token}
 use Rattle.tg_syntax.specs.Grammar.{IsProgram}
 use Rattle.tg_syntax_laws.proofs.ThroughProgram.{AllGive, through_program}
-use Rattle.tg_types.specs.declared.faults.TypeRule.{TypeRule}
-use Rattle.tg_types.specs.Accepted.{finding, at_fault}
-use Rattle.tg_types.specs.BeginWithin.{IdentBegins, IsHere, BeginsWithin}
-use Rattle.tg_types.proofs.FaultBytes.{faults_stand_within}
-use Rattle.tg_correct.specs.Sources.{HasTokens}
+use Rattle.tg_typecheck.specs.declared.faults.TypeRule.{TypeRule}
+use Rattle.tg_typecheck.specs.Accepted.{finding, at_fault}
+use Rattle.tg_typecheck.specs.BeginWithin.{IdentBegins, IsHere, BeginsWithin}
+use Rattle.tg_typecheck.proofs.FaultBytes.{faults_stand_within}
+use Rattle.tg_correctness.specs.Sources.{HasTokens}
 
 -- each token begins at this byte or before it
 abbrev pub AreWithin : (end : ℕ) → List Spanned → Type 0

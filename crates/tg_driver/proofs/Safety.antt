@@ -5,21 +5,21 @@ use Rattle.std.proofs.lemmas.Bool.Decides.{nat_tests}
 use Rattle.std.specs.Io.KnownBytes.{Appends}
 use Rattle.tg_base.specs.Causes.{Rose}
 use Rattle.tg_base.specs.Files.{IsFilePrefix}
-use Rattle.tg_state.specs.State.{initial_machine}
-use Rattle.tg_state.specs.Services.{Writes}
+use Rattle.tg_machine_state.specs.State.{initial_machine}
+use Rattle.tg_machine_state.specs.Services.{Writes}
 use Rattle.tg_base.specs.Writes.{TakesPrefix}
-use Rattle.tg_state.specs.declared.ends.RunEnd.{RunEnd}
-use Rattle.tg_state.specs.declared.ends.RunEnd.TheVariants.{Exit, Break, ReadFault, WriteFault}
+use Rattle.tg_machine_state.specs.declared.ends.RunEnd.{RunEnd}
+use Rattle.tg_machine_state.specs.declared.ends.RunEnd.TheVariants.{Exit, Break, ReadFault, WriteFault}
 use Rattle.tg_isa.specs.declared.images.Image.{Image}
 use Rattle.tg_isa.specs.Runs.{Execution, run}
 use Rattle.tg_machine.specs.Ran.{Stops, still, ended, read_failed, write_failed, begun_on, standing}
 use Rattle.tg_machine.proofs.Runs.{run_more}
-use Rattle.tg_generate.specs.Generated.{generated}
+use Rattle.tg_program_generator.specs.Generated.{generated}
 use Rattle.tg_command.specs.declared.modes.Mode.{Mode}
 use Rattle.tg_command.specs.declared.modes.Mode.TheVariants.{Check, Build, Run, Exec, Alloc, Gen, Format}
 use Rattle.tg_command.specs.Commands.{Asked, Ask}
 use Rattle.tg_command.proofs.CommandLemmas.{asked_once}
-use Rattle.tg_irc.specs.Policies.{Rule as SpillRule}
+use Rattle.tg_irc_definition.specs.Policies.{Rule as SpillRule}
 use Rattle.tg_driver.specs.declared.answers.Answer.{Answer}
 use Rattle.tg_driver.specs.declared.answers.Answer.TheVariants.{Usage, Faulty, BadLine, TooLong, Unreadable, OutOfMemory}
 use Rattle.tg_driver.specs.declared.answers.Answer.TheVariants.{Accepted, Written, Unwritten, Finished}
@@ -45,7 +45,7 @@ use Rattle.tg_driver.proofs.AnswerLemmas.{left_alone, stays_in_gen}
 use Rattle.tg_driver.proofs.ToldInputs.{OnInput, on_input}
 use Rattle.tg_driver.proofs.Watched.{due_more}
 use Rattle.tg_driver.proofs.Complete.{none_taken, rose_later, no_read, Summed, cut, summed, summed_by}
-use Rattle.tg_watch.proofs.Pieces.{front_later}
+use Rattle.tg_profiler.proofs.Pieces.{front_later}
 
 -- a sink that took a text took a prefix of it
 takes_front : {T A : Type 0} (sink : Stream T) (due : List ℕ) (whole failed result : A) → Takes sink due whole failed result →

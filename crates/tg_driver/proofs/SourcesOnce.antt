@@ -1,12 +1,12 @@
 -- A text with a fault is no source, and so nothing does what it means.
 use Rattle.std.proofs.Common.{ℕ, List}
-use Rattle.tg_state.specs.declared.ends.RunEnd.{RunEnd}
-use Rattle.tg_irc.specs.Policies.{Rule as SpillRule}
+use Rattle.tg_machine_state.specs.declared.ends.RunEnd.{RunEnd}
+use Rattle.tg_irc_definition.specs.Policies.{Rule as SpillRule}
 use Rattle.tg_regalloc.specs.declared.allocations.Allocation.{Allocation}
 use Rattle.tg_driver.specs.declared.faults.Fault.{Fault}
-use Rattle.tg_correct.specs.Sources.{IsSource}
+use Rattle.tg_correctness.specs.Sources.{IsSource}
 use Rattle.tg_driver.specs.Faults.{IsFaultOf}
-use Rattle.tg_correct.specs.Assemblies.{IsAsMeant}
+use Rattle.tg_correctness.specs.Assemblies.{IsAsMeant}
 use Rattle.tg_compile_proof.specs.Builds.{CompilesTo}
 use Rattle.tg_driver.specs.MeantRuns.{EndsAsMeant}
 use Rattle.tg_driver.specs.Runs.{RunRelation}

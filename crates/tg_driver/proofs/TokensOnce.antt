@@ -17,7 +17,7 @@ use Rattle.tg_syntax.specs.Lexing.{Lexes, ends, blank, comment, token, spanned}
 use Rattle.tg_lexer.specs.Numbering.{with_name, all_named, idents, ident_text}
 use Rattle.tg_lexer.proofs.Interning.{slice_get-more}
 use Rattle.tg_lexer.proofs.Onces.{lexes_once}
-use Rattle.tg_correct.specs.Sources.{HasTokens}
+use Rattle.tg_correctness.specs.Sources.{HasTokens}
 
 -- a text stands in a list
 pub record IsIn (t : List ℕ) (names : List (List ℕ)) : Type 0 where

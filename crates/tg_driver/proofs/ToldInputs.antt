@@ -1,8 +1,8 @@
 -- The bytes on which a call of a loaded machine ran: those that its source tells, or those that it read where the source tells none.
 use Rattle.std.proofs.Common.{ℕ, ◌≡◌, List, [], ◌++◌, Bool, true, false, Option, Some, None, refl, sym, ap, subst, ◌∙◌, append-nil}
 use Rattle.std.specs.Io.KnownBytes.{Consumes, IsAtEnd}
-use Rattle.tg_state.specs.declared.ends.RunEnd.{RunEnd}
-use Rattle.tg_state.specs.State.{MachineState}
+use Rattle.tg_machine_state.specs.declared.ends.RunEnd.{RunEnd}
+use Rattle.tg_machine_state.specs.State.{MachineState}
 use Rattle.tg_simulation.specs.Bytes.{AreBytes}
 use Rattle.tg_machine.specs.Ran.{Stops, MayFollow, MeetsEnd, begun_on, standing}
 use Rattle.tg_machine.specs.Fetches.{rest_after}

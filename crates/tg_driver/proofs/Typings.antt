@@ -6,18 +6,18 @@ use Rattle.tg_base.specs.declared.faulty.Faulty.TheVariants.{Bad, Memory}
 use Rattle.tg_syntax.specs.Tree.{Exp}
 use Rattle.tg_syntax.specs.NamesWithin.{NamesWithin}
 use Rattle.tg_syntax.specs.Beginnings.{BeginsApart}
-use Rattle.tg_types.specs.declared.faults.TypeRule.{TypeRule}
-use Rattle.tg_types.specs.declared.notes.Note.{Note}
-use Rattle.tg_types.specs.Accepted.{Finding, finding, accepted, at_fault}
-use Rattle.tg_types.specs.Answered.{Accepts, AreRising, IsAt}
-use Rattle.tg_types.proofs.NeverStuck.{accepted_never_stuck}
-use Rattle.tg_irc.specs.Policies.{Rule as SpillRule}
+use Rattle.tg_typecheck.specs.declared.faults.TypeRule.{TypeRule}
+use Rattle.tg_typecheck.specs.declared.notes.Note.{Note}
+use Rattle.tg_typecheck.specs.Accepted.{Finding, finding, accepted, at_fault}
+use Rattle.tg_typecheck.specs.Answered.{Accepts, AreRising, IsAt}
+use Rattle.tg_typecheck.proofs.NeverStuck.{accepted_never_stuck}
+use Rattle.tg_irc_definition.specs.Policies.{Rule as SpillRule}
 use Rattle.tg_regalloc.specs.declared.allocations.Allocation.{Allocation}
-use Rattle.tg_regalloc_listing.specs.Listing.{listed}
+use Rattle.tg_regalloc_report.specs.Listing.{listed}
 use Rattle.tg_literal_bounds.specs.laws.Laws.{StaticsFitSegment}
 use Rattle.tg_compile.specs.Compiling.{LiteralsFit, findings_of, Compiles, HasImage}
 use Rattle.tg_driver.specs.laws.Meanings.{SourcesAreNeverStuck}
-use Rattle.tg_correct.specs.Sources.{IsSource, IsSourceOf}
+use Rattle.tg_correctness.specs.Sources.{IsSource, IsSourceOf}
 use Rattle.tg_compile_proof.specs.Builds.{CompilesTo, Builds}
 use Rattle.tg_compile_proof.proofs.Building as built
 use Rattle.tg_driver.specs.AllocMode.{Lists}

@@ -1,16 +1,16 @@
 -- What is said of runs, more weakly; and from runs that watchers saw to what they tell.
 use Rattle.std.specs.Prelude.{Ok, Err, if◌then◌else◌}
 use Rattle.std.proofs.Common.{ℕ, ◌≡◌, Option, None, List, [], Bool, true, false, map, refl, sym, ap, subst, ◌∙◌, length, arith}
-use Rattle.tg_state.specs.declared.ends.RunEnd.{RunEnd}
+use Rattle.tg_machine_state.specs.declared.ends.RunEnd.{RunEnd}
 use Rattle.tg_isa.specs.declared.images.Image.{Image}
 use Rattle.tg_machine.specs.declared.fetches.Seen.{Seen}
 use Rattle.tg_machine.specs.Fetches.{IsWatched, fetches_until, rest_after}
 use Rattle.tg_machine.proofs.Fetching.{may_rest}
 use Rattle.tg_machine.specs.Machines.{Simulated, loaded}
 use Rattle.tg_machine.specs.Ran.{IsSimulation}
-use Rattle.tg_irc.specs.Policies.{Rule as SpillRule}
-use Rattle.tg_watch.specs.Told.{HasTold, reports_text}
-use Rattle.tg_watch.specs.Watching.{HaveSeen, Report}
+use Rattle.tg_irc_definition.specs.Policies.{Rule as SpillRule}
+use Rattle.tg_profiler.specs.Told.{HasTold, reports_text}
+use Rattle.tg_profiler.specs.Watching.{HaveSeen, Report}
 use Rattle.tg_command.specs.declared.flags.Flags.{Flags}
 use Rattle.tg_command.specs.declared.modes.Mode.{Mode}
 use Rattle.tg_command.specs.declared.modes.Mode.TheVariants.{Check, Build, Run, Exec, Alloc, Gen, Format}

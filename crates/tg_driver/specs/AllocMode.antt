@@ -1,9 +1,9 @@
 -- The mode `alloc`: reads a source, and writes to the output what the register allocator did in
 -- each function.
 use Rattle.std.specs.Prelude.{◌≡◌, List, ℕ}
-use Rattle.tg_irc.specs.Policies.{Rule as SpillRule}
+use Rattle.tg_irc_definition.specs.Policies.{Rule as SpillRule}
 use Rattle.tg_regalloc.specs.declared.allocations.Allocation.{Allocation}
-use Rattle.tg_regalloc_listing.specs.Listing.{listed}
+use Rattle.tg_regalloc_report.specs.Listing.{listed}
 use Rattle.tg_command.specs.Commands.{Asked}
 use Rattle.tg_driver.specs.declared.answers.Answer.{Answer}
 use Rattle.tg_driver.specs.Calls.{Shelved, Streams}

@@ -1,6 +1,6 @@
 -- What the program answers to a call.
 use Rattle.std.specs.Prelude.{ℕ, ◌≡◌, List, [], false}
-use Rattle.tg_irc.specs.Policies.{Rule as SpillRule}
+use Rattle.tg_irc_definition.specs.Policies.{Rule as SpillRule}
 use Rattle.tg_command.specs.declared.modes.Mode.TheVariants.{Gen}
 use Rattle.tg_command.specs.Commands.{Asked, Ask, IsUsageFault}
 use Rattle.tg_driver.specs.declared.answers.Answer.{Answer}

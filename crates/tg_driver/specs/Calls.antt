@@ -4,8 +4,8 @@ use Rattle.std.specs.Io.KnownBytes.{Appends}
 use Rattle.tg_base.specs.Causes.{Rose}
 use Rattle.tg_base.specs.Files.{Files}
 use Rattle.tg_base.specs.Writes.{TakesPrefix}
-use Rattle.tg_irc.specs.Policies.{Rule as SpillRule}
-use Rattle.tg_watch.specs.Watching.{Report}
+use Rattle.tg_irc_definition.specs.Policies.{Rule as SpillRule}
+use Rattle.tg_profiler.specs.Watching.{Report}
 
 -- a source or a sink: what it tells of its bytes, its count of faults, and itself before and after
 pub record Stream (T : Type 0) : Type 0 where

@@ -5,7 +5,7 @@ use Rattle.tg_driver.specs.declared.answers.Answer.{Answer}
 use Rattle.tg_driver.specs.declared.answers.Answer.TheVariants.{Faulty, Accepted}
 use Rattle.tg_driver.specs.Calls.{Shelved, Streams, Untouched}
 use Rattle.tg_driver.specs.OfFiles.{OfFile}
-use Rattle.tg_correct.specs.Sources.{IsSource}
+use Rattle.tg_correctness.specs.Sources.{IsSource}
 use Rattle.tg_driver.specs.Faults.{IsFaultOf}
 
 -- to a text: its first fault, or that it is a program

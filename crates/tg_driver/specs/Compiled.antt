@@ -1,6 +1,6 @@
 -- That the texts of `build`, `run` and `gen` are what the source is compiled to.
 use Rattle.std.specs.Prelude.{ℕ}
-use Rattle.tg_irc.specs.Policies.{Rule as SpillRule}
+use Rattle.tg_irc_definition.specs.Policies.{Rule as SpillRule}
 use Rattle.tg_compile_proof.specs.Builds.{Builds}
 use Rattle.tg_driver.specs.AllocMode.{Lists}
 use Rattle.tg_driver.specs.Answered.{AnswersBy}

@@ -1,13 +1,14 @@
 -- The status and the line of each end of a run.
 use Rattle.std.specs.Prelude.{ℕ, ◌%◌, ◌==◌, List, [], ◌∷◌, ◌++◌, codes, if◌then◌else◌}
 use Rattle.std.specs.Fmt.{decimal}
-use Rattle.tg_state.specs.declared.ends.RunEnd.{RunEnd}
-use Rattle.tg_state.specs.declared.ends.RunEnd.TheVariants.{Exit, Break, Overflow, HeapFull}
-use Rattle.tg_state.specs.declared.ends.RunEnd.TheVariants.{StackFull, StepLimit, BadAddress}
-use Rattle.tg_state.specs.declared.ends.RunEnd.TheVariants.{Unaligned, BadWord, BadService}
-use Rattle.tg_state.specs.declared.ends.RunEnd.TheVariants.{ReadFault, WriteFault}
+use Rattle.tg_machine_state.specs.declared.ends.RunEnd.{RunEnd}
+use Rattle.tg_machine_state.specs.declared.ends.RunEnd.TheVariants.{Exit, Break, Overflow, HeapFull}
+use Rattle.tg_machine_state.specs.declared.ends.RunEnd.TheVariants.{StackFull, StepLimit}
+use Rattle.tg_machine_state.specs.declared.ends.RunEnd.TheVariants.{BadAddress}
+use Rattle.tg_machine_state.specs.declared.ends.RunEnd.TheVariants.{Unaligned, BadWord, BadService}
+use Rattle.tg_machine_state.specs.declared.ends.RunEnd.TheVariants.{ReadFault, WriteFault}
 use Rattle.tg_base.specs.Words.{unsigned}
-use Rattle.tg_watch.specs.Words.{word_in_hex}
+use Rattle.tg_profiler.specs.Words.{word_in_hex}
 
 -- by the code of `break`: what a compiled program tests for, and any other
 abbrev pub break_status : (code : ℕ) → ℕ

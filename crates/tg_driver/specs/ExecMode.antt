@@ -1,6 +1,6 @@
 -- The mode `exec`: reads assembly text, and runs its image on the streams.
 use Rattle.std.specs.Prelude.{ℕ, ◌≡◌, ◌≤◌, ◌<◌, List, length, Ok, Err}
-use Rattle.tg_state.specs.declared.ends.RunEnd.{RunEnd}
+use Rattle.tg_machine_state.specs.declared.ends.RunEnd.{RunEnd}
 use Rattle.tg_isa.specs.declared.images.Image.{Image}
 use Rattle.tg_asm_text.specs.declared.keywords.AsmRule.{AsmRule}
 use Rattle.tg_asm_text.specs.Assembly.{assembled}

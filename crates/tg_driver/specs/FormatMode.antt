@@ -3,9 +3,9 @@
 use Rattle.std.specs.Prelude.{ℕ, ◌≡◌, List}
 use Rattle.tg_syntax.specs.declared.tokens.Spanned.{Spanned}
 use Rattle.tg_syntax.specs.Tree.{Exp}
-use Rattle.tg_format.specs.Canonical.{canonical, tokens_of}
+use Rattle.tg_formatter.specs.Canonical.{canonical, tokens_of}
 use Rattle.tg_command.specs.Commands.{Asked}
-use Rattle.tg_correct.specs.Sources.{HasTree}
+use Rattle.tg_correctness.specs.Sources.{HasTree}
 use Rattle.tg_driver.specs.declared.answers.Answer.{Answer}
 use Rattle.tg_driver.specs.declared.answers.Answer.TheVariants.{Faulty, OutOfMemory, Written}
 use Rattle.tg_driver.specs.declared.answers.Answer.TheVariants.{Unwritten}

@@ -4,16 +4,16 @@
 use Rattle.std.specs.Prelude.{◌≡◌, ℕ, List, [], ◌∷◌, ◌++◌, length, codes, Some}
 use Rattle.std.specs.Fmt.{decimal}
 use Rattle.tg_base.specs.InMemory.{PlainBytes}
-use Rattle.tg_state.specs.declared.ends.RunEnd.{RunEnd}
-use Rattle.tg_state.specs.declared.ends.RunEnd.TheVariants.{WriteFault}
+use Rattle.tg_machine_state.specs.declared.ends.RunEnd.{RunEnd}
+use Rattle.tg_machine_state.specs.declared.ends.RunEnd.TheVariants.{WriteFault}
 use Rattle.tg_isa.specs.declared.images.Image.{Image}
-use Rattle.tg_generate.specs.Generated.{generated}
+use Rattle.tg_program_generator.specs.Generated.{generated}
 use Rattle.tg_command.specs.Commands.{Asked}
 use Rattle.tg_driver.specs.declared.answers.Answer.{Answer}
 use Rattle.tg_driver.specs.declared.answers.Answer.TheVariants.{Unwritten, Finished}
 use Rattle.tg_driver.specs.Calls.{Shelved, Stream, Streams, stream_of, streams_of, Stays, Takes}
 use Rattle.tg_driver.specs.OfFiles.{UntouchedBeforeStart}
-use Rattle.tg_correct.specs.Assemblies.{IsAsMeant}
+use Rattle.tg_correctness.specs.Assemblies.{IsAsMeant}
 use Rattle.tg_driver.specs.MeantRuns.{EndsBy}
 use Rattle.tg_driver.specs.Endings.{end_status}
 use Rattle.tg_driver.specs.Runs.{HasRun}

@@ -1,7 +1,7 @@
 -- The modes: each has a file of its own, which says whether it reads a file, what is due, and which
 -- streams it touches.
 use Rattle.std.specs.Prelude.{ℕ, ◌≡◌, List}
-use Rattle.tg_irc.specs.Policies.{Rule as SpillRule}
+use Rattle.tg_irc_definition.specs.Policies.{Rule as SpillRule}
 use Rattle.tg_command.specs.declared.modes.Mode.{Mode}
 use Rattle.tg_command.specs.declared.modes.Mode.TheVariants.{Check, Build, Run, Exec, Alloc, Gen}
 use Rattle.tg_command.specs.declared.modes.Mode.TheVariants.{Format}
@@ -11,7 +11,7 @@ use Rattle.tg_driver.specs.Calls.{Shelved, Streams, Untouched}
 use Rattle.tg_driver.specs.Runs.{RunRelation}
 use Rattle.tg_driver.specs.CheckMode.{IsChecked, ByCheck}
 use Rattle.tg_driver.specs.Writing.{IsWritable, Texts}
-use Rattle.tg_correct.specs.Assemblies.{IsAsMeant}
+use Rattle.tg_correctness.specs.Assemblies.{IsAsMeant}
 use Rattle.tg_driver.specs.BuildMode.{ByBuild}
 use Rattle.tg_driver.specs.RunMode.{IsRun, ByRun}
 use Rattle.tg_driver.specs.ExecMode.{IsExecuted, ByExec}

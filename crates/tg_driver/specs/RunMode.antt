@@ -7,7 +7,7 @@ use Rattle.tg_driver.specs.declared.answers.Answer.TheVariants.{Faulty, OutOfMem
 use Rattle.tg_driver.specs.Calls.{Shelved, Streams}
 use Rattle.tg_driver.specs.OfFiles.{OfFile, UntouchedBeforeStart}
 use Rattle.tg_driver.specs.Faults.{IsFaultOf}
-use Rattle.tg_correct.specs.Assemblies.{IsAsMeant}
+use Rattle.tg_correctness.specs.Assemblies.{IsAsMeant}
 use Rattle.tg_driver.specs.MeantRuns.{RunsAssembled, EndsBy}
 use Rattle.tg_driver.specs.Runs.{RunRelation}
 use Rattle.tg_driver.specs.Writing.{TextRelation}

@@ -6,10 +6,12 @@ use Rattle.tg_asm_text.specs.declared.keywords.AsmRule.TheVariants.{A1, A2, A3, 
 use Rattle.tg_asm_text.specs.declared.keywords.AsmRule.TheVariants.{A9}
 use Rattle.tg_syntax.specs.declared.faults.LexRule.TheVariants.{L1, L2, L3, L4, L5, L6, L7}
 use Rattle.tg_parser.specs.declared.faults.SyntaxRule.TheVariants.{S1, S2}
-use Rattle.tg_types.specs.declared.faults.TypeRule.{TypeRule}
-use Rattle.tg_types.specs.declared.faults.TypeRule.TheVariants.{T1, T2, T3, T4, T5, T6, T7, T8, T9}
-use Rattle.tg_types.specs.declared.faults.TypeRule.TheVariants.{T10, T11, T12, T13, T14, T15, T16}
-use Rattle.tg_types.specs.declared.faults.TypeRule.TheVariants.{T17, T18, T19, T20, T21, T22}
+use Rattle.tg_typecheck.specs.declared.faults.TypeRule.{TypeRule}
+use Rattle.tg_typecheck.specs.declared.faults.TypeRule.TheVariants.{T1, T2, T3, T4, T5, T6, T7, T8}
+use Rattle.tg_typecheck.specs.declared.faults.TypeRule.TheVariants.{T9}
+use Rattle.tg_typecheck.specs.declared.faults.TypeRule.TheVariants.{T10, T11, T12, T13, T14, T15}
+use Rattle.tg_typecheck.specs.declared.faults.TypeRule.TheVariants.{T16}
+use Rattle.tg_typecheck.specs.declared.faults.TypeRule.TheVariants.{T17, T18, T19, T20, T21, T22}
 use Rattle.tg_driver.specs.declared.faults.Rule.{Rule}
 use Rattle.tg_driver.specs.declared.faults.Rule.TheVariants.{Lexical, Syntactic, Typed}
 use Rattle.tg_driver.specs.declared.faults.Fault.{Fault}

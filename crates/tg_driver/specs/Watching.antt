@@ -1,14 +1,14 @@
 -- Runs that are watched, and what is told of them.
 use Rattle.std.specs.Prelude.{ℕ, ◌≡◌, List, [], length, map, if◌then◌else◌, All}
-use Rattle.tg_state.specs.declared.ends.RunEnd.{RunEnd}
-use Rattle.tg_state.specs.State.{initial_machine}
+use Rattle.tg_machine_state.specs.declared.ends.RunEnd.{RunEnd}
+use Rattle.tg_machine_state.specs.State.{initial_machine}
 use Rattle.tg_isa.specs.declared.images.Image.{Image}
 use Rattle.tg_isa.specs.Runs.{begun, answers}
 use Rattle.tg_machine.specs.declared.fetches.Seen.{Seen}
 use Rattle.tg_machine.specs.Fetches.{IsWatched, fetches}
 use Rattle.tg_machine.specs.Machines.{Simulated, loaded}
-use Rattle.tg_watch.specs.Told.{reports_text}
-use Rattle.tg_watch.specs.Watching.{HaveSeen, Report}
+use Rattle.tg_profiler.specs.Told.{reports_text}
+use Rattle.tg_profiler.specs.Watching.{HaveSeen, Report}
 use Rattle.tg_command.specs.declared.flags.Flags.{Flags}
 use Rattle.tg_driver.specs.declared.answers.Answer.{Answer}
 use Rattle.tg_driver.specs.declared.answers.Answer.TheVariants.{Finished}

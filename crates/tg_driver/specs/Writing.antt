@@ -5,7 +5,7 @@ use Rattle.tg_driver.specs.declared.answers.Answer.{Answer}
 use Rattle.tg_driver.specs.declared.answers.Answer.TheVariants.{Faulty, Written, Unwritten}
 use Rattle.tg_driver.specs.Calls.{Shelved, Stream, Streams, Stays, Takes}
 use Rattle.tg_driver.specs.OfFiles.{OfFile, UntouchedBeforeStart}
-use Rattle.tg_correct.specs.Sources.{IsSource}
+use Rattle.tg_correctness.specs.Sources.{IsSource}
 use Rattle.tg_driver.specs.Faults.{IsFaultOf}
 
 -- the sink took a text, whole, or a write of it failed

@@ -7,7 +7,7 @@ use crate::endings::end_status;
 use crate::faults::Fault;
 use tg_asm::AsmRule;
 use tg_base::ShelfFault;
-use tg_state::RunEnd;
+use tg_machine_state::RunEnd;
 
 /// What the program answers, before it reports it.
 #[derive(Clone, Copy)]

@@ -15,7 +15,7 @@ use std::alloc::Global;
 use std::mem::forget;
 use tg_base::{Shelf, place};
 use tg_command::Command;
-use tg_types::check;
+use tg_typecheck::check;
 
 /// The answer of the mode `check`.
 pub(crate) fn answer_check<H: Shelf>(alloc: Global, command: &Command, shelf: &mut H) -> Answer

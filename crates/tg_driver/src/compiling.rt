@@ -1,7 +1,7 @@
 ghost use Rattle.std.specs.Prelude.{◌≡◌, ℕ, List, IfOk};
 ghost use Rattle.tg_syntax.specs.glue.Plain.{plain};
 ghost use Rattle.tg_compile_proof.specs.Builds.{CompilesTo};
-ghost use Rattle.tg_correct.specs.Sources.{IsSource};
+ghost use Rattle.tg_correctness.specs.Sources.{IsSource};
 ghost use Rattle.tg_driver.specs.glue.Readings.{HasNamedTree, IsCompiled};
 
 use crate::reading::{NamedProgram, ill_typed, parse_source};
@@ -9,9 +9,9 @@ use crate::refusals::Refusal;
 use std::alloc::Global;
 use tg_base::Memory;
 use tg_compile::{Compiled, compile_checked};
-use tg_irc::SpillPolicy;
+use tg_irc_definition::SpillPolicy;
 use tg_literal_bounds::literals_fit_text;
-use tg_types::check;
+use tg_typecheck::check;
 
 /// Compiles a source: the code of its functions and its assembly text. The policy is asked what to
 /// spill in each function in turn.

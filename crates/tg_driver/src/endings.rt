@@ -6,12 +6,12 @@ ghost use Rattle.tg_driver.specs.Endings.{
   end_line,
   end_status,
 };
-ghost use Rattle.tg_watch.specs.Words.{word_in_hex};
+ghost use Rattle.tg_profiler.specs.Words.{word_in_hex};
 ghost use Rattle.tg_driver.specs.glue.Plainly.{IsPlain, IsOwnBreak};
 
 use tg_base::{Failed, Sink, write_all};
-use tg_state::RunEnd;
-use tg_watch::word_in_hex;
+use tg_machine_state::RunEnd;
+use tg_profiler::word_in_hex;
 
 /// The exit status of an end of the machine.
 pub(crate) fn end_status(end: RunEnd) -> u8

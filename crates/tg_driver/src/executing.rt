@@ -1,5 +1,5 @@
 ghost use Rattle.std.specs.Prelude.{◌≡◌, ◌≤◌, ◌<◌, ◌^◌, ℕ, ⊤, [], All, length};
-ghost use Rattle.tg_state.specs.State.{most_bytes, most_words};
+ghost use Rattle.tg_machine_state.specs.State.{most_bytes, most_words};
 ghost use Rattle.tg_isa.specs.declared.images.Image.{Image as ImageOf};
 ghost use Rattle.tg_machine.specs.Machines.{loaded};
 ghost use Rattle.tg_command.specs.Commands.{KeepsLimits, asked_of};
@@ -17,8 +17,8 @@ use tg_base::{Faulty, Shelf, Sink, Source};
 use tg_command::Command;
 use tg_isa::Image;
 use tg_machine::{Machine, load};
-use tg_state::RunEnd;
-use tg_watch::{Watcher, begin_all, run_watched};
+use tg_machine_state::RunEnd;
+use tg_profiler::{Watcher, begin_all, run_watched};
 
 /// The most bytes of assembly text.
 const LONGEST: usize = 67_108_864;

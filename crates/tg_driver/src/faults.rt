@@ -8,7 +8,7 @@ use tg_asm::AsmRule;
 use tg_base::Place;
 use tg_lexer::LexRule;
 use tg_parser::SyntaxRule;
-use tg_types::TypeRule;
+use tg_typecheck::TypeRule;
 
 /// A rule that a source breaks.
 #[derive(Clone, Copy, Debug, PartialEq, Eq)]

@@ -14,8 +14,8 @@ use crate::writing::write_text;
 use std::alloc::Global;
 use tg_base::{Shelf, Sink, Source};
 use tg_command::Command;
-use tg_format::format;
-use tg_format_laws::lexed_are_writable;
+use tg_formatter::format;
+use tg_formatter_laws::lexed_are_writable;
 
 /// The answer of the mode `format`, which writes to the output alone.
 pub(crate) fn answer_format<H: Shelf, I: Source, O: Sink>(

@@ -1,14 +1,14 @@
 ghost use Rattle.std.specs.Prelude.{◌≡◌, ◌++◌, ◌≤◌, ◌<◌, ℕ, ⊤, [], length};
 ghost use Rattle.std.specs.Fmt.{decimal};
 ghost use Rattle.tg_base.specs.Causes.{HasCause};
-ghost use Rattle.tg_state.specs.State.{most_bytes, most_words};
+ghost use Rattle.tg_machine_state.specs.State.{most_bytes, most_words};
 ghost use Rattle.tg_base.specs.Writes.{TakesAll};
 ghost use Rattle.tg_isa.specs.declared.images.Image.{Image as ImageOf};
 ghost use Rattle.tg_machine.specs.Machines.{loaded};
 ghost use Rattle.tg_command.specs.Counts.{IsWithin, function_limits};
 ghost use Rattle.tg_command.specs.Commands.{KeepsLimits, asked_of};
 ghost use Rattle.tg_compile_proof.specs.Builds.{Builds};
-ghost use Rattle.tg_correct.specs.Sources.{IsSource};
+ghost use Rattle.tg_correctness.specs.Sources.{IsSource};
 ghost use Rattle.tg_driver.specs.Calls.{stream_of};
 ghost use Rattle.tg_driver.specs.Endings.{end_status};
 ghost use Rattle.tg_driver.specs.GenMode.{
@@ -28,12 +28,12 @@ use crate::images::image_of;
 use std::alloc::Global;
 use tg_base::{Failed, PlainSource, Sink, write_all};
 use tg_command::Command;
-use tg_generate::generate;
-use tg_generate_laws::generated_is_accepted;
-use tg_irc::SpillPolicy;
+use tg_program_generator::generate;
+use tg_program_generator_laws::generated_is_accepted;
+use tg_irc_definition::SpillPolicy;
 use tg_isa::Image;
 use tg_machine::{Machine, load};
-use tg_state::RunEnd;
+use tg_machine_state::RunEnd;
 
 /// The answer of the mode `gen`: generates a source, compiles it, runs it on an empty input, and
 /// writes the summary line.

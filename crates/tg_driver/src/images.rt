@@ -1,5 +1,5 @@
 ghost use Rattle.std.specs.Prelude.{◌≡◌, ◌≤◌, IfOk, length};
-ghost use Rattle.tg_state.specs.State.{most_bytes, most_words};
+ghost use Rattle.tg_machine_state.specs.State.{most_bytes, most_words};
 ghost use Rattle.tg_asm_text.specs.Assembly.{assembled};
 ghost use Rattle.tg_asm.specs.Images as meant;
 ghost use Rattle.tg_compile.specs.Compiling.{HasImage};

@@ -1,7 +1,7 @@
 ghost use Rattle.std.specs.Prelude.{◌≡◌, ◌⊎◌, ℕ, List, [], Some, take};
-ghost use Rattle.tg_state.specs.declared.ends.RunEnd.{RunEnd};
+ghost use Rattle.tg_machine_state.specs.declared.ends.RunEnd.{RunEnd};
 ghost use Rattle.tg_isa.specs.declared.images.Image.{Image};
-ghost use Rattle.tg_watch.specs.Watching.{Report};
+ghost use Rattle.tg_profiler.specs.Watching.{Report};
 ghost use Rattle.tg_command.specs.Commands.{Asked};
 ghost use Rattle.tg_driver.specs.declared.answers.Answer.{Answer};
 ghost use Rattle.tg_driver.specs.declared.answers.Answer.TheVariants.{Finished, OutOfMemory, Written};

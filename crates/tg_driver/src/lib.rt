@@ -32,6 +32,6 @@ pub use laws::{
 };
 pub use refusals::Refusal;
 pub use tg_compile::Compiled;
-pub use tg_generate::generate;
+pub use tg_program_generator::generate;
 pub use tools::Tools;
 pub use top::tiger;

@@ -1,5 +1,5 @@
 ghost use Rattle.std.specs.Prelude.{ℕ, List};
-ghost use Rattle.tg_correct.specs.Sources.{HasTokens};
+ghost use Rattle.tg_correctness.specs.Sources.{HasTokens};
 ghost use Rattle.tg_driver.specs.glue.Readings.{
   IsLexFaultOf,
   IsLexed,
@@ -18,7 +18,7 @@ use tg_base::Names;
 use tg_lexer::{LexFault, lex};
 use tg_parser::{SyntaxFault, parse};
 use tg_syntax::{Program, Spanned};
-use tg_types::TypeFault;
+use tg_typecheck::TypeFault;
 
 /// The most bytes of a source.
 pub(crate) const LONGEST: usize = 262_144;

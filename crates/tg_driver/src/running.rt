@@ -17,8 +17,8 @@ use crate::streams::Streams;
 use std::alloc::Global;
 use tg_base::{Shelf, Sink, Source};
 use tg_command::Command;
-use tg_irc::SpillPolicy;
-use tg_watch::Watcher;
+use tg_irc_definition::SpillPolicy;
+use tg_profiler::Watcher;
 
 /// The answer of the mode `run`.
 pub(crate) fn answer_run<H: Shelf, I: Source, O: Sink>(

@@ -1,5 +1,5 @@
 ghost use Rattle.std.specs.Prelude.{◌≡◌, ◌≤◌, ◌++◌, [], ℕ, List};
-ghost use Rattle.tg_watch.specs.Told.{HasTold, StandForOne};
+ghost use Rattle.tg_profiler.specs.Told.{HasTold, StandForOne};
 ghost use Rattle.tg_driver.specs.Calls.{stream_of};
 ghost use Rattle.tg_driver.specs.Endings.{end_line};
 ghost use Rattle.tg_driver.specs.Statuses.{line_of};
@@ -12,8 +12,8 @@ use crate::faults::{Fault, bad_line, fault_line};
 use std::alloc::Global;
 use tg_asm::AsmRule;
 use tg_base::{Failed, Sink, write_all};
-use tg_state::RunEnd;
-use tg_watch::{Watcher, write_reports};
+use tg_machine_state::RunEnd;
+use tg_profiler::{Watcher, write_reports};
 
 /// Reports an answer on the error sink, after a run what its watchers tell first, and answers its
 /// status. After a run it takes no memory.

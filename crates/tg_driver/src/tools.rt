@@ -1,5 +1,5 @@
-use tg_irc::SpillPolicy;
-use tg_watch::Watcher;
+use tg_irc_definition::SpillPolicy;
+use tg_profiler::Watcher;
 
 /// What the program is handed besides the outside. All of it is dropped by the end of the call.
 #[derive(Drop)]

@@ -23,8 +23,8 @@ use std::alloc::Global;
 use tg_base::{Shelf, Sink, Source};
 use tg_command::{Command, CommandFault, Flags, Mode, read_words};
 use tg_compile_proof::build_is_correct;
-use tg_irc::SpillPolicy;
-use tg_watch::Watcher;
+use tg_irc_definition::SpillPolicy;
+use tg_profiler::Watcher;
 
 /// The program: reads the words of a command, does what they ask, and answers the exit status. What
 /// it compiles is compiled by the policy of the tools. With `--watch` their watchers see the run, and

@@ -14,8 +14,8 @@ use std::alloc::Global;
 use tg_base::{Memory, Shelf, Sink, Source, write_all};
 use tg_command::Command;
 use tg_compile::Compiled;
-use tg_irc::SpillPolicy;
-use tg_regalloc_listing::list;
+use tg_irc_definition::SpillPolicy;
+use tg_regalloc_report::list;
 
 /// Which text of a source a mode writes to the output.
 #[derive(Clone, Copy)]

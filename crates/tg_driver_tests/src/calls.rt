@@ -4,8 +4,8 @@ use std::process::Abort;
 use std::test::Fail;
 use tg_base::{ListSource, MapShelf, RoomSink, Source};
 use tg_driver::{Tools, tiger};
-use tg_irc::LeastUse;
-use tg_watch::{Coverage, Profile, Trace, Watcher};
+use tg_irc_definition::LeastUse;
+use tg_profiler::{Coverage, Profile, Trace, Watcher};
 
 /// What the program makes calls on.
 #[derive(Clone, Copy, PartialEq, Eq)]

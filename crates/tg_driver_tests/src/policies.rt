@@ -8,7 +8,7 @@ use std::rc::Rc;
 use std::str;
 use std::test::Fail;
 use tg_driver::Tools;
-use tg_irc::{Candidate, SpillPolicy};
+use tg_irc_definition::{Candidate, SpillPolicy};
 
 /// Which candidate a policy chooses.
 #[derive(Clone, Copy)]

@@ -8,9 +8,9 @@ use std::rc::Rc;
 use std::test::Fail;
 use tg_base::Memory;
 use tg_driver::Tools;
-use tg_irc::LeastUse;
+use tg_irc_definition::LeastUse;
 use tg_machine::Seen as Fetch;
-use tg_watch::Watcher;
+use tg_profiler::Watcher;
 
 const HI: &str = "main: addiu $v0, $zero, 10\nsyscall";
 

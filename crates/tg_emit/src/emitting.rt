@@ -2,7 +2,7 @@ ghost use Rattle.std.specs.Prelude.{◌≡◌, ◌++◌, ◌<◌, ◌^◌, IsTru
 ghost use Rattle.std.specs.List.{All, list_all};
 ghost use Rattle.tg_emit.specs.Ranges.{FunctionFits, LiteralFits};
 ghost use Rattle.tg_emit.specs.Conditions.{is_emittable};
-ghost use Rattle.tg_state.specs.State.{padded};
+ghost use Rattle.tg_machine_state.specs.State.{padded};
 ghost use Rattle.tg_emit.specs.mirror.Lines.{
   assembly_of,
   functions_lines,

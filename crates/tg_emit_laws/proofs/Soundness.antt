@@ -7,7 +7,7 @@ use Rattle.std.specs.Str.{bytes_eq}
 use Rattle.std.proofs.lemmas.Bool.Decides.{nat_tests}
 use Rattle.std.proofs.lemmas.List.Elements.{recursion_from_All}
 use Rattle.std.proofs.lemmas.Slice.Eq.{bytes_eq-Decides}
-use Rattle.tg_state.specs.State.{most_words, most_bytes, code_base}
+use Rattle.tg_machine_state.specs.State.{most_words, most_bytes, code_base}
 use Rattle.tg_asm_text.specs.declared.keywords.Segment.TheVariants.{Code}
 use Rattle.tg_asm_text.specs.Assembly.{Reading, assembled}
 use Rattle.tg_asm_text.specs.Placement.{AtWord, found_address, Positions, positions, positions_from, position_of, labels_in, code_in, last_byte}

@@ -3,7 +3,7 @@ use Rattle.std.proofs.Common.{ℕ, ◌≡◌, ◌<◌, ◌+◌, ◌-◌, ◌%◌
 use Rattle.std.specs.Prelude.{All}
 use Rattle.std.specs.List.{AllByRecursion}
 use Rattle.std.proofs.lemmas.List.Elements.{All-append, All-replicate}
-use Rattle.tg_state.specs.State.{padded}
+use Rattle.tg_machine_state.specs.State.{padded}
 use Rattle.tg_asm_text.specs.declared.keywords.Segment.{Segment}
 use Rattle.tg_asm_text.specs.declared.keywords.Segment.TheVariants.{Code, Statics as InStatics}
 use Rattle.tg_asm_text.specs.Items.{Datum, Single, widths}

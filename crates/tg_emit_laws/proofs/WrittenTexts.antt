@@ -3,7 +3,7 @@ use Rattle.std.proofs.Common.{ℕ, ◌≡◌, List, [], ◌∷◌, ◌++◌, map
 use Rattle.std.specs.Prelude.{codes}
 use Rattle.std.specs.Fmt.{decimal}
 use Rattle.std.proofs.lemmas.Fmt.{decimal_digit}
-use Rattle.tg_state.specs.State.{padded}
+use Rattle.tg_machine_state.specs.State.{padded}
 use Rattle.tg_isa.specs.Names.{register_name}
 use Rattle.tg_asm_text.specs.Writing.{further}
 use Rattle.tg_asm_text.specs.Texts as texts

@@ -3,8 +3,8 @@ use Rattle.std.proofs.Common.{ℕ, suc, ◌≡◌, ◌<◌, ◌*◌, ◌/◌, �
 use Rattle.std.proofs.Common.{arith, true, Option, Some, None}
 use Rattle.std.specs.Prelude.{IsTrue, if◌then◌else◌, nat_lt}
 use Rattle.tg_base.specs.Words.{add}
-use Rattle.tg_state.specs.State.{MachineState, register, set_register, statics_base}
-use Rattle.tg_state.specs.Services as machine_does
+use Rattle.tg_machine_state.specs.State.{MachineState, register, set_register, statics_base}
+use Rattle.tg_machine_state.specs.Services as machine_does
 use Rattle.tg_simulation.specs.Ran.{Wrong, stops, works}
 use Rattle.tg_simulation.specs.laws.Simulating.{Comes}
 use Rattle.tg_simulation.proofs.Simulations.{simulates_wrong, comes_on}

@@ -7,9 +7,9 @@ use Rattle.std.proofs.lemmas.Grind.{common_steps}
 use Rattle.std.proofs.lemmas.List.Elements.{All-set, All-replicate}
 use Rattle.std.specs.Prelude.{Err, if◌then◌else◌, nat_lt}
 use Rattle.std.specs.List.{Contains}
-use Rattle.tg_state.specs.declared.ends.RunEnd.TheVariants.{Exit, StackFull}
-use Rattle.tg_state.specs.State.{MachineState, register, initial_machine, floor, stack_top, most_bytes, load_word}
-use Rattle.tg_state.specs.State.{padded, word_at}
+use Rattle.tg_machine_state.specs.declared.ends.RunEnd.TheVariants.{Exit, StackFull}
+use Rattle.tg_machine_state.specs.State.{MachineState, register, initial_machine, floor, stack_top, most_bytes, load_word}
+use Rattle.tg_machine_state.specs.State.{padded, word_at}
 use Rattle.tg_simulation.specs.Runs.{Run}
 use Rattle.tg_simulation.specs.Ran.{Ran, Ended}
 use Rattle.tg_simulation.specs.laws.Simulating.{Simulates}

@@ -8,8 +8,8 @@ use Rattle.std.proofs.lemmas.List.{get_or-set_same}
 use Rattle.std.proofs.lemmas.List.Elements.{All-set}
 use Rattle.std.specs.Prelude.{All, IsTrue, Ok, Err, if◌then◌else◌, slice_set, nat_lt, nat_le}
 use Rattle.std.specs.List.{AllByRecursion, Contains}
-use Rattle.tg_state.specs.declared.ends.RunEnd.TheVariants.{StackFull}
-use Rattle.tg_state.specs.State.{MachineState, register, set_register, floor, stack_top, load_word, word_at}
+use Rattle.tg_machine_state.specs.declared.ends.RunEnd.TheVariants.{StackFull}
+use Rattle.tg_machine_state.specs.State.{MachineState, register, set_register, floor, stack_top, load_word, word_at}
 use Rattle.tg_simulation.specs.Runs.{Run}
 use Rattle.tg_simulation.specs.Ran.{Ran, Ended, stops, works}
 use Rattle.tg_simulation.specs.laws.Simulating.{Simulates, Comes}

@@ -6,9 +6,9 @@ use Rattle.std.specs.List.{list_all}
 use Rattle.tg_base.specs.Words.{add, sub, less, quot, rem, signed, exact_sum, exact_difference, product_high}
 use Rattle.tg_base.specs.Words.{product_low, extended, extended_byte, shift_left, shift_right, shift_signed, neither}
 use Rattle.tg_base.specs.Words.{flag}
-use Rattle.tg_state.specs.State.{MachineState, register, set_register}
-use Rattle.tg_state.specs.Services as machine_does
-use Rattle.tg_state.specs.declared.ends.RunEnd.TheVariants.{Break}
+use Rattle.tg_machine_state.specs.State.{MachineState, register, set_register}
+use Rattle.tg_machine_state.specs.Services as machine_does
+use Rattle.tg_machine_state.specs.declared.ends.RunEnd.TheVariants.{Break}
 use Rattle.tg_simulation.specs.Ran.{Stop, Wrong}
 use Rattle.tg_isa.specs.declared.mips.Mips.TheVariants as row
 use Rattle.tg_isa.specs.Effects.{effect, put, put_exact, stored, extended_load}

@@ -1,7 +1,7 @@
 -- The first half, and both halves together.
 use Rattle.std.proofs.Common.{ℕ, ◌≡◌, ◌≢◌, ◌+◌, List, ap, sym, ◌∙◌, subst}
-use Rattle.tg_state.specs.declared.ends.RunEnd.{RunEnd}
-use Rattle.tg_state.specs.State.{initial_machine}
+use Rattle.tg_machine_state.specs.declared.ends.RunEnd.{RunEnd}
+use Rattle.tg_machine_state.specs.State.{initial_machine}
 use Rattle.tg_simulation.specs.Runs.{Run}
 use Rattle.tg_simulation.specs.Ran.{Ran, Ended, Wrong, IsOver, StaysOver, OnlyGoesOn}
 use Rattle.tg_simulation.specs.Preserving.{DoesTheSame, Preserves}

@@ -6,12 +6,12 @@ use Rattle.std.proofs.Common.{Bool, true, false, None}
 use Rattle.std.proofs.lemmas.Bool.Decides.{nat_tests}
 use Rattle.std.proofs.lemmas.List.{get_or-set_same}
 use Rattle.std.specs.Prelude.{Ok, Err, if◌then◌else◌, nat_lt, nat_le}
-use Rattle.tg_state.specs.declared.ends.RunEnd.TheVariants.{StackFull}
+use Rattle.tg_machine_state.specs.declared.ends.RunEnd.TheVariants.{StackFull}
 use Rattle.tg_base.specs.Words.{add, sub, extended}
-use Rattle.tg_state.specs.State.{MachineState, register, set_register, floor, stack_top, stack_reach}
-use Rattle.tg_state.specs.State.{load_word, word_there, word_at, offset, in_stack, in_heap, in_statics, fault}
-use Rattle.tg_state.specs.State.{heap_base, statics_base}
-use Rattle.tg_state.specs.Services as machine
+use Rattle.tg_machine_state.specs.State.{MachineState, register, set_register, floor, stack_top, stack_reach}
+use Rattle.tg_machine_state.specs.State.{load_word, word_there, word_at, offset, in_stack, in_heap, in_statics, fault}
+use Rattle.tg_machine_state.specs.State.{heap_base, statics_base}
+use Rattle.tg_machine_state.specs.Services as machine
 use Rattle.tg_simulation.specs.Ran as ran
 use Rattle.tg_simulation.specs.Ran.{stops}
 use Rattle.tg_simulation.specs.laws.Simulating.{Comes}

@@ -2,7 +2,7 @@
 use Rattle.std.proofs.Common.{ℕ, ◌≡◌, ◌+◌, ◌*◌, List, [], ◌∷◌, refl, pos}
 use Rattle.std.specs.Prelude.{codes}
 use Rattle.std.specs.Fmt.{digits}
-use Rattle.tg_state.specs.declared.ends.RunEnd.TheVariants.{Exit, StackFull}
+use Rattle.tg_machine_state.specs.declared.ends.RunEnd.TheVariants.{Exit, StackFull}
 use Rattle.tg_simulation.specs.Ran.{Ran, Ended, WantsFuel, Wrong}
 use Rattle.tg_isa.specs.declared.mips.Mips.TheVariants as row
 use Rattle.tg_tree.specs.declared.fragments.Literal.{Literal}

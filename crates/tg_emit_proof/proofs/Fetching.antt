@@ -4,7 +4,7 @@ use Rattle.std.proofs.Common.{true, false, Some}
 use Rattle.std.specs.Prelude.{Ok, nat_lt, nat_le, slice_index}
 use Rattle.std.proofs.lemmas.Bool.Decides.{nat_tests}
 use Rattle.tg_base.specs.Words.{add, extended}
-use Rattle.tg_state.specs.State.{MachineState, code_base, offset}
+use Rattle.tg_machine_state.specs.State.{MachineState, code_base, offset}
 use Rattle.tg_isa.specs.declared.mips.Mips.{Mips}
 use Rattle.tg_isa.specs.Table.{word_of, IsRow}
 use Rattle.tg_isa.specs.Effects.{fetch}

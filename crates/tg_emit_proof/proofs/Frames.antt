@@ -2,7 +2,7 @@
 use Rattle.std.proofs.Common.{ℕ, zero, suc, ◌≡◌, ◌≢◌, ◌<◌, ◌+◌, ◌-◌, ◌*◌, ◌==◌, ◌||◌, List, refl, ap, sym}
 use Rattle.std.proofs.Common.{◌∙◌, subst, arith, eqb-true, Bool, true, false}
 use Rattle.std.specs.Prelude.{if◌then◌else◌}
-use Rattle.tg_state.specs.State.{MachineState}
+use Rattle.tg_machine_state.specs.State.{MachineState}
 use Rattle.tg_tree.specs.Memory.{Memory, Cell, Closed, Unset, slot, lay}
 use Rattle.tg_tree.specs.Actions.{World, Activation}
 use Rattle.tg_tree.specs.Tree.{Function}

@@ -7,7 +7,7 @@ use Rattle.std.specs.Str.{bytes_eq}
 use Rattle.std.proofs.lemmas.Slice.Eq.{bytes_eq-Decides}
 use Rattle.std.proofs.lemmas.List.Elements.{All-append, All-replicate, recursion_from_All}
 use Rattle.std.specs.Prelude.{AllPairs}
-use Rattle.tg_state.specs.State.{padded, statics_base, most_bytes}
+use Rattle.tg_machine_state.specs.State.{padded, statics_base, most_bytes}
 use Rattle.tg_asm_text.specs.declared.keywords.Segment.TheVariants.{Code, Statics as InStatics}
 use Rattle.tg_asm_text.specs.Items.{Datum, Single, widths}
 use Rattle.tg_asm_text.specs.Assembly.{round_up}

@@ -1,6 +1,6 @@
 -- The induction over code and fuel, where each instruction goes on.
 use Rattle.std.proofs.Common.{ℕ, zero, suc, ◌<◌, ◌-◌, List, [], ◌∷◌, refl, arith}
-use Rattle.tg_state.specs.State.{MachineState, stack_top}
+use Rattle.tg_machine_state.specs.State.{MachineState, stack_top}
 use Rattle.tg_simulation.specs.laws.Simulating.{Simulates}
 use Rattle.tg_simulation.proofs.Simulations.{simulates_wrong, simulates_along}
 use Rattle.tg_tree.specs.Actions.{World, Activation}

@@ -4,7 +4,7 @@ use Rattle.std.proofs.Common.{subst, arith, append_assoc, eqb-true, Bool, true, 
 use Rattle.std.specs.Prelude.{if◌then◌else◌, not}
 use Rattle.std.specs.Str.{bytes_eq}
 use Rattle.tg_base.specs.Words.{less}
-use Rattle.tg_state.specs.State.{MachineState, register}
+use Rattle.tg_machine_state.specs.State.{MachineState, register}
 use Rattle.tg_simulation.specs.Runs.{Run}
 use Rattle.tg_simulation.specs.Ran.{Ran, works}
 use Rattle.tg_simulation.specs.laws.Simulating.{Comes}

@@ -2,11 +2,11 @@
 use Rattle.std.proofs.Common.{ℕ, zero, suc, ◌≡◌, ◌≢◌, ◌<◌, ◌+◌, ◌*◌, ◌/◌, ◌%◌, ◌^◌, ◌==◌, List, [], ◌∷◌, length, refl}
 use Rattle.std.proofs.Common.{ap, sym, ◌∙◌, subst, arith, eqb-true, Bool, true, false, Option, Some, None}
 use Rattle.std.specs.Prelude.{if◌then◌else◌, slice_index, pos}
-use Rattle.tg_state.specs.declared.ends.RunEnd.TheVariants.{Exit}
+use Rattle.tg_machine_state.specs.declared.ends.RunEnd.TheVariants.{Exit}
 use Rattle.tg_base.specs.Words.{add, less, extended}
-use Rattle.tg_state.specs.State.{MachineState, register, set_register, go, code_base, statics_base}
-use Rattle.tg_state.specs.Services as machine
-use Rattle.tg_state.specs.Services.{Step, answered}
+use Rattle.tg_machine_state.specs.State.{MachineState, register, set_register, go, code_base, statics_base}
+use Rattle.tg_machine_state.specs.Services as machine
+use Rattle.tg_machine_state.specs.Services.{Step, answered}
 use Rattle.tg_simulation.specs.Ran as ran
 use Rattle.tg_simulation.specs.Ran.{Ran, Wrong, stops, works, writes}
 use Rattle.tg_isa.specs.declared.mips.Mips.{Mips}

@@ -6,8 +6,8 @@ use Rattle.std.proofs.lemmas.Grind.{common_steps, or_after_shift}
 use Rattle.std.proofs.lemmas.List.{get_or-set_same, set-set}
 use Rattle.std.specs.Prelude.{IsTrue, Ok, if◌then◌else◌, slice_set, nat_lt, bit_or}
 use Rattle.tg_base.specs.Words.{add, extended}
-use Rattle.tg_state.specs.State.{MachineState, register, set_register, load_word, store_word}
-use Rattle.tg_state.specs.Services as machine
+use Rattle.tg_machine_state.specs.State.{MachineState, register, set_register, load_word, store_word}
+use Rattle.tg_machine_state.specs.Services as machine
 use Rattle.tg_simulation.specs.laws.Simulating.{Comes}
 use Rattle.tg_simulation.proofs.Simulations.{comes_on}
 use Rattle.tg_isa.specs.declared.mips.Mips.TheVariants as row

@@ -2,7 +2,7 @@
 use Rattle.std.proofs.Common.{ℕ, ◌≡◌, ◌<◌, ◌≤◌, ◌+◌, ◌*◌, ◌-◌, ◌^◌, ◌==◌, List, [], ◌∷◌, ◌++◌, length, refl, ap, sym}
 use Rattle.std.proofs.Common.{◌∙◌, subst, arith, append_assoc, Bool, true, false}
 use Rattle.std.specs.Prelude.{IsTrue, if◌then◌else◌, slice_set}
-use Rattle.tg_state.specs.State.{MachineState, set_register, stack_top}
+use Rattle.tg_machine_state.specs.State.{MachineState, set_register, stack_top}
 use Rattle.tg_simulation.specs.Ran.{Wrong, stops}
 use Rattle.tg_simulation.specs.laws.Simulating.{Comes}
 use Rattle.tg_simulation.proofs.Simulations.{simulates_paying, simulates_coming, simulates_wrong, simulates_with_credit}

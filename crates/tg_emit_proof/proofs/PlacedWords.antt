@@ -7,7 +7,7 @@ use Rattle.std.proofs.lemmas.Grind.{common_steps}
 use Rattle.std.proofs.Math.Seq.{get_or-append_seam}
 use Rattle.std.specs.Prelude.{if◌then◌else◌, slice_index, codes}
 use Rattle.std.specs.Str.{bytes_eq}
-use Rattle.tg_state.specs.State.{statics_base, initial_machine}
+use Rattle.tg_machine_state.specs.State.{statics_base, initial_machine}
 use Rattle.tg_simulation.specs.Ran.{Wrong}
 use Rattle.tg_isa.specs.declared.mips.Mips.{Mips}
 use Rattle.tg_isa.specs.declared.mips.Mips.TheVariants as row

@@ -3,11 +3,11 @@ use Rattle.std.proofs.Common.{ℕ, ◌≡◌, ◌≢◌, ◌<◌, ◌≤◌, ◌
 use Rattle.std.proofs.Common.{subst, arith, eqb-true, Bool, true, false, Option, Some, None}
 use Rattle.std.proofs.lemmas.Bool.Decides.{nat_tests}
 use Rattle.std.specs.Prelude.{All, Ok, Err, if◌then◌else◌, slice_index, slice_set}
-use Rattle.tg_state.specs.declared.ends.RunEnd.TheVariants.{Unaligned}
-use Rattle.tg_state.specs.State as machine
-use Rattle.tg_state.specs.State.{MachineState, floor, stack_top, most_room, heap_base, statics_base, offset, word_at}
-use Rattle.tg_state.specs.State.{set_word, InStack, InHeap, InStatics}
-use Rattle.tg_state.specs.State.{in_stack, in_heap, in_statics, word_there, byte_there, set_word_there, set_byte_there}
+use Rattle.tg_machine_state.specs.declared.ends.RunEnd.TheVariants.{Unaligned}
+use Rattle.tg_machine_state.specs.State as machine
+use Rattle.tg_machine_state.specs.State.{MachineState, floor, stack_top, most_room, heap_base, statics_base, offset, word_at}
+use Rattle.tg_machine_state.specs.State.{set_word, InStack, InHeap, InStatics}
+use Rattle.tg_machine_state.specs.State.{in_stack, in_heap, in_statics, word_there, byte_there, set_word_there, set_byte_there}
 use Rattle.tg_tree.specs.Memory as memory
 use Rattle.tg_tree.specs.Memory.{Memory, Cell, Closed, Unset, Has, Kept, or_heap, word_in, byte_in, cell_word}
 use Rattle.tg_tree.specs.Memory.{cell_byte, store_in, store_byte_in, put_open, put_byte, put}

@@ -6,7 +6,7 @@ use Rattle.std.proofs.lemmas.Grind.{common_steps}
 use Rattle.std.proofs.lemmas.List.{get_or-set_same, get_or-set_other}
 use Rattle.std.proofs.lemmas.List.Elements.{All-set}
 use Rattle.std.specs.Prelude.{All, if◌then◌else◌, slice_index, slice_set, nat_lt, nat_le}
-use Rattle.tg_state.specs.State.{offset, word_at, set_word}
+use Rattle.tg_machine_state.specs.State.{offset, word_at, set_word}
 use Rattle.tg_tree.specs.Memory.{byte_of, with_byte}
 use Rattle.tg_simulation.specs.Bytes.{AreBytes}
 

@@ -6,10 +6,10 @@ use Rattle.std.proofs.lemmas.Grind.{common_steps}
 use Rattle.std.proofs.lemmas.List.{get_or-set_same, get_or-set_other}
 use Rattle.std.proofs.lemmas.List.Elements.{All-set}
 use Rattle.std.specs.Prelude.{All, IsTrue, if◌then◌else◌, slice_index, slice_set}
-use Rattle.tg_state.specs.State.{MachineState, register, set_register}
+use Rattle.tg_machine_state.specs.State.{MachineState, register, set_register}
 use Rattle.tg_simulation.specs.Ran.{Ended, Wrong, WantsFuel}
-use Rattle.tg_state.specs.Services as machine
-use Rattle.tg_state.specs.Services.{Step}
+use Rattle.tg_machine_state.specs.Services as machine
+use Rattle.tg_machine_state.specs.Services.{Step}
 use Rattle.tg_tree.specs.Memory.{Memory}
 use Rattle.tg_tree.specs.Actions.{Activation}
 use Rattle.tg_tree.specs.Operators.{Given, word, stops_by}

@@ -6,7 +6,7 @@ use Rattle.std.proofs.lemmas.Bool.Decides.{nat_tests}
 use Rattle.std.specs.Prelude.{IsTrue, if◌then◌else◌, nat_lt}
 use Rattle.std.specs.List.{AllByRecursion}
 use Rattle.tg_base.specs.Words.{add}
-use Rattle.tg_state.specs.State.{MachineState, register}
+use Rattle.tg_machine_state.specs.State.{MachineState, register}
 use Rattle.tg_simulation.specs.Ran.{Wrong, stops, works}
 use Rattle.tg_simulation.specs.laws.Simulating.{Simulates, Comes}
 use Rattle.tg_simulation.proofs.Simulations.{comes_on, simulates_coming, simulates_paying, simulates_wrong}

@@ -1,10 +1,10 @@
 -- Rows of lines: what comes after one that goes straight on, ends the run, or is a call; and runs
 -- that come to others by rows.
 use Rattle.std.proofs.Common.{ℕ, zero, suc, ◌≡◌, ◌<◌, ◌≤◌, ◌+◌, ◌*◌, List, ◌∷◌, Some, ap, ◌∙◌, arith}
-use Rattle.tg_state.specs.declared.ends.RunEnd.{RunEnd}
-use Rattle.tg_state.specs.State.{MachineState, set_register}
-use Rattle.tg_state.specs.Services as machine
-use Rattle.tg_state.specs.Services.{answered}
+use Rattle.tg_machine_state.specs.declared.ends.RunEnd.{RunEnd}
+use Rattle.tg_machine_state.specs.State.{MachineState, set_register}
+use Rattle.tg_machine_state.specs.Services as machine
+use Rattle.tg_machine_state.specs.Services.{answered}
 use Rattle.tg_simulation.specs.Runs.{Run}
 use Rattle.tg_simulation.specs.Ran as ran
 use Rattle.tg_simulation.specs.Ran.{Ran, Wrong, stops, works, writes}

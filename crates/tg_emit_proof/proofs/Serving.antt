@@ -6,14 +6,14 @@ use Rattle.std.proofs.lemmas.Grind.{common_steps}
 use Rattle.std.proofs.lemmas.List.Elements.{All-append, All-replicate}
 use Rattle.std.specs.Prelude.{All, Ok, Err, Result, if◌then◌else◌, slice_index, slice_set, nat_lt}
 use Rattle.std.specs.Fmt.{signed_decimal}
-use Rattle.tg_state.specs.declared.ends.RunEnd.{RunEnd}
-use Rattle.tg_state.specs.declared.ends.RunEnd.TheVariants.{Exit, HeapFull, BadService}
+use Rattle.tg_machine_state.specs.declared.ends.RunEnd.{RunEnd}
+use Rattle.tg_machine_state.specs.declared.ends.RunEnd.TheVariants.{Exit, HeapFull, BadService}
 use Rattle.tg_base.specs.Words.{signed}
-use Rattle.tg_state.specs.State as machine
-use Rattle.tg_state.specs.State.{MachineState, register, set_register, floor, offset, statics_base, heap_base}
-use Rattle.tg_state.specs.State.{stack_top, in_stack, in_heap, in_statics, byte_there}
-use Rattle.tg_state.specs.Services as machine_does
-use Rattle.tg_state.specs.Services.{Step, whole_words, text_at, write_text, answered}
+use Rattle.tg_machine_state.specs.State as machine
+use Rattle.tg_machine_state.specs.State.{MachineState, register, set_register, floor, offset, statics_base, heap_base}
+use Rattle.tg_machine_state.specs.State.{stack_top, in_stack, in_heap, in_statics, byte_there}
+use Rattle.tg_machine_state.specs.Services as machine_does
+use Rattle.tg_machine_state.specs.Services.{Step, whole_words, text_at, write_text, answered}
 use Rattle.tg_simulation.specs.Runs.{Run}
 use Rattle.tg_simulation.specs.Ran.{Ran, Ended, works, writes}
 use Rattle.tg_simulation.specs.laws.Simulating.{Comes}

@@ -4,9 +4,9 @@ use Rattle.std.proofs.Common.{◌∙◌, subst, arith, Bool, true, false}
 use Rattle.std.proofs.lemmas.Bool.Decides.{nat_tests}
 use Rattle.std.specs.Prelude.{All, IsTrue, Ok, if◌then◌else◌, nat_lt}
 use Rattle.tg_base.specs.Words.{add, extended}
-use Rattle.tg_state.specs.State as machine
-use Rattle.tg_state.specs.State.{MachineState, register, set_register, stack_top}
-use Rattle.tg_state.specs.Services as machine_does
+use Rattle.tg_machine_state.specs.State as machine
+use Rattle.tg_machine_state.specs.State.{MachineState, register, set_register, stack_top}
+use Rattle.tg_machine_state.specs.Services as machine_does
 use Rattle.tg_simulation.specs.Ran.{Wrong, stops}
 use Rattle.tg_simulation.specs.laws.Simulating.{Comes}
 use Rattle.tg_simulation.proofs.Simulations.{simulates_wrong}

@@ -5,7 +5,7 @@ use Rattle.std.proofs.lemmas.Grind.{common_steps}
 use Rattle.std.proofs.lemmas.List.Elements.{All-append, All-replicate, recursion_from_All}
 use Rattle.std.specs.Prelude.{All}
 use Rattle.std.specs.List.{AllByRecursion}
-use Rattle.tg_state.specs.State.{padded, most_bytes}
+use Rattle.tg_machine_state.specs.State.{padded, most_bytes}
 use Rattle.tg_tree.specs.declared.fragments.Literal.{Literal}
 use Rattle.tg_tree.specs.glue.Plain.{plain_literal}
 use Rattle.tg_tree.specs.Memory as memory

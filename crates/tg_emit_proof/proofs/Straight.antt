@@ -5,10 +5,10 @@ use Rattle.std.proofs.lemmas.Bool.Decides.{nat_tests}
 use Rattle.std.proofs.lemmas.Grind.{common_steps}
 use Rattle.std.specs.Prelude.{All, IsTrue, if◌then◌else◌, slice_index, nat_lt}
 use Rattle.std.specs.List.{list_all}
-use Rattle.tg_state.specs.declared.ends.RunEnd.{RunEnd}
+use Rattle.tg_machine_state.specs.declared.ends.RunEnd.{RunEnd}
 use Rattle.tg_base.specs.Words.{add}
-use Rattle.tg_state.specs.State.{MachineState, register, set_register}
-use Rattle.tg_state.specs.Services as machine_does
+use Rattle.tg_machine_state.specs.State.{MachineState, register, set_register}
+use Rattle.tg_machine_state.specs.Services as machine_does
 use Rattle.tg_simulation.specs.Runs.{Run}
 use Rattle.tg_simulation.specs.Ran.{Ran, Stop, Ended, Wrong, WantsFuel, stops}
 use Rattle.tg_simulation.specs.laws.Simulating.{Comes}

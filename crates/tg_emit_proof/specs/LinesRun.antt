@@ -4,13 +4,14 @@
 use Rattle.std.specs.Prelude.{ℕ, zero, suc, ◌+◌, ◌*◌, ◌/◌, ◌%◌, ◌==◌, List, [], ◌∷◌, ◌++◌}
 use Rattle.std.specs.Prelude.{length, Bool, Option, Some, None, if◌then◌else◌, codes, pos}
 use Rattle.std.specs.Str.{bytes_eq}
-use Rattle.tg_state.specs.declared.ends.RunEnd.{RunEnd}
-use Rattle.tg_state.specs.declared.ends.RunEnd.TheVariants.{Exit}
+use Rattle.tg_machine_state.specs.declared.ends.RunEnd.{RunEnd}
+use Rattle.tg_machine_state.specs.declared.ends.RunEnd.TheVariants.{Exit}
 use Rattle.tg_base.specs.Words.{less}
-use Rattle.tg_state.specs.State.{MachineState, register, set_register, initial_machine, padded}
-use Rattle.tg_state.specs.State.{statics_base}
-use Rattle.tg_state.specs.Services as step
-use Rattle.tg_state.specs.Services.{Step, answered}
+use Rattle.tg_machine_state.specs.State.{MachineState, register, set_register, initial_machine}
+use Rattle.tg_machine_state.specs.State.{padded}
+use Rattle.tg_machine_state.specs.State.{statics_base}
+use Rattle.tg_machine_state.specs.Services as step
+use Rattle.tg_machine_state.specs.Services.{Step, answered}
 use Rattle.tg_simulation.specs.Runs.{Run}
 use Rattle.tg_simulation.specs.Ran.{Ran, Ended, WantsFuel, Wrong, stops, writes, works}
 use Rattle.tg_isa.specs.declared.mips.Mips.{Mips}

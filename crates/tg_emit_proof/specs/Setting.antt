@@ -1,7 +1,7 @@
 -- Functions over registers with the lines that stand for them, what a run of either is given, and
 -- the two runs.
 use Rattle.std.specs.Prelude.{ℕ, ◌+◌, ◌-◌, List, Option, Bool}
-use Rattle.tg_state.specs.State.{MachineState, stack_top}
+use Rattle.tg_machine_state.specs.State.{MachineState, stack_top}
 use Rattle.tg_simulation.specs.Runs.{Run}
 use Rattle.tg_simulation.specs.Ran.{Ran}
 use Rattle.tg_tree.specs.declared.fragments.Literal.{Literal}

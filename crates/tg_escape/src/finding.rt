@@ -8,7 +8,7 @@ use crate::searches::search_body;
 use crate::sets::{Escapes, Links};
 use std::alloc::Global;
 use tg_base::Memory;
-use tg_types::Checked;
+use tg_typecheck::Checked;
 
 /// The variables of a program that escape. A use of a name takes a bounded number of look-ups in
 /// hash maps for each function that it lies in, however many names are declared where it stands.

@@ -1,8 +1,8 @@
 -- Small trees, folded by the definition itself.
 use Rattle.std.proofs.Common.{◌≡◌, ℕ, ◌-◌, [], ◌∷◌, true, false, refl}
 use Rattle.std.specs.Prelude.{nat_lt, pos}
-use Rattle.tg_state.specs.declared.ends.RunEnd.TheVariants.{Exit}
-use Rattle.tg_state.specs.State.{stack_top}
+use Rattle.tg_machine_state.specs.declared.ends.RunEnd.TheVariants.{Exit}
+use Rattle.tg_machine_state.specs.State.{stack_top}
 use Rattle.tg_simulation.specs.Ran.{Ran, Ended}
 use Rattle.tg_tree.specs.declared.operators.Bin.{Bin}
 use Rattle.tg_tree.specs.declared.operators.Bin.TheVariants.{Add, Sub, Mul, Div, And, Or, Xor, ShiftLeft, ShiftRight, ShiftSigned, AddTrap, SubTrap, MulHigh}

@@ -4,8 +4,8 @@
 use Rattle.std.proofs.Common.{◌≡◌, ℕ, ◌-◌, ◌++◌, List, [], ◌∷◌, Bool, true, refl}
 use Rattle.std.specs.Prelude.{codes, pos, nat_le, nat_lt, ◌&&◌}
 use Rattle.std.specs.List.{list_all}
-use Rattle.tg_state.specs.declared.ends.RunEnd.TheVariants.{Exit, Break as Broken}
-use Rattle.tg_state.specs.State.{stack_top}
+use Rattle.tg_machine_state.specs.declared.ends.RunEnd.TheVariants.{Exit, Break as Broken}
+use Rattle.tg_machine_state.specs.State.{stack_top}
 use Rattle.tg_simulation.specs.Ran.{Ran, Stop, Ended}
 use Rattle.tg_syntax.specs.declared.trees.Op.TheVariants as op
 use Rattle.tg_syntax.specs.Tree.{Exp, Binary, If, When, While, For, no_decs}

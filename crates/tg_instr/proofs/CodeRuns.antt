@@ -3,10 +3,10 @@
 use Rattle.std.proofs.Common.{◌≡◌, ◌≤◌, ◌<◌, ℕ, ◌+◌, ◌-◌, List, [], ◌∷◌, Bool, true, false, length, refl, arith}
 use Rattle.std.specs.Prelude.{◌==◌, ◌%◌, Option, Some, None, pos, nat_lt, if◌then◌else◌}
 use Rattle.std.specs.Fmt.{signed_decimal}
-use Rattle.tg_state.specs.declared.ends.RunEnd.TheVariants.{Exit, Break, StackFull, BadService}
-use Rattle.tg_state.specs.State.{stack_top}
+use Rattle.tg_machine_state.specs.declared.ends.RunEnd.TheVariants.{Exit, Break, StackFull, BadService}
+use Rattle.tg_machine_state.specs.State.{stack_top}
 use Rattle.tg_base.specs.Words.{add, signed}
-use Rattle.tg_state.specs.Services.{whole_words}
+use Rattle.tg_machine_state.specs.Services.{whole_words}
 use Rattle.tg_simulation.specs.Runs.{Run}
 use Rattle.tg_simulation.specs.Ran.{Ran, Ended, WantsFuel, Wrong, stops, IsOver, GoesOn}
 use Rattle.tg_simulation.proofs.Fixpoint.{again_is, runs_relate}

@@ -1,8 +1,8 @@
 -- Runs of instructions, computed: a call, a value that is given back moved and kept in a slot, each
 -- way to go wrong once, and one run for each rule.
 use Rattle.std.proofs.Common.{ℕ, ◌≡◌, ◌-◌, List, [], ◌∷◌, refl, pos}
-use Rattle.tg_state.specs.declared.ends.RunEnd.TheVariants.{Exit, Break, StackFull}
-use Rattle.tg_state.specs.State.{stack_top}
+use Rattle.tg_machine_state.specs.declared.ends.RunEnd.TheVariants.{Exit, Break, StackFull}
+use Rattle.tg_machine_state.specs.State.{stack_top}
 use Rattle.tg_simulation.specs.Ran.{Ran, Ended, WantsFuel, Wrong}
 use Rattle.std.specs.Prelude.{◌==◌, if◌then◌else◌}
 use Rattle.tg_tree.specs.declared.operators.Rel.TheVariants.{Equal}

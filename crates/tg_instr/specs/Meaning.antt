@@ -1,7 +1,7 @@
 -- What an instruction does, by its shape, given what comes next: at the next instruction, at a
 -- mark, and after the function's return (Appel, chapter 9; MIPS I and SPIM manuals).
 use Rattle.std.specs.Prelude.{ℕ, ◌-◌, List, Option, nat_lt, if◌then◌else◌}
-use Rattle.tg_state.specs.declared.ends.RunEnd.TheVariants.{Break}
+use Rattle.tg_machine_state.specs.declared.ends.RunEnd.TheVariants.{Break}
 use Rattle.tg_base.specs.Words.{add}
 use Rattle.tg_simulation.specs.Runs.{Run}
 use Rattle.tg_simulation.specs.Ran.{Ran, Stop, Ended}

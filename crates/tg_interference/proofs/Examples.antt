@@ -9,8 +9,8 @@ use Rattle.tg_graph.specs.Interference.{Interference, interferes}
 use Rattle.tg_live.specs.Live.{Sets}
 use Rattle.tg_live.proofs.LiveExamples as live
 use Rattle.tg_live.proofs.LiveExamples.{copies}
-use Rattle.tg_irc.specs.declared.moves.Move.{Move}
-use Rattle.tg_irc.specs.declared.candidates.NodeFacts.{NodeFacts}
+use Rattle.tg_irc_definition.specs.declared.moves.Move.{Move}
+use Rattle.tg_irc_definition.specs.declared.candidates.NodeFacts.{NodeFacts}
 use Rattle.tg_interference.specs.Nodes.{operand_at, node_of}
 use Rattle.tg_interference.specs.Moves.{moves_of}
 use Rattle.tg_interference.specs.Pairs.{IsInterference}

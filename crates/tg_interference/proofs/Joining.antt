@@ -6,7 +6,7 @@ use Rattle.std.proofs.lemmas.List.Folds.{list_any_more}
 use Rattle.tg_instr.specs.declared.operands.Opnd.{Opnd}
 use Rattle.tg_instr.specs.Operands.{is_same}
 use Rattle.tg_graph.specs.Interference.{are_ends}
-use Rattle.tg_irc.specs.declared.moves.Move.{Move}
+use Rattle.tg_irc_definition.specs.declared.moves.Move.{Move}
 use Rattle.tg_interference.specs.Nodes.{operand_at, node_of}
 use Rattle.tg_interference.specs.Pairs.{has, is_apart, joins, joins_both}
 use Rattle.tg_interference.proofs.Colours.{is_at, same_at}

@@ -14,8 +14,8 @@ use Rattle.tg_instr.specs.Operands.{is_same}
 use Rattle.tg_instr.specs.Shapes.{Holder, Operand, Hi, Lo, InstructionShape, From1, Calls, shape}
 use Rattle.tg_instr.specs.Uses.{operand_of, uses, defs, uses_of, defs_of}
 use Rattle.tg_graph.specs.Interference.{is_register}
-use Rattle.tg_irc.specs.declared.moves.Move.{Move}
-use Rattle.tg_irc.specs.declared.candidates.NodeFacts.{NodeFacts}
+use Rattle.tg_irc_definition.specs.declared.moves.Move.{Move}
+use Rattle.tg_irc_definition.specs.declared.candidates.NodeFacts.{NodeFacts}
 use Rattle.tg_interference.specs.Moves.{move_of, moves_of}
 use Rattle.tg_interference.specs.Facts.{temp, occurrences_in, occurrences, facts_by, facts_of, AreCounts}
 

@@ -9,7 +9,7 @@ use Rattle.tg_instr.specs.declared.operands.Opnd.TheVariants.{Temp as TempOf}
 use Rattle.tg_instr.specs.Operands.{is_same}
 use Rattle.tg_instr.specs.Uses.{uses_of, defs_of}
 use Rattle.tg_graph.specs.Interference.{is_register}
-use Rattle.tg_irc.specs.declared.candidates.NodeFacts.{NodeFacts}
+use Rattle.tg_irc_definition.specs.declared.candidates.NodeFacts.{NodeFacts}
 
 abbrev pub temp : ℕ → Opnd
 temp t = TempOf (record { 0 = t })

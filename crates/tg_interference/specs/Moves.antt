@@ -3,7 +3,7 @@ use Rattle.std.specs.Prelude.{ℕ, List, Option, Some, None}
 use Rattle.std.specs.List.{filter_map}
 use Rattle.tg_instr.specs.declared.instr.Instr.{Instr}
 use Rattle.tg_instr.specs.Shapes.{InstructionShape, Copy, shape}
-use Rattle.tg_irc.specs.declared.moves.Move.{Move}
+use Rattle.tg_irc_definition.specs.declared.moves.Move.{Move}
 use Rattle.tg_interference.specs.Nodes.{node_of}
 
 -- a move where both ends have nodes

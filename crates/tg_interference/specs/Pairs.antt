@@ -6,7 +6,7 @@ use Rattle.tg_instr.specs.declared.operands.Opnd.{Opnd}
 use Rattle.tg_graph.specs.Interference.{Interference, interferes}
 use Rattle.tg_live.specs.Live.{is_among}
 use Rattle.tg_live.specs.Interference.{Interferes}
-use Rattle.tg_irc.specs.declared.moves.Move.{Move}
+use Rattle.tg_irc_definition.specs.declared.moves.Move.{Move}
 use Rattle.tg_interference.specs.Nodes.{operand_at}
 
 -- it has a node for each colour and each temporary, and two nodes interfere exactly where their

@@ -32,7 +32,7 @@ use std::alloc::Global;
 use tg_base::Memory;
 use tg_graph::{COLOURS, Graph, registers_interfere};
 use tg_instr::{Code, Instr, Opnd};
-use tg_irc::Move;
+use tg_irc_definition::Move;
 use tg_live::LiveSets;
 
 /// The interference graph of a code, given what is live out of each instruction: each definition is

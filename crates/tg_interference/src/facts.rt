@@ -30,7 +30,7 @@ use std::alloc::Global;
 use tg_base::{ListOf, Memory};
 use tg_graph::COLOURS;
 use tg_instr::{Code, Instr, Opnd};
-use tg_irc::NodeFacts;
+use tg_irc_definition::NodeFacts;
 
 /// The facts of each node, in the order of nodes.
 pub type FactsOfNodes = ListOf<NodeFacts>;

@@ -8,7 +8,7 @@ use crate::nodes::node_of;
 use std::alloc::Global;
 use tg_base::Memory;
 use tg_instr::{Code, Instr};
-use tg_irc::{Move, Moves};
+use tg_irc_definition::{Move, Moves};
 
 /// The move instructions of a code whose ends both have nodes, in the order of the code.
 pub fn moves_of(alloc: Global, code: &Code) -> Result<Moves, Memory>

@@ -3,15 +3,15 @@ use Rattle.std.proofs.Common.{ℕ, zero, suc, ◌≡◌, ◌+◌, ◌%◌, ◌==
 use Rattle.std.proofs.Common.{true, false, Option, Some, None}
 use Rattle.std.specs.Prelude.{Result, Ok, Err, if◌then◌else◌, pos, replicate, nat_lt, slice_set}
 use Rattle.std.specs.Fmt.{signed_decimal}
-use Rattle.tg_state.specs.declared.ends.RunEnd.{RunEnd}
-use Rattle.tg_state.specs.declared.ends.RunEnd.TheVariants.{Exit, HeapFull, Unaligned, BadService}
+use Rattle.tg_machine_state.specs.declared.ends.RunEnd.{RunEnd}
+use Rattle.tg_machine_state.specs.declared.ends.RunEnd.TheVariants.{Exit, HeapFull, Unaligned, BadService}
 use Rattle.tg_base.specs.Words.{signed, exact_sum, exact_difference, extended, quot, rem}
-use Rattle.tg_state.specs.State.{MachineState, RegionByte, InStack, InHeap, InStatics, Nowhere, register, set_register}
-use Rattle.tg_state.specs.State.{in_stack, in_heap, in_statics, spot}
-use Rattle.tg_state.specs.State.{byte_there, word_there, load_byte, load_word, set_byte_there, set_word_there}
-use Rattle.tg_state.specs.State.{store_byte, store_word, offset, floor, heap_base, statics_base}
-use Rattle.tg_state.specs.Services.{Step, Goes, Ends, Reads, Writes, service, answered, take_heap, whole_words}
-use Rattle.tg_state.specs.Services.{text_at, text_from, before, write_text}
+use Rattle.tg_machine_state.specs.State.{MachineState, RegionByte, InStack, InHeap, InStatics, Nowhere, register, set_register}
+use Rattle.tg_machine_state.specs.State.{in_stack, in_heap, in_statics, spot}
+use Rattle.tg_machine_state.specs.State.{byte_there, word_there, load_byte, load_word, set_byte_there, set_word_there}
+use Rattle.tg_machine_state.specs.State.{store_byte, store_word, offset, floor, heap_base, statics_base}
+use Rattle.tg_machine_state.specs.Services.{Step, Goes, Ends, Reads, Writes, service, answered, take_heap, whole_words}
+use Rattle.tg_machine_state.specs.Services.{text_at, text_from, before, write_text}
 use Rattle.tg_isa.specs.declared.mips.Mips.{Mips}
 use Rattle.tg_isa.specs.declared.mips.Mips.TheVariants as row
 use Rattle.tg_isa.specs.Effects.{effect, put, put_exact, stored, extended_load, divide, effective_address}

@@ -1,8 +1,8 @@
 -- The machine's run by fuel is what so many steps come to.
 use Rattle.std.proofs.Common.{◌≡◌, ◌≤◌, ◌+◌, ℕ, zero, suc, List, [], ◌∷◌, ◌++◌, Option, arith, refl, sym, ap, ◌∙◌, subst, append_assoc, append-nil}
-use Rattle.tg_state.specs.declared.ends.RunEnd.{RunEnd}
-use Rattle.tg_state.specs.State.{MachineState}
-use Rattle.tg_state.specs.Services.{Step, Goes, Ends, Reads, Writes, answered}
+use Rattle.tg_machine_state.specs.declared.ends.RunEnd.{RunEnd}
+use Rattle.tg_machine_state.specs.State.{MachineState}
+use Rattle.tg_machine_state.specs.Services.{Step, Goes, Ends, Reads, Writes, answered}
 use Rattle.tg_simulation.specs.Ran as ran
 use Rattle.tg_simulation.specs.Ran.{Ran, Stop, stops, writes, works, IsOver, StaysOver, GoesOn, OnlyGoesOn}
 use Rattle.tg_isa.specs.Effects.{step}

@@ -11,17 +11,19 @@ use Rattle.tg_isa.specs.declared.mips.Mips.TheVariants.{Bne, Blez, Bgtz, Bltz, B
 use Rattle.tg_isa.specs.declared.mips.Mips.TheVariants.{Slti, Sltiu, Andi, Ori, Xori, Lui, Lb, Lbu}
 use Rattle.tg_isa.specs.declared.mips.Mips.TheVariants.{Lw, Sb, Sw}
 use Rattle.tg_isa.specs.Table.{decode_of}
-use Rattle.tg_state.specs.declared.ends.RunEnd.TheVariants as ends
-use Rattle.tg_state.specs.declared.ends.RunEnd.{RunEnd}
-use Rattle.tg_state.specs.declared.ends.RunEnd.TheVariants.{Exit, Overflow, BadAddress, Unaligned}
-use Rattle.tg_state.specs.declared.ends.RunEnd.TheVariants.{BadWord}
+use Rattle.tg_machine_state.specs.declared.ends.RunEnd.TheVariants as ends
+use Rattle.tg_machine_state.specs.declared.ends.RunEnd.{RunEnd}
+use Rattle.tg_machine_state.specs.declared.ends.RunEnd.TheVariants.{Exit, Overflow, BadAddress}
+use Rattle.tg_machine_state.specs.declared.ends.RunEnd.TheVariants.{Unaligned}
+use Rattle.tg_machine_state.specs.declared.ends.RunEnd.TheVariants.{BadWord}
 use Rattle.tg_base.specs.Words.{add, sub, less, quot, rem, exact_sum, exact_difference}
 use Rattle.tg_base.specs.Words.{product_high, product_low, extended, extended_byte, shift_left}
 use Rattle.tg_base.specs.Words.{shift_right, shift_signed, neither, flag}
-use Rattle.tg_state.specs.State.{MachineState, code_base, register, set_register, go, offset}
-use Rattle.tg_state.specs.State.{load_byte}
-use Rattle.tg_state.specs.State.{load_word, store_byte, store_word}
-use Rattle.tg_state.specs.Services.{Step, Goes, Ends, service}
+use Rattle.tg_machine_state.specs.State.{MachineState, code_base, register, set_register, go}
+use Rattle.tg_machine_state.specs.State.{offset}
+use Rattle.tg_machine_state.specs.State.{load_byte}
+use Rattle.tg_machine_state.specs.State.{load_word, store_byte, store_word}
+use Rattle.tg_machine_state.specs.Services.{Step, Goes, Ends, service}
 
 -- a register gets a word, or the access ends
 abbrev pub put : MachineState → ℕ → Result ℕ RunEnd → Step

@@ -1,9 +1,9 @@
 -- The machine's run of an image as a run by fuel: a step takes a unit of fuel, and is a unit of
 -- work.
 use Rattle.std.specs.Prelude.{ℕ, zero, suc, ◌≡◌, ◌≤◌, List, [], ◌∷◌, Option, Some, None}
-use Rattle.tg_state.specs.declared.ends.RunEnd.{RunEnd}
-use Rattle.tg_state.specs.State.{MachineState, initial_machine}
-use Rattle.tg_state.specs.Services.{Goes, Ends, Reads, Writes, answered}
+use Rattle.tg_machine_state.specs.declared.ends.RunEnd.{RunEnd}
+use Rattle.tg_machine_state.specs.State.{MachineState, initial_machine}
+use Rattle.tg_machine_state.specs.Services.{Goes, Ends, Reads, Writes, answered}
 use Rattle.tg_simulation.specs.Runs.{Run}
 use Rattle.tg_simulation.specs.Ran as ran
 use Rattle.tg_simulation.specs.Ran.{Ran, stops, writes, works, StaysOver, OnlyGoesOn}

@@ -1,8 +1,8 @@
 -- Runs of the machine on an input, with what they write.
 use Rattle.std.specs.Prelude.{ℕ, zero, suc, List, [], ◌∷◌, ◌++◌, map, Option, Some, None}
-use Rattle.tg_state.specs.declared.ends.RunEnd.{RunEnd}
-use Rattle.tg_state.specs.State.{MachineState}
-use Rattle.tg_state.specs.Services.{Step, Goes, Ends, Reads, Writes, answered}
+use Rattle.tg_machine_state.specs.declared.ends.RunEnd.{RunEnd}
+use Rattle.tg_machine_state.specs.State.{MachineState}
+use Rattle.tg_machine_state.specs.Services.{Step, Goes, Ends, Reads, Writes, answered}
 use Rattle.tg_isa.specs.Effects.{step}
 
 -- A machine, what its reads will answer (a byte, or None for the end of input; past the list, the

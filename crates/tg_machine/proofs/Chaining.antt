@@ -4,9 +4,9 @@ use Rattle.std.proofs.Common.{◌∙◌, subst, append_assoc, append-nil, length
 use Rattle.std.proofs.lemmas.List.Elements.{All-append}
 use Rattle.std.specs.Io.KnownBytes.{Appends}
 use Rattle.std.proofs.KnownBytes.{Appends-trans, Consumes-trans}
-use Rattle.tg_state.specs.declared.ends.RunEnd.{RunEnd}
-use Rattle.tg_state.specs.State.{MachineState}
-use Rattle.tg_state.specs.Services.{Step, Goes, Ends, Reads, Writes}
+use Rattle.tg_machine_state.specs.declared.ends.RunEnd.{RunEnd}
+use Rattle.tg_machine_state.specs.State.{MachineState}
+use Rattle.tg_machine_state.specs.Services.{Step, Goes, Ends, Reads, Writes}
 use Rattle.tg_isa.specs.Effects.{step}
 use Rattle.tg_isa.specs.Runs.{Execution, Progress, Running, Ended, proceed, run, begun, answers}
 use Rattle.tg_machine.specs.Ran.{ComesToRead, ComesToWrite, Stops, still, ended, read_failed, write_failed, MayFollow, begun_on, standing}

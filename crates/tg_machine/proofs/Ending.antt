@@ -1,7 +1,7 @@
 -- A machine that has ended answers its end again.
 use Rattle.std.proofs.Common.{◌≡◌, ◌≢◌, ℕ, List, Option, Some, None, IfSome, refl, subst}
-use Rattle.tg_state.specs.declared.ends.RunEnd.{RunEnd}
-use Rattle.tg_state.specs.declared.ends.RunEnd.TheVariants.{StepLimit}
+use Rattle.tg_machine_state.specs.declared.ends.RunEnd.{RunEnd}
+use Rattle.tg_machine_state.specs.declared.ends.RunEnd.TheVariants.{StepLimit}
 use Rattle.tg_machine.specs.declared.status.Status.TheVariants.{Ended}
 use Rattle.tg_machine.specs.Machines.{Simulated, HasEnded}
 use Rattle.tg_machine.specs.laws.Laws.{HasCalled, EndsAgain, StepsEndAgain}

@@ -1,7 +1,7 @@
 -- Fetches of small programs, computed by the definition.
 use Rattle.std.proofs.Common.{false, ◌≡◌, ℕ, List, [], ◌∷◌, None, Some, refl}
-use Rattle.tg_state.specs.State.{MachineState, initial_machine}
-use Rattle.tg_state.specs.declared.ends.RunEnd.TheVariants.{Break}
+use Rattle.tg_machine_state.specs.State.{MachineState, initial_machine}
+use Rattle.tg_machine_state.specs.declared.ends.RunEnd.TheVariants.{Break}
 use Rattle.tg_isa.specs.Runs.{begun}
 use Rattle.tg_machine.specs.declared.fetches.Seen.{Seen}
 use Rattle.tg_machine.specs.Fetches.{fetches, seen_at, seen_next}

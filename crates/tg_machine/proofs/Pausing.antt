@@ -1,7 +1,7 @@
 -- How steps without a service go on, and what they leave of a call.
 use Rattle.std.proofs.Common.{◌≡◌, ◌<◌, ◌+◌, ℕ, zero, suc, List, Option, Bool, arith, sym, subst}
-use Rattle.tg_state.specs.State.{MachineState}
-use Rattle.tg_state.specs.Services.{Step, Goes}
+use Rattle.tg_machine_state.specs.State.{MachineState}
+use Rattle.tg_machine_state.specs.Services.{Step, Goes}
 use Rattle.tg_isa.specs.Effects.{step}
 use Rattle.tg_machine.specs.glue.Pauses.{RunsTo}
 use Rattle.tg_machine.proofs.Reached.{Reached, reached_goes}

@@ -4,10 +4,10 @@ use Rattle.std.proofs.Common.{Option, Some, None, refl, sym, ap, arith}
 use Rattle.std.specs.Prelude.{Ok, Err, if◌then◌else◌, nat_le, nat_lt, pos, slice_index}
 use Rattle.std.proofs.Math.Dec.{eqb-suc-zero}
 use Rattle.std.proofs.lemmas.Bool.{le-leb}
-use Rattle.tg_state.specs.declared.ends.RunEnd.{RunEnd}
-use Rattle.tg_state.specs.declared.ends.RunEnd.TheVariants.{Exit, BadAddress, Unaligned}
-use Rattle.tg_state.specs.State.{MachineState, code_base, go, offset}
-use Rattle.tg_state.specs.Services.{Step, Goes, Ends, Reads, Writes}
+use Rattle.tg_machine_state.specs.declared.ends.RunEnd.{RunEnd}
+use Rattle.tg_machine_state.specs.declared.ends.RunEnd.TheVariants.{Exit, BadAddress, Unaligned}
+use Rattle.tg_machine_state.specs.State.{MachineState, code_base, go, offset}
+use Rattle.tg_machine_state.specs.Services.{Step, Goes, Ends, Reads, Writes}
 use Rattle.tg_base.specs.Words.{add}
 use Rattle.tg_isa.specs.declared.mips.Mips.{Mips}
 use Rattle.tg_isa.specs.declared.mips.Mips.TheVariants as mips

@@ -9,10 +9,10 @@ use Rattle.std.proofs.Math.Seq.{take-add}
 use Rattle.std.proofs.KnownBytes.{Appends-trans}
 use Rattle.std.specs.Io.KnownBytes.{Appends}
 use Rattle.tg_base.specs.Writes.{TakesPrefix}
-use Rattle.tg_state.specs.declared.ends.RunEnd.{RunEnd}
-use Rattle.tg_state.specs.declared.ends.RunEnd.TheVariants.{BadAddress}
-use Rattle.tg_state.specs.State.{MachineState, load_byte, stack_top}
-use Rattle.tg_state.specs.Services.{text_from, text_at, before}
+use Rattle.tg_machine_state.specs.declared.ends.RunEnd.{RunEnd}
+use Rattle.tg_machine_state.specs.declared.ends.RunEnd.TheVariants.{BadAddress}
+use Rattle.tg_machine_state.specs.State.{MachineState, load_byte, stack_top}
+use Rattle.tg_machine_state.specs.Services.{text_from, text_at, before}
 use Rattle.tg_machine.specs.glue.Moves.{IsText, HasText}
 
 -- bytes before a text

@@ -3,7 +3,7 @@ use Rattle.std.proofs.Common.{◌≡◌, ◌≤◌, ◌<◌, ◌/◌, ◌%◌, �
 use Rattle.std.proofs.Math.Nat.{mod-eq_of_lt}
 use Rattle.std.proofs.lemmas.List.{take-append-drop}
 use Rattle.std.specs.Int.{bytes_low_first}
-use Rattle.tg_state.specs.State as state
+use Rattle.tg_machine_state.specs.State as state
 use borrow.Rule.Slice.PartMut.{put_mid, mid_of}
 
 over : (xs : List ℕ) (i n a b c d : ℕ) → i + 4 ≤ length xs →

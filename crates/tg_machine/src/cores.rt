@@ -3,8 +3,8 @@ ghost use Rattle.tg_base.specs.Words.{product_high, product_low};
 ghost use Rattle.tg_isa.specs.Effects as effects;
 ghost use Rattle.tg_machine.specs.glue.Moves.{IsDone, IsOwn};
 ghost use Rattle.tg_machine.specs.mirror.Rows.{address, row_at};
-ghost use Rattle.tg_state.specs.Services.{take_heap};
-ghost use Rattle.tg_state.specs.State as state;
+ghost use Rattle.tg_machine_state.specs.Services.{take_heap};
+ghost use Rattle.tg_machine_state.specs.State as state;
 
 use crate::rows::Row;
 use crate::stacks::Stack;
@@ -12,7 +12,7 @@ use crate::words::{offset, remainder, set_word, word_at};
 use std::marker::Model;
 use tg_base::{product, quot};
 use tg_isa::Reg;
-use tg_state::{CODE_BASE, HEAP_BASE, RunEnd, STACK_REACH, STACK_TOP, STATICS_BASE};
+use tg_machine_state::{CODE_BASE, HEAP_BASE, RunEnd, STACK_REACH, STACK_TOP, STATICS_BASE};
 
 /// A program in memory with its registers. Each word of code stands beside its row.
 #[derive(Drop)]
@@ -30,7 +30,7 @@ pub struct Core {
 }
 
 impl Model for Core {
-    ghost use Rattle.tg_state.specs.State.{MachineState};
+    ghost use Rattle.tg_machine_state.specs.State.{MachineState};
 
     ghost Value = { MachineState };
 

@@ -4,15 +4,15 @@ ghost use Rattle.tg_isa.specs.Effects as effects;
 ghost use Rattle.tg_isa.specs.declared.mips.Mips.TheVariants as mips;
 ghost use Rattle.tg_machine.specs.glue.Moves.{RowIsDone};
 ghost use Rattle.tg_machine.specs.mirror.Rows as rows;
-ghost use Rattle.tg_state.specs.Services.{Goes};
-ghost use Rattle.tg_state.specs.State as state;
+ghost use Rattle.tg_machine_state.specs.Services.{Goes};
+ghost use Rattle.tg_machine_state.specs.State as state;
 
 use crate::cores::Core;
 use crate::rows::Row;
 use crate::words::extend_byte;
 use tg_base::{add, exact_difference, exact_sum, less_signed, less_unsigned, sub};
 use tg_isa::{Bits, Reg};
-use tg_state::RunEnd;
+use tg_machine_state::RunEnd;
 
 /// What rows do. `next` is the place of the next instruction, and the one to go on at is answered:
 /// the one in the core isn't read.

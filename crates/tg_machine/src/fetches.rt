@@ -4,7 +4,7 @@ ghost use Rattle.tg_machine.specs.Fetches.{seen_next, seen_of};
 use crate::cores::Core;
 use crate::machines::Machine;
 use crate::words::offset;
-use tg_state::CODE_BASE;
+use tg_machine_state::CODE_BASE;
 
 /// What a step fetches: a place in the code, and the word that stands there.
 #[derive(Clone, Copy)]

@@ -26,4 +26,4 @@ pub use laws::{calls_chain, ends_again, watched_calls_chain};
 pub use loading::load;
 pub use machines::Machine;
 pub use status::Status;
-pub use tg_state::RunEnd;
+pub use tg_machine_state::RunEnd;

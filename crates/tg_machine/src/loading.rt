@@ -15,7 +15,7 @@ ghost use Rattle.std.specs.Prelude.{
 };
 ghost use Rattle.tg_machine.specs.Machines.{loaded};
 ghost use Rattle.tg_machine.specs.mirror.Rows.{row_of};
-ghost use Rattle.tg_state.specs.State.{most_bytes, most_room, most_words, padded, initial_machine};
+ghost use Rattle.tg_machine_state.specs.State.{most_bytes, most_room, most_words, padded, initial_machine};
 
 use crate::cores::Core;
 use crate::machines::Machine;
@@ -25,7 +25,7 @@ use crate::stacks::Stack;
 use std::alloc::Global;
 use tg_base::Memory;
 use tg_isa::Image;
-use tg_state::STACK_TOP;
+use tg_machine_state::STACK_TOP;
 
 /// A machine at the start of an image, with so many bytes of heap and of stack. It takes all memory
 /// of the run.

@@ -6,7 +6,7 @@ use crate::cores::Core;
 use crate::status::Status;
 use std::marker::Model;
 use tg_base::{Sink, Source};
-use tg_state::RunEnd;
+use tg_machine_state::RunEnd;
 
 /// A machine with a program: its registers and its regions, how it ended if it has, how many bytes
 /// its services have written, and whether a read has met the end of the input. From then on it asks

@@ -2,7 +2,7 @@ ghost use Rattle.tg_machine.specs.glue.Pauses.{Pauses};
 
 use crate::cores::Core;
 use crate::rows::Row;
-use tg_state::RunEnd;
+use tg_machine_state::RunEnd;
 
 /// How steps without a service come to a pause.
 #[derive(Clone, Copy)]

@@ -14,8 +14,8 @@ ghost use Rattle.std.specs.Prelude.{
   Err,
 };
 ghost use Rattle.tg_base.specs.Causes.{HasCause};
-ghost use Rattle.tg_state.specs.State as state;
-ghost use Rattle.tg_state.specs.Services.{service, text_at};
+ghost use Rattle.tg_machine_state.specs.State as state;
+ghost use Rattle.tg_machine_state.specs.Services.{service, text_at};
 ghost use Rattle.tg_base.specs.Writes.{TakesAll};
 ghost use Rattle.tg_machine.specs.glue.Moves.{
   Answers,
@@ -34,7 +34,7 @@ use crate::cores::Core;
 use crate::words::{offset, part};
 use tg_base::{Failed, Sink, Source, decimal, write_all};
 use tg_isa::Reg;
-use tg_state::{HEAP_BASE, RunEnd, STATICS_BASE};
+use tg_machine_state::{HEAP_BASE, RunEnd, STATICS_BASE};
 
 /// How many bytes of a text are written at once.
 const CHUNK: usize = 4096;

@@ -14,8 +14,8 @@ ghost use Rattle.std.specs.Prelude.{
   slice_index,
   slice_set,
 };
-ghost use Rattle.tg_state.specs.State as state;
-ghost use Rattle.tg_state.specs.State.{most_room};
+ghost use Rattle.tg_machine_state.specs.State as state;
+ghost use Rattle.tg_machine_state.specs.State.{most_room};
 
 use crate::words::{set_word, word_at};
 use byteorder::{ByteOrder, LittleEndian};
@@ -31,7 +31,7 @@ pub(crate) struct Stack {
 }
 
 impl Model for Stack {
-    ghost use Rattle.tg_state.specs.State.{most_room};
+    ghost use Rattle.tg_machine_state.specs.State.{most_room};
     ghost use Rattle.std.specs.Prelude.{List, ℕ, length, vec_capacity, replicate};
     ghost use Rattle.std.specs.Prelude.{◌++◌, ◌-◌, ◌≤◌, ◌≡◌, ◌%◌};
 

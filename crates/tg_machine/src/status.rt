@@ -1,4 +1,4 @@
-use tg_state::RunEnd;
+use tg_machine_state::RunEnd;
 
 /// What a step leaves.
 #[derive(Clone, Copy, Debug, PartialEq, Eq)]

@@ -8,7 +8,7 @@ use crate::cores::Core;
 use crate::pauses::Pause;
 use crate::status::Status;
 use tg_base::{Sink, Source};
-use tg_state::RunEnd;
+use tg_machine_state::RunEnd;
 
 impl Core {
     /// Makes one step. `ended` says whether a read has met the end of the input.

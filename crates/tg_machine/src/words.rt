@@ -1,7 +1,7 @@
 ghost use Rattle.std.specs.Prelude.{◌≡◌, ◌≢◌, ◌+◌, ◌≤◌, ◌/◌, ◌%◌, [], ◌∷◌, length, vec_capacity};
 ghost use Rattle.std.specs.Prelude.{◌<◌, ◌^◌, IfSome, slice_range};
 ghost use Rattle.tg_base.specs.Words.{extended, extended_byte, rem};
-ghost use Rattle.tg_state.specs.State as state;
+ghost use Rattle.tg_machine_state.specs.State as state;
 
 use byteorder::{ByteOrder, LittleEndian};
 use tg_isa::Bits;

@@ -1,8 +1,8 @@
 -- Runs of a product and its check, computed: the flat code and its instructions end alike.
 use Rattle.std.proofs.Common.{ℕ, ◌≡◌, ◌-◌, List, [], ◌∷◌, refl, pos}
-use Rattle.tg_state.specs.declared.ends.RunEnd.{RunEnd}
-use Rattle.tg_state.specs.declared.ends.RunEnd.TheVariants.{Exit, Break}
-use Rattle.tg_state.specs.State.{stack_top}
+use Rattle.tg_machine_state.specs.declared.ends.RunEnd.{RunEnd}
+use Rattle.tg_machine_state.specs.declared.ends.RunEnd.TheVariants.{Exit, Break}
+use Rattle.tg_machine_state.specs.State.{stack_top}
 use Rattle.tg_simulation.specs.Ran.{Ran, Ended}
 use Rattle.tg_tree.specs.declared.operators.Bin.TheVariants.{Mul, MulHigh, ShiftSigned}
 use Rattle.tg_tree.specs.declared.operators.Rel.TheVariants.{Equal}

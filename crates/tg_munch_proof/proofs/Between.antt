@@ -4,7 +4,7 @@ use Rattle.std.proofs.Common.{◌≡◌, ◌≤◌, ◌<◌, ℕ, ◌+◌, ◌*�
 use Rattle.std.proofs.Common.{true, false, refl, sym, ap, ◌∙◌, subst, arith}
 use Rattle.std.specs.Prelude.{IsTrue, Option, Some, None}
 use Rattle.std.specs.List.{AllByRecursion}
-use Rattle.tg_state.specs.State.{heap_base, stack_top}
+use Rattle.tg_machine_state.specs.State.{heap_base, stack_top}
 use Rattle.tg_simulation.specs.Runs.{Run}
 use Rattle.tg_simulation.specs.Ran.{Ran, works}
 use Rattle.tg_simulation.specs.laws.Simulating.{Simulates}

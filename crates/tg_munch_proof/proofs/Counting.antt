@@ -3,8 +3,8 @@
 use Rattle.std.proofs.Common.{◌≤◌, ◌<◌, ℕ, ◌*◌, List, [], ◌∷◌, length, Option, Some, None, subst, arith, ◌≡◌, ◌+◌}
 use Rattle.std.specs.Prelude.{pos}
 use Rattle.std.proofs.Math.Nat.{mul-add}
-use Rattle.tg_state.specs.declared.ends.RunEnd.TheVariants.{Exit}
-use Rattle.tg_state.specs.State.{stack_top}
+use Rattle.tg_machine_state.specs.declared.ends.RunEnd.TheVariants.{Exit}
+use Rattle.tg_machine_state.specs.State.{stack_top}
 use Rattle.tg_simulation.specs.Runs.{Run}
 use Rattle.tg_simulation.specs.Ran.{Ran, Ended, Wrong}
 use Rattle.tg_simulation.specs.Preserving.{Preserves}

@@ -3,7 +3,7 @@ use Rattle.std.proofs.Common.{◌≡◌, ◌≤◌, ◌<◌, ℕ, zero, suc, ◌
 use Rattle.std.proofs.Common.{true, false, refl, sym, ap, ◌∙◌, subst, arith}
 use Rattle.std.specs.Prelude.{◌==◌, Option, Some, None, if◌then◌else◌}
 use Rattle.std.specs.List.{AllByRecursion}
-use Rattle.tg_state.specs.declared.ends.RunEnd.TheVariants.{Break}
+use Rattle.tg_machine_state.specs.declared.ends.RunEnd.TheVariants.{Break}
 use Rattle.tg_base.specs.Words.{flag}
 use Rattle.tg_simulation.specs.Runs.{Run, turn}
 use Rattle.tg_simulation.specs.Ran.{Ran, WantsFuel, Wrong, stops, works}

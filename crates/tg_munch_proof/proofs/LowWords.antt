@@ -5,7 +5,7 @@ use Rattle.std.proofs.Common.{true, false, refl, ap, ◌∙◌, arith}
 use Rattle.std.proofs.lemmas.Bool.Decides.{nat_tests}
 use Rattle.std.proofs.lemmas.Grind.{common_steps}
 use Rattle.std.specs.Prelude.{◌==◌, not, nat_lt, nat_le, Some, None, if◌then◌else◌}
-use Rattle.tg_state.specs.State.{statics_base, heap_base}
+use Rattle.tg_machine_state.specs.State.{statics_base, heap_base}
 use Rattle.tg_base.specs.Words.{add, extended}
 use Rattle.tg_simulation.specs.Runs.{Run}
 use Rattle.tg_simulation.specs.Ran.{Ran, works}

@@ -6,7 +6,7 @@ use Rattle.std.proofs.lemmas.List.Elements.{All-set}
 use Rattle.std.proofs.Math.ListN.{get_or-eq_default}
 use Rattle.std.proofs.lemmas.List.{length-append}
 use Rattle.std.specs.Prelude.{◌==◌, ◌-◌, false, true, Some, None, slice_index, if◌then◌else◌}
-use Rattle.tg_state.specs.State.{word_at, set_word, statics_base, padded}
+use Rattle.tg_machine_state.specs.State.{word_at, set_word, statics_base, padded}
 use Rattle.tg_tree.specs.Tree.{Literal}
 use Rattle.tg_tree.specs.Memory.{Memory, Cell, Closed, Unset, Has, Kept, Spot, in_statics, in_heap, elsewhere, spot}
 use Rattle.tg_tree.specs.Memory.{load, load_byte, word_in, byte_in, cell_word, cell_byte, byte_of, statics_of}

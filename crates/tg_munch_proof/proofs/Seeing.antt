@@ -3,7 +3,7 @@ use Rattle.std.proofs.Common.{subst, ◌≡◌, ◌≤◌, ℕ, ◌+◌, ◌-◌
 use Rattle.std.proofs.lemmas.Bool.Decides.{nat_tests}
 use Rattle.std.proofs.lemmas.Grind.{common_steps}
 use Rattle.std.specs.Prelude.{IsTrue, ◌==◌, ◌&&◌, nat_lt, nat_le, false, true, Some, None, if◌then◌else◌}
-use Rattle.tg_state.specs.State.{offset, statics_base, heap_base}
+use Rattle.tg_machine_state.specs.State.{offset, statics_base, heap_base}
 use Rattle.tg_base.specs.Words.{sub}
 use Rattle.tg_tree.specs.Memory.{Memory, Cell, Closed, Unset, Has, Kept, spot, or_heap, elsewhere, load, cell_word}
 use Rattle.tg_tree.specs.Memory.{word_in, slot}

@@ -4,7 +4,7 @@ use Rattle.std.proofs.Common.{sym, ap, ◌∙◌, subst, arith}
 use Rattle.std.proofs.lemmas.Bool.Decides.{nat_tests}
 use Rattle.std.proofs.lemmas.Bool.{eqb-true}
 use Rattle.std.specs.Prelude.{◌==◌, ◌&&◌, not, nat_lt, Option, Some, None, if◌then◌else◌}
-use Rattle.tg_state.specs.State.{statics_base, heap_base}
+use Rattle.tg_machine_state.specs.State.{statics_base, heap_base}
 use Rattle.tg_base.specs.Words.{add, sub, extended, product_high}
 use Rattle.tg_simulation.specs.Runs.{Run}
 use Rattle.tg_simulation.specs.Ran.{Ran, Wrong, works}

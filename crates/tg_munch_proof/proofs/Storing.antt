@@ -5,7 +5,7 @@ use Rattle.std.proofs.lemmas.Bool.{eqb-true}
 use Rattle.std.proofs.lemmas.List.Elements.{All-set}
 use Rattle.std.proofs.lemmas.List.{length-set}
 use Rattle.std.specs.Prelude.{◌==◌, Option, Some, None, slice_set, if◌then◌else◌}
-use Rattle.tg_state.specs.State.{set_word}
+use Rattle.tg_machine_state.specs.State.{set_word}
 use Rattle.tg_tree.specs.Memory.{Memory, Cell, Closed, Unset, Has, Kept, Spot, in_statics, in_heap, elsewhere, spot}
 use Rattle.tg_tree.specs.Memory.{put, store, store_in, put_open, store_byte, store_byte_in, put_byte, with_byte}
 use Rattle.tg_tree.specs.Actions.{World}

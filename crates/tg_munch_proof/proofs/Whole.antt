@@ -2,7 +2,7 @@
 use Rattle.std.proofs.Common.{◌≡◌, ◌<◌, ℕ, suc, List, [], ◌∷◌, refl, arith}
 use Rattle.std.proofs.lemmas.List.Elements.{All-append, All-replicate}
 use Rattle.std.specs.List.{Contains}
-use Rattle.tg_state.specs.State.{padded}
+use Rattle.tg_machine_state.specs.State.{padded}
 use Rattle.tg_simulation.specs.Bytes.{AreBytes}
 use Rattle.tg_tree.specs.Tree.{Linear, Function, Literal}
 use Rattle.tg_tree.specs.Named.{Named, function, literal, fault, temporary, constant, named_flat}

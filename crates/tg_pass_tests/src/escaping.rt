@@ -2,7 +2,7 @@ use crate::reading::read;
 use std::alloc::Global;
 use std::test::Fail;
 use tg_escape::{escapes, links};
-use tg_types::{Checked, check};
+use tg_typecheck::{Checked, check};
 
 // A text, and the bytes at which the variables are declared that escape.
 static ESCAPING: [(&str, &[u32]); 9] = [

@@ -5,7 +5,7 @@ use tg_base::Memory;
 use tg_compile::fragments;
 use tg_fold::fold;
 use tg_tree::Fragment;
-use tg_types::check;
+use tg_typecheck::check;
 
 // How many functions a source has, and the source: strings, records, arrays, links, loops and
 // breaks.

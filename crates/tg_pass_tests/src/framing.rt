@@ -9,7 +9,7 @@ use tg_base::Memory;
 use tg_compile::{choose, fragments, instructions_name_their_own};
 use tg_regalloc::{Allocation, in_frame};
 use tg_tree::Fragment;
-use tg_types::{Checked, check};
+use tg_typecheck::{Checked, check};
 
 /// The code of a function with every temporary in the frame.
 fn place(alloc: Global, one: Fragment) -> Result<Allocation, Memory>

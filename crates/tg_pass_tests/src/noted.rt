@@ -2,7 +2,7 @@ use crate::reading::read;
 use std::alloc::Global;
 use std::process::Abort;
 use std::test::Fail;
-use tg_types::{Means, Notes, Standard, check};
+use tg_typecheck::{Means, Notes, Standard, check};
 
 // A text, and what is noted at its bytes.
 static NOTED: [(&str, &[(u32, Means)]); 9] = [

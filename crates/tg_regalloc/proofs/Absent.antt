@@ -17,15 +17,15 @@ use Rattle.tg_graph.specs.Interference.{interferes}
 use Rattle.tg_live.specs.Flow.{goes_on}
 use Rattle.tg_live.specs.Live.{is_among, is_defined, leads_to_use}
 use Rattle.tg_live.specs.Interference.{defines_beside_at, Interferes, moves, colours}
-use Rattle.tg_irc.specs.declared.moves.Move.{Move as MoveBetween}
-use Rattle.tg_irc.specs.declared.rounds.Round.{Round}
-use Rattle.tg_irc.specs.Policies.{Rule}
-use Rattle.tg_irc.specs.laws.Classes.{IsUntouched, class_of}
-use Rattle.tg_irc.proofs.Within.{untouched_stand_alone}
+use Rattle.tg_irc_definition.specs.declared.moves.Move.{Move as MoveBetween}
+use Rattle.tg_irc_definition.specs.declared.rounds.Round.{Round}
+use Rattle.tg_irc_definition.specs.Policies.{Rule}
+use Rattle.tg_irc_definition.specs.laws.Classes.{IsUntouched, class_of}
+use Rattle.tg_irc_definition.proofs.Within.{untouched_stand_alone}
 use Rattle.std.proofs.lemmas.List.Elements.{All-from_recursion, recursion_from_All}
 use Rattle.std.specs.Prelude.{filter}
-use Rattle.tg_irc.proofs.Deciding.{clash, neither, or_false, never, same_node, same_test}
-use Rattle.tg_irc.proofs.Bare.{bare_are_first_coloured}
+use Rattle.tg_irc_definition.proofs.Deciding.{clash, neither, or_false, never, same_node, same_test}
+use Rattle.tg_irc_definition.proofs.Bare.{bare_are_first_coloured}
 use Rattle.tg_interference.specs.Nodes.{operand_at, node_of, temp_at}
 use Rattle.tg_regalloc.specs.declared.placing.Placed.{Placed}
 use Rattle.tg_regalloc.specs.Rewriting.{loads, stores, drawn, in_slot, placed, target, first_use, second_use, next_after, instruction_rewritten, code_rewritten}

@@ -1,8 +1,8 @@
 -- Why the moves of the last code of an allocation stay.
 use Rattle.std.proofs.Common.{ℕ, ◌≡◌, List, [], ◌∷◌, refl, sym, subst}
-use Rattle.tg_irc.specs.declared.rounds.Round.{Round}
-use Rattle.tg_irc.specs.Policies.{Rule}
-use Rattle.tg_irc.proofs.Explaining.{moves_are_explained}
+use Rattle.tg_irc_definition.specs.declared.rounds.Round.{Round}
+use Rattle.tg_irc_definition.specs.Policies.{Rule}
+use Rattle.tg_irc_definition.proofs.Explaining.{moves_are_explained}
 use Rattle.tg_regalloc.specs.Rewriting.{slotted}
 use Rattle.tg_regalloc.specs.Rounds.{BetweenRounds, IsRoundOf, AreRounds, slots_by, last_round}
 use Rattle.tg_regalloc.specs.Rounds.AreRounds.{last, more}

@@ -20,8 +20,8 @@ use Rattle.tg_instr.specs.Renaming.{named}
 use Rattle.tg_instr.proofs.Tests.{left_holds, right_holds}
 use Rattle.tg_frame.specs.declared.frames.Frame.{Frame}
 use Rattle.tg_instr.specs.declared.codes.Code.{Code}
-use Rattle.tg_irc.specs.declared.rounds.Round.{Round}
-use Rattle.tg_irc.specs.Policies.{Rule}
+use Rattle.tg_irc_definition.specs.declared.rounds.Round.{Round}
+use Rattle.tg_irc_definition.specs.Policies.{Rule}
 use Rattle.tg_regalloc.specs.declared.allocations.Allocation.{Allocation}
 use Rattle.tg_regalloc.specs.glue.Below.{is_option_below}
 use Rattle.tg_regalloc.specs.mirror.InFrame.{moved, instruction_in_frame, code_in_frame}

@@ -7,14 +7,14 @@ use Rattle.tg_instr.specs.declared.instr.Instr.{Instr}
 use Rattle.tg_instr.specs.Codes.{has_temps_below}
 use Rattle.tg_graph.specs.Interference.{Interference}
 use Rattle.tg_graph.proofs.Joining.{either_way, not_itself}
-use Rattle.tg_irc.specs.declared.rounds.Round.{Round}
-use Rattle.tg_irc.specs.Graphs.{IsGraph, IsGreedilyColourable}
-use Rattle.tg_irc.specs.Policies.{Rule}
-use Rattle.tg_irc.specs.laws.Laws.{AreNodes, SpillsNothing}
-use Rattle.tg_irc.proofs.GreedyColouring.{part}
-use Rattle.tg_irc.proofs.Selecting.{colourable_never_spills}
+use Rattle.tg_irc_definition.specs.declared.rounds.Round.{Round}
+use Rattle.tg_irc_definition.specs.Graphs.{IsGraph, IsGreedilyColourable}
+use Rattle.tg_irc_definition.specs.Policies.{Rule}
+use Rattle.tg_irc_definition.specs.laws.Laws.{AreNodes, SpillsNothing}
+use Rattle.tg_irc_definition.proofs.GreedyColouring.{part}
+use Rattle.tg_irc_definition.proofs.Selecting.{colourable_never_spills}
 use Rattle.tg_interference.specs.Pairs.{IsInterference}
-use Rattle.tg_coalesce.specs.glue.Standing.{graph_of}
+use Rattle.tg_coalescing_round.specs.glue.Standing.{graph_of}
 use Rattle.tg_regalloc.specs.Rounds.{BetweenRounds, stage_of, IsRoundOf, AreRounds, last_round}
 use Rattle.tg_regalloc.specs.Rounds.AreRounds.{last, more}
 use Rattle.tg_regalloc.specs.laws.Explained.{problem_of, IsColourable, ColourableNeedsOneRound}

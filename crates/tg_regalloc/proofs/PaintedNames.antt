@@ -12,7 +12,7 @@ use Rattle.tg_instr.specs.Codes.{has_registers_alone, has_slots_below, is_alloca
 use Rattle.tg_instr.specs.Renaming.{named}
 use Rattle.tg_instr.proofs.Tests.{left_holds, right_holds, both_hold, all_at}
 use Rattle.tg_live.specs.Interference.{colours}
-use Rattle.tg_irc.specs.declared.rounds.Round.{Round}
+use Rattle.tg_irc_definition.specs.declared.rounds.Round.{Round}
 use Rattle.tg_regalloc.specs.Conditions.{is_fixed}
 use Rattle.tg_regalloc.specs.Painting.{register_of, colour_or_first, colour_of, colour_in, is_idle, painted_named, instruction_painted, code_painted}
 use Rattle.tg_regalloc.specs.Rewriting.{slot_in}

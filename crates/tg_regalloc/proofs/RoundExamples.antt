@@ -4,7 +4,7 @@ use Rattle.std.specs.List.{range_with_len}
 use Rattle.tg_instr.specs.declared.operands.Opnd.{Opnd}
 use Rattle.tg_instr.specs.declared.operands.Opnd.TheVariants.{Temp, Reg}
 use Rattle.tg_instr.specs.declared.instr.Instr.TheVariants.{Add, Move, FrameLoad, FrameStore}
-use Rattle.tg_irc.specs.declared.rounds.Round.{Round}
+use Rattle.tg_irc_definition.specs.declared.rounds.Round.{Round}
 use Rattle.tg_regalloc.specs.Rewriting.{slotted, slot_after, slot_in, code_rewritten, temps_after}
 use Rattle.tg_regalloc.specs.Painting.{code_painted, colour_in}
 

@@ -4,17 +4,17 @@ use Rattle.std.specs.Prelude.{All}
 use Rattle.std.proofs.lemmas.List.Elements.{All-weaker}
 use Rattle.tg_instr.specs.declared.codes.Code.{Code}
 use Rattle.tg_graph.specs.Interference.{Interference}
-use Rattle.tg_irc.specs.declared.moves.Move.{Move}
-use Rattle.tg_irc.specs.declared.candidates.NodeFacts.{NodeFacts}
-use Rattle.tg_irc.specs.declared.rounds.Round.{Round}
-use Rattle.tg_irc.specs.Policies.{Rule}
-use Rattle.tg_irc.specs.States.{problem}
-use Rattle.tg_irc.specs.Rounds.{IsRound}
-use Rattle.tg_irc.specs.laws.Laws.{IsTemporary, RoundsAreOfNodes}
+use Rattle.tg_irc_definition.specs.declared.moves.Move.{Move}
+use Rattle.tg_irc_definition.specs.declared.candidates.NodeFacts.{NodeFacts}
+use Rattle.tg_irc_definition.specs.declared.rounds.Round.{Round}
+use Rattle.tg_irc_definition.specs.Policies.{Rule}
+use Rattle.tg_irc_definition.specs.States.{problem}
+use Rattle.tg_irc_definition.specs.Rounds.{IsRound}
+use Rattle.tg_irc_definition.specs.laws.Laws.{IsTemporary, RoundsAreOfNodes}
 use Rattle.tg_interference.specs.Pairs.{IsInterference}
 use Rattle.tg_interference.specs.Moves.{moves_of}
 use Rattle.tg_interference.specs.Facts.{facts_of_nodes}
-use Rattle.tg_coalesce.specs.glue.Standing.{graph_of}
+use Rattle.tg_coalescing_round.specs.glue.Standing.{graph_of}
 use Rattle.tg_regalloc.specs.Rounds.{IsOfTemps, IsRoundOf, stage_of}
 use Rattle.tg_regalloc.proofs.Sizes.{AreEnds}
 

@@ -11,23 +11,23 @@ use Rattle.std.proofs.lemmas.Bool.Decides.{nat_tests}
 use Rattle.std.proofs.lemmas.Iterator.Adapters.{position_from-zero}
 use Rattle.std.proofs.lemmas.List.Elements.{recursion_from_All}
 use Rattle.std.proofs.lemmas.Option.{get_or_from_slice_get}
-use Rattle.tg_irc.specs.declared.steps.Step.{Step}
-use Rattle.tg_irc.specs.declared.candidates.NodeFacts.{NodeFacts}
-use Rattle.tg_irc.specs.declared.rounds.Round.{Round}
-use Rattle.tg_irc.specs.Graphs.{Set, bit, count, without, is_register}
-use Rattle.tg_irc.specs.Policies.{Rule}
-use Rattle.tg_irc.specs.States.{Problem, RoundState, start, facts_at}
-use Rattle.tg_irc.specs.Steps.{after, after_all, AreTaken}
-use Rattle.tg_irc.specs.Rounds.{end}
-use Rattle.tg_irc.specs.laws.Laws.{AreNodes, StandsWell}
-use Rattle.tg_irc.specs.laws.Classes.{class_of, NamesClasses}
-use Rattle.tg_irc.proofs.Deciding.{clash, or_left, or_right, same_test, tells}
-use Rattle.tg_irc.proofs.Counting.{count_le, count_out, stays_in}
-use Rattle.tg_irc.proofs.Answering.{listed_at}
-use Rattle.tg_irc.proofs.Standing.{stands_at_start, stands_after}
-use Rattle.tg_irc.proofs.AmongNodes.{rounds_are_of_nodes}
-use Rattle.tg_irc.proofs.Within.{class_is}
-use Rattle.tg_irc.proofs.Bare.{spilled_name_classes}
+use Rattle.tg_irc_definition.specs.declared.steps.Step.{Step}
+use Rattle.tg_irc_definition.specs.declared.candidates.NodeFacts.{NodeFacts}
+use Rattle.tg_irc_definition.specs.declared.rounds.Round.{Round}
+use Rattle.tg_irc_definition.specs.Graphs.{Set, bit, count, without, is_register}
+use Rattle.tg_irc_definition.specs.Policies.{Rule}
+use Rattle.tg_irc_definition.specs.States.{Problem, RoundState, start, facts_at}
+use Rattle.tg_irc_definition.specs.Steps.{after, after_all, AreTaken}
+use Rattle.tg_irc_definition.specs.Rounds.{end}
+use Rattle.tg_irc_definition.specs.laws.Laws.{AreNodes, StandsWell}
+use Rattle.tg_irc_definition.specs.laws.Classes.{class_of, NamesClasses}
+use Rattle.tg_irc_definition.proofs.Deciding.{clash, or_left, or_right, same_test, tells}
+use Rattle.tg_irc_definition.proofs.Counting.{count_le, count_out, stays_in}
+use Rattle.tg_irc_definition.proofs.Answering.{listed_at}
+use Rattle.tg_irc_definition.proofs.Standing.{stands_at_start, stands_after}
+use Rattle.tg_irc_definition.proofs.AmongNodes.{rounds_are_of_nodes}
+use Rattle.tg_irc_definition.proofs.Within.{class_is}
+use Rattle.tg_irc_definition.proofs.Bare.{spilled_name_classes}
 use Rattle.tg_interference.specs.Facts.{occurrences, facts_of, facts_of_nodes}
 use Rattle.tg_regalloc.specs.Rewriting.{slot_after, is_original, slotted, slot_by}
 use Rattle.tg_regalloc.specs.Rounds.{BetweenRounds, stage_of, IsRoundOf, AreRounds, slots_by, next_stage, last_round}

@@ -17,8 +17,8 @@ use Rattle.tg_instr.specs.Shapes.{Holder, Operand, InstructionShape, From1, Copy
 use Rattle.tg_instr.specs.Uses.{operand_of, uses, defs, uses_of, defs_of}
 use Rattle.tg_instr.proofs.Tests.{left_holds, right_holds}
 use Rattle.tg_graph.specs.Interference.{is_register}
-use Rattle.tg_irc.specs.declared.moves.Move.{Move}
-use Rattle.tg_irc.specs.declared.candidates.NodeFacts.{NodeFacts}
+use Rattle.tg_irc_definition.specs.declared.moves.Move.{Move}
+use Rattle.tg_irc_definition.specs.declared.candidates.NodeFacts.{NodeFacts}
 use Rattle.tg_interference.specs.Nodes.{node_of}
 use Rattle.tg_interference.specs.Moves.{between, move_of, moves_of}
 use Rattle.tg_interference.specs.Facts.{temp, occurrences_in, occurrences, facts_of, facts_of_nodes}

@@ -7,7 +7,7 @@ use Rattle.std.specs.Option.{option_map}
 use Rattle.std.proofs.lemmas.List.{get_or-map, get_or-drop, get_or-take, get_or_append_left, take_all}
 use Rattle.std.proofs.lemmas.List.Elements.{All-filter, All-take, All-drop}
 use Rattle.std.proofs.lemmas.List.Quantifiers.{position-Some}
-use Rattle.tg_irc.specs.declared.rounds.Round.{Round}
+use Rattle.tg_irc_definition.specs.declared.rounds.Round.{Round}
 use Rattle.tg_regalloc.specs.Rewriting.{is_original, slot_by, slot_in, slot_after, slotted}
 use Rattle.tg_regalloc.specs.Rounds.{IsOfTemps}
 use Rattle.tg_regalloc.proofs.Alike.{AreAlike}

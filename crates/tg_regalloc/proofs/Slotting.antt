@@ -15,16 +15,16 @@ use Rattle.tg_instr.specs.declared.instr.Instr.{Instr}
 use Rattle.tg_instr.specs.declared.instr.Instr.TheVariants.{Move}
 use Rattle.tg_instr.specs.Codes.{is_below}
 use Rattle.tg_instr.specs.Shapes.{shape}
-use Rattle.tg_irc.specs.declared.moves.Move.{Move as MoveBetween}
-use Rattle.tg_irc.specs.declared.rounds.Round.{Round}
-use Rattle.tg_irc.specs.Policies.{Rule}
-use Rattle.tg_irc.specs.States.{Problem}
-use Rattle.tg_irc.specs.laws.Laws.{AreNodes, IsTemporary}
-use Rattle.tg_irc.specs.laws.Classes.{class_of, HasWholeMoves, IsTouchedFrom, IsAlone}
-use Rattle.tg_irc.proofs.Deciding.{both, and_true, same_node}
-use Rattle.tg_irc.proofs.AmongNodes.{rounds_are_of_nodes}
-use Rattle.tg_irc.proofs.Within.{classes_stay_within, one_neighbour_is_joined}
-use Rattle.tg_irc.proofs.Bare.{registers_stand_above}
+use Rattle.tg_irc_definition.specs.declared.moves.Move.{Move as MoveBetween}
+use Rattle.tg_irc_definition.specs.declared.rounds.Round.{Round}
+use Rattle.tg_irc_definition.specs.Policies.{Rule}
+use Rattle.tg_irc_definition.specs.States.{Problem}
+use Rattle.tg_irc_definition.specs.laws.Laws.{AreNodes, IsTemporary}
+use Rattle.tg_irc_definition.specs.laws.Classes.{class_of, HasWholeMoves, IsTouchedFrom, IsAlone}
+use Rattle.tg_irc_definition.proofs.Deciding.{both, and_true, same_node}
+use Rattle.tg_irc_definition.proofs.AmongNodes.{rounds_are_of_nodes}
+use Rattle.tg_irc_definition.proofs.Within.{classes_stay_within, one_neighbour_is_joined}
+use Rattle.tg_irc_definition.proofs.Bare.{registers_stand_above}
 use Rattle.tg_interference.specs.Nodes.{node_of}
 use Rattle.tg_interference.specs.Moves.{between, move_of, moves_of}
 use Rattle.tg_regalloc.specs.Rewriting.{is_original, slotted, slot_by, slot_after}

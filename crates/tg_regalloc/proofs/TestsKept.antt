@@ -8,8 +8,8 @@ use Rattle.tg_instr.specs.declared.instr.Instr.{Instr}
 use Rattle.tg_instr.specs.declared.instr.Instr.TheVariants.{Move}
 use Rattle.tg_instr.specs.Renaming.{named, renamed}
 use Rattle.tg_instr.proofs.Tests.{left_holds, right_holds, both_hold, all_append}
-use Rattle.tg_irc.specs.declared.rounds.Round.{Round}
-use Rattle.tg_irc.specs.Policies.{Rule}
+use Rattle.tg_irc_definition.specs.declared.rounds.Round.{Round}
+use Rattle.tg_irc_definition.specs.Policies.{Rule}
 use Rattle.tg_regalloc.specs.mirror.InFrame.{through_named, loaded, stored, moved, through_slots, instruction_in_frame, code_in_frame}
 use Rattle.tg_regalloc.specs.Rewriting.{loads, stores, target, first_use, second_use, next_after, instruction_rewritten, code_rewritten}
 use Rattle.tg_regalloc.specs.Painting.{colour_of, is_idle, instruction_painted, code_painted}

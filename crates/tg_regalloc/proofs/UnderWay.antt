@@ -7,8 +7,8 @@ use Rattle.std.specs.Option.{option_or}
 use Rattle.std.proofs.lemmas.List.{length-replicate}
 use Rattle.tg_frame.specs.declared.frames.Frame.{Frame}
 use Rattle.tg_instr.specs.declared.codes.Code.{Code}
-use Rattle.tg_irc.specs.declared.rounds.Round.{Round}
-use Rattle.tg_irc.specs.Policies.{Rule}
+use Rattle.tg_irc_definition.specs.declared.rounds.Round.{Round}
+use Rattle.tg_irc_definition.specs.Policies.{Rule}
 use Rattle.tg_regalloc.specs.declared.allocations.Allocation.{Allocation}
 use Rattle.tg_regalloc.specs.declared.allocations.Location.{Location}
 use Rattle.tg_regalloc.specs.declared.allocations.Location.TheVariants.{Colour, Slot}

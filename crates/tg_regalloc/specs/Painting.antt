@@ -9,7 +9,7 @@ use Rattle.tg_instr.specs.declared.instr.Instr.{Instr}
 use Rattle.tg_instr.specs.declared.instr.Instr.TheVariants.{Move}
 use Rattle.tg_instr.specs.Renaming.{named, renamed}
 use Rattle.tg_live.specs.Interference.{colours}
-use Rattle.tg_irc.specs.declared.rounds.Round.{Round}
+use Rattle.tg_irc_definition.specs.declared.rounds.Round.{Round}
 
 -- the colour of a temporary; where nothing is spilled, each has one
 abbrev pub colour_or_first : Option ℕ → ℕ

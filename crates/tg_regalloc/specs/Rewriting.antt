@@ -11,7 +11,7 @@ use Rattle.tg_instr.specs.declared.operands.Opnd.TheVariants.{Temp, Reg}
 use Rattle.tg_instr.specs.declared.instr.Instr.{Instr}
 use Rattle.tg_instr.specs.declared.instr.Instr.TheVariants.{FrameLoad, FrameStore}
 use Rattle.tg_instr.specs.Renaming.{named, renamed}
-use Rattle.tg_irc.specs.declared.rounds.Round.{Round}
+use Rattle.tg_irc_definition.specs.declared.rounds.Round.{Round}
 use Rattle.tg_regalloc.specs.declared.placing.Placed.{Placed}
 
 -- Which classes go to slots.

@@ -7,14 +7,14 @@ use Rattle.std.specs.List.{range_with_len}
 use Rattle.tg_instr.specs.declared.instr.Instr.{Instr}
 use Rattle.tg_instr.specs.declared.codes.Code.{Code}
 use Rattle.tg_graph.specs.Interference.{Interference}
-use Rattle.tg_irc.specs.declared.rounds.Round.{Round}
-use Rattle.tg_irc.specs.Policies.{Rule}
-use Rattle.tg_irc.specs.States.{problem}
-use Rattle.tg_irc.specs.Rounds.{IsRound}
+use Rattle.tg_irc_definition.specs.declared.rounds.Round.{Round}
+use Rattle.tg_irc_definition.specs.Policies.{Rule}
+use Rattle.tg_irc_definition.specs.States.{problem}
+use Rattle.tg_irc_definition.specs.Rounds.{IsRound}
 use Rattle.tg_interference.specs.Pairs.{IsInterference}
 use Rattle.tg_interference.specs.Moves.{moves_of}
 use Rattle.tg_interference.specs.Facts.{facts_of_nodes}
-use Rattle.tg_coalesce.specs.glue.Standing.{graph_of}
+use Rattle.tg_coalescing_round.specs.glue.Standing.{graph_of}
 use Rattle.tg_regalloc.specs.declared.allocations.Location.{Location}
 use Rattle.tg_regalloc.specs.declared.allocations.Location.TheVariants.{Colour, Slot}
 use Rattle.tg_regalloc.specs.Rewriting.{slotted, slot_after, slot_in, code_rewritten, temps_after}

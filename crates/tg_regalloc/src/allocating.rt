@@ -13,7 +13,7 @@ use std::alloc::Global;
 use tg_base::Memory;
 use tg_frame::Frame;
 use tg_instr::Code;
-use tg_irc::{Round, SpillPolicy};
+use tg_irc_definition::{Round, SpillPolicy};
 
 /// Registers for a code's temporaries by rounds of coalescing and spilling (George and Appel 1996,
 /// section 4): each round that spills a class with an original gives it a slot, above those that

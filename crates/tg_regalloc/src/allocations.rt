@@ -2,7 +2,7 @@ ghost use Rattle.std.specs.Prelude.{◌≡◌, ◌++◌, ◌∷◌, [], IfOk};
 
 use tg_base::{ListOf, Memory};
 use tg_instr::Allocated;
-use tg_irc::Round;
+use tg_irc_definition::Round;
 
 /// Where a temporary of the code that was handed in stands: in a colour, by its place among the
 /// colours, or in a slot.

@@ -43,7 +43,7 @@ use tg_base::Memory;
 use tg_frame::Frame;
 use tg_graph::COLOURS;
 use tg_instr::{Allocated, Code, Instrs};
-use tg_irc::Round;
+use tg_irc_definition::Round;
 
 /// The code by now, the slot of each original temporary that has one, and the number of slots.
 #[derive(Drop)]

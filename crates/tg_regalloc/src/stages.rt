@@ -21,11 +21,11 @@ ghost use Rattle.tg_regalloc.specs.Rounds.{IsOfTemps, IsRoundOf, CodeIsNumbered,
 
 use std::alloc::Global;
 use tg_base::Memory;
-use tg_coalesce::color;
+use tg_coalescing_round::color;
 use tg_graph::{COLOURS, Graph};
 use tg_instr::Code;
 use tg_interference::{facts_of_nodes, interference, moves_of};
-use tg_irc::{Round, SpillPolicy, rounds_are_of_nodes};
+use tg_irc_definition::{Round, SpillPolicy, rounds_are_of_nodes};
 use tg_live::{flow, live};
 
 /// The most temporaries that a code may have before a round, and the most instructions: above

@@ -8,7 +8,7 @@ use Rattle.std.specs.List.{list_any}
 use Rattle.tg_base.specs.Words.{add}
 use Rattle.tg_simulation.specs.Runs.{Run}
 use Rattle.tg_simulation.specs.Ran.{Ran, Ended, stops}
-use Rattle.tg_state.specs.declared.ends.RunEnd.TheVariants.{Break}
+use Rattle.tg_machine_state.specs.declared.ends.RunEnd.TheVariants.{Break}
 use Rattle.tg_tree.specs.Tree.{Literal}
 use Rattle.tg_tree.specs.Actions.{World, Activation, wrong, service}
 use Rattle.tg_tree.specs.Operators.{holds}

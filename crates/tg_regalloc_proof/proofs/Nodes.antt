@@ -16,16 +16,16 @@ use Rattle.tg_instr.specs.Codes.{is_below, has_temps_below}
 use Rattle.tg_instr.specs.Uses.{uses_of, defs_of}
 use Rattle.tg_live.specs.Interference.{colours, is_node, defines_beside_at, IsDefinedBeside, Interferes}
 use Rattle.tg_live.proofs.Numbers.{among_all}
-use Rattle.tg_irc.specs.declared.rounds.Round.{Round}
-use Rattle.tg_irc.specs.Graphs.{every}
-use Rattle.tg_irc.specs.Policies.{Rule}
-use Rattle.tg_irc.specs.States.{Problem}
-use Rattle.tg_irc.specs.laws.Laws.{AreNodes}
-use Rattle.tg_irc.specs.laws.Classes.{class_of}
-use Rattle.tg_irc.proofs.Deciding.{every_is}
-use Rattle.tg_irc.proofs.ProperColouring.{colours_differ, registers_are_coloured, colours_are_registers}
-use Rattle.tg_irc.proofs.AmongNodes.{rounds_are_of_nodes}
-use Rattle.tg_irc.proofs.Coloured.{each_is_coloured, classes_are_apart}
+use Rattle.tg_irc_definition.specs.declared.rounds.Round.{Round}
+use Rattle.tg_irc_definition.specs.Graphs.{every}
+use Rattle.tg_irc_definition.specs.Policies.{Rule}
+use Rattle.tg_irc_definition.specs.States.{Problem}
+use Rattle.tg_irc_definition.specs.laws.Laws.{AreNodes}
+use Rattle.tg_irc_definition.specs.laws.Classes.{class_of}
+use Rattle.tg_irc_definition.proofs.Deciding.{every_is}
+use Rattle.tg_irc_definition.proofs.ProperColouring.{colours_differ, registers_are_coloured, colours_are_registers}
+use Rattle.tg_irc_definition.proofs.AmongNodes.{rounds_are_of_nodes}
+use Rattle.tg_irc_definition.proofs.Coloured.{each_is_coloured, classes_are_apart}
 use Rattle.tg_interference.specs.Nodes.{operand_at, node_of}
 use Rattle.tg_interference.specs.laws.Laws.{NoOtherStands, NodesExist}
 use Rattle.tg_regalloc.specs.Rewriting.{slotted, slot_by}

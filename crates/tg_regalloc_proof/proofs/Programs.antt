@@ -5,7 +5,7 @@ use Rattle.std.proofs.lemmas.List.Sums.{sum_by-cons}
 use Rattle.tg_tree.specs.Tree.{Function}
 use Rattle.tg_instr.specs.declared.instr.Instr.{Instr}
 use Rattle.tg_instr.specs.Lengths.{most_words}
-use Rattle.tg_irc.specs.Policies.{Rule}
+use Rattle.tg_irc_definition.specs.Policies.{Rule}
 use Rattle.tg_regalloc_proof.specs.Blocks.{Blocks, code_of, Charge, spent, Covers}
 use Rattle.tg_regalloc_proof.specs.Keeping.{charged_by, functions_of, AreHeld, AreKept}
 use Rattle.tg_regalloc_proof.specs.Keeping.AreKept.{none as none_kept, also as also_kept}

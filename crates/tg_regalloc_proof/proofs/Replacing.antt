@@ -5,8 +5,8 @@ use Rattle.std.proofs.Common.{subst, Option, Some, None, pos, ◌⊎◌, inl, in
 use Rattle.std.proofs.Common.{length, length-append}
 use Rattle.std.specs.Prelude.{if◌then◌else◌}
 use Rattle.std.proofs.lemmas.Bool.{ltb-true, ltb-false, lt-ltb}
-use Rattle.tg_state.specs.declared.ends.RunEnd.TheVariants.{Exit, StackFull}
-use Rattle.tg_state.specs.State.{stack_top}
+use Rattle.tg_machine_state.specs.declared.ends.RunEnd.TheVariants.{Exit, StackFull}
+use Rattle.tg_machine_state.specs.State.{stack_top}
 use Rattle.tg_simulation.specs.Runs.{Run, nested}
 use Rattle.tg_simulation.specs.Ran.{Ran, Ended, WantsFuel, stops}
 use Rattle.tg_tree.specs.Tree.{Function, Code, Literal}

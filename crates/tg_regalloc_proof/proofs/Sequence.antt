@@ -5,8 +5,8 @@ use Rattle.std.specs.List.{list_all}
 use Rattle.tg_tree.specs.Tree.{Function}
 use Rattle.tg_instr.specs.declared.instr.Instr.{Instr}
 use Rattle.tg_instr.specs.Codes.{has_temps_below, names_registers}
-use Rattle.tg_irc.specs.declared.rounds.Round.{Round}
-use Rattle.tg_irc.specs.Policies.{Rule}
+use Rattle.tg_irc_definition.specs.declared.rounds.Round.{Round}
+use Rattle.tg_irc_definition.specs.Policies.{Rule}
 use Rattle.tg_interference.specs.laws.Laws.{NoOtherStands, NodesExist}
 use Rattle.tg_regalloc_proof.specs.Blocks.{Blocks, regrouped}
 use Rattle.tg_regalloc_proof.specs.Keeping.{Keeps}

@@ -3,10 +3,10 @@ use Rattle.std.proofs.Common.{ℕ, zero, suc, ◌≡◌, ◌+◌, ◌%◌, ◌^�
 use Rattle.std.proofs.Common.{length, replicate, nat_lt, refl, sym, ap, ◌∙◌, subst, Option, Some, None, pos}
 use Rattle.std.specs.Prelude.{if◌then◌else◌}
 use Rattle.std.specs.Fmt.{signed_decimal}
-use Rattle.tg_state.specs.declared.ends.RunEnd.TheVariants.{Exit, HeapFull, BadService}
+use Rattle.tg_machine_state.specs.declared.ends.RunEnd.TheVariants.{Exit, HeapFull, BadService}
 use Rattle.tg_base.specs.Words.{signed}
-use Rattle.tg_state.specs.State.{heap_base}
-use Rattle.tg_state.specs.Services.{whole_words}
+use Rattle.tg_machine_state.specs.State.{heap_base}
+use Rattle.tg_machine_state.specs.Services.{whole_words}
 use Rattle.tg_simulation.specs.Runs.{Run}
 use Rattle.tg_simulation.specs.Ran.{Ran, Stop, Ended, stops}
 use Rattle.tg_tree.specs.Memory.{Cell, Memory, load_byte}

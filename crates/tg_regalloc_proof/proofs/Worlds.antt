@@ -4,7 +4,7 @@ use Rattle.std.proofs.Common.{ℕ, ◌≡◌, ◌≢◌, ◌-◌, ◌%◌, ◌==
 use Rattle.std.proofs.Common.{Option, Some, None, true≢false}
 use Rattle.std.specs.Prelude.{if◌then◌else◌, slice_set}
 use Rattle.std.proofs.lemmas.Bool.{eqb-true}
-use Rattle.tg_state.specs.State.{set_word}
+use Rattle.tg_machine_state.specs.State.{set_word}
 use Rattle.tg_tree.specs.Memory.{Cell, Closed, Unset, Has, Kept, Memory, set_cell, put, Spot, in_statics, in_heap}
 use Rattle.tg_tree.specs.Memory.{elsewhere, spot, cell_word, word_in, load, cell_byte, byte_in}
 use Rattle.tg_tree.specs.Memory.{load_byte, put_open, store_in, store, put_byte, with_byte, store_byte_in, store_byte}

@@ -11,11 +11,11 @@ use tg_base::{Label, Memory, Temp};
 use tg_frame::new_frame;
 use tg_instr::{Code, Instr, Instrs, Opnd, push_instr};
 use tg_interference::interference;
-use tg_irc::LeastUse;
+use tg_irc_definition::LeastUse;
 use tg_isa::{Bits, Reg};
 use tg_live::{flow, live};
 use tg_regalloc::{allocate, in_frame};
-use tg_regalloc_listing::list;
+use tg_regalloc_report::list;
 
 const COALESCED: &str = "function 33
 round 1

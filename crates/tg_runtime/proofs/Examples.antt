@@ -1,8 +1,8 @@
 -- Runs of the runtime's functions on small inputs, each computed by the meaning of trees itself.
 use Rattle.std.proofs.Common.{◌≡◌, ℕ, ◌-◌, List, [], ◌∷◌, refl}
 use Rattle.std.specs.Prelude.{codes, pos}
-use Rattle.tg_state.specs.declared.ends.RunEnd.TheVariants.{Exit, Break, HeapFull}
-use Rattle.tg_state.specs.State.{stack_top}
+use Rattle.tg_machine_state.specs.declared.ends.RunEnd.TheVariants.{Exit, Break, HeapFull}
+use Rattle.tg_machine_state.specs.State.{stack_top}
 use Rattle.tg_simulation.specs.Ran.{Ran, Stop, Ended, WantsFuel}
 use Rattle.tg_tree.specs.declared.operators.Bin.TheVariants.{Add}
 use Rattle.tg_tree.specs.Tree.{Tx, Const, Address, Temp, Binary, Load, Call, Service, Ts, Move, Do, Return, Function, Literal}

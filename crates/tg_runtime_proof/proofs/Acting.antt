@@ -2,9 +2,9 @@
 use Rattle.std.proofs.Common.{◌≡◌, ℕ, zero, suc, ◌+◌, List, [], ◌∷◌, ◌++◌, length, Bool, true, false, refl, sym, ap}
 use Rattle.std.proofs.Common.{arith, subst}
 use Rattle.std.specs.Prelude.{if◌then◌else◌, nat_lt, replicate, ◌||◌, ◌%◌, drop}
-use Rattle.tg_state.specs.declared.ends.RunEnd.TheVariants.{HeapFull, Break}
-use Rattle.tg_state.specs.State.{heap_base}
-use Rattle.tg_state.specs.Services.{whole_words}
+use Rattle.tg_machine_state.specs.declared.ends.RunEnd.TheVariants.{HeapFull, Break}
+use Rattle.tg_machine_state.specs.State.{heap_base}
+use Rattle.tg_machine_state.specs.Services.{whole_words}
 use Rattle.tg_simulation.specs.Runs.{Run}
 use Rattle.tg_simulation.specs.Ran.{Ran, Ended}
 use Rattle.tg_simulation.specs.laws.Simulating.{Comes}

@@ -5,10 +5,10 @@ use Rattle.std.specs.Prelude.{not, replicate}
 use Rattle.std.specs.Int.{to_le_bytes, w32}
 use Rattle.std.proofs.lemmas.Bool.{cases_lt, lt-ltb, le-ltb}
 use Rattle.std.proofs.lemmas.List.{length-append, append_assoc, append-nil}
-use Rattle.tg_state.specs.declared.ends.RunEnd.TheVariants.{HeapFull, Break}
+use Rattle.tg_machine_state.specs.declared.ends.RunEnd.TheVariants.{HeapFull, Break}
 use Rattle.tg_base.specs.Words.{add, is_negative, shift_left}
-use Rattle.tg_state.specs.Services.{whole_words}
-use Rattle.tg_state.specs.State.{heap_base}
+use Rattle.tg_machine_state.specs.Services.{whole_words}
+use Rattle.tg_machine_state.specs.State.{heap_base}
 use Rattle.tg_simulation.specs.Runs.{Run}
 use Rattle.tg_simulation.specs.Ran.{Ran, Ended}
 use Rattle.tg_simulation.specs.laws.Simulating.{Comes}

@@ -5,7 +5,7 @@ use Rattle.std.specs.Prelude.{slice_index, slice_set}
 use Rattle.std.specs.Int.{to_le_bytes, w32}
 use Rattle.std.proofs.lemmas.List.{get_or-set_same, get_or-set_other, length-set, get_or_append_left}
 use Rattle.std.proofs.lemmas.List.{get_or-append_right}
-use Rattle.tg_state.specs.State.{word_at, set_word}
+use Rattle.tg_machine_state.specs.State.{word_at, set_word}
 
 -- the word of four bytes, the lowest first, and the four bytes of a word
 abbrev pub joined : ℕ → ℕ → ℕ → ℕ → ℕ

@@ -3,9 +3,9 @@ use Rattle.std.proofs.Common.{◌≡◌, ℕ, suc, ◌+◌, ◌<◌, ◌≤◌, 
 use Rattle.std.proofs.Common.{◌∙◌, arith, ne_eqb}
 use Rattle.std.specs.Prelude.{not}
 use Rattle.std.proofs.lemmas.Bool.{lt-ltb}
-use Rattle.tg_state.specs.declared.ends.RunEnd.TheVariants.{HeapFull, Break}
+use Rattle.tg_machine_state.specs.declared.ends.RunEnd.TheVariants.{HeapFull, Break}
 use Rattle.tg_base.specs.Words.{add}
-use Rattle.tg_state.specs.State.{heap_base}
+use Rattle.tg_machine_state.specs.State.{heap_base}
 use Rattle.tg_simulation.specs.Runs.{Run}
 use Rattle.tg_simulation.specs.Ran.{Ran, Ended}
 use Rattle.tg_simulation.specs.laws.Simulating.{Comes}

@@ -2,7 +2,7 @@
 use Rattle.std.proofs.Common.{◌≡◌, ℕ, ◌+◌, ◌≤◌, List, [], ◌∷◌, length, Some, Bool, true, false, refl, ap, ◌∙◌, arith}
 use Rattle.std.proofs.Common.{ltb-true}
 use Rattle.std.specs.Prelude.{nat_lt, if◌then◌else◌}
-use Rattle.tg_state.specs.declared.ends.RunEnd.TheVariants.{StackFull}
+use Rattle.tg_machine_state.specs.declared.ends.RunEnd.TheVariants.{StackFull}
 use Rattle.tg_frame.specs.declared.accesses.Access.{Access}
 use Rattle.tg_frame.specs.declared.accesses.Access.TheVariants.{InTemp, InFrame}
 use Rattle.tg_simulation.specs.Runs.{Run}

@@ -3,10 +3,10 @@ use Rattle.std.proofs.Common.{◌≡◌, ℕ, suc, ◌+◌, ◌*◌, ◌/◌, �
 use Rattle.std.proofs.Common.{◌∙◌, arith}
 use Rattle.std.specs.Prelude.{replicate}
 use Rattle.std.proofs.lemmas.Bool.{lt-ltb, le-ltb}
-use Rattle.tg_state.specs.declared.ends.RunEnd.TheVariants.{HeapFull}
+use Rattle.tg_machine_state.specs.declared.ends.RunEnd.TheVariants.{HeapFull}
 use Rattle.tg_base.specs.Words.{add}
-use Rattle.tg_state.specs.Services.{whole_words}
-use Rattle.tg_state.specs.State.{heap_base}
+use Rattle.tg_machine_state.specs.Services.{whole_words}
+use Rattle.tg_machine_state.specs.State.{heap_base}
 use Rattle.tg_simulation.specs.Runs.{Run}
 use Rattle.tg_simulation.specs.Ran.{Ran, Ended}
 use Rattle.tg_simulation.specs.laws.Simulating.{Comes}

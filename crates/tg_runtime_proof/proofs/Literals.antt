@@ -5,7 +5,7 @@ use Rattle.std.specs.Prelude.{if◌then◌else◌, ◌==◌, All, replicate}
 use Rattle.std.specs.Int.{to_le_bytes, w32}
 use Rattle.std.proofs.lemmas.Bool.{cases_eq}
 use Rattle.std.proofs.lemmas.List.{length-append, length-replicate}
-use Rattle.tg_state.specs.State.{word_at, padded, statics_base, most_bytes}
+use Rattle.tg_machine_state.specs.State.{word_at, padded, statics_base, most_bytes}
 use Rattle.tg_tree.specs.Tree.{Literal}
 use Rattle.tg_tree.specs.Memory.{Memory, in_statics, statics_of, literal_from, literal_address, begin, string_block}
 use Rattle.tg_runtime_proof.specs.Memories.{IsWhole, IsStringAt}

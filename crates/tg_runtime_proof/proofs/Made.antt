@@ -5,7 +5,7 @@ use Rattle.std.specs.Prelude.{replicate, slice_index}
 use Rattle.std.specs.Int.{to_le_bytes, w32}
 use Rattle.std.proofs.lemmas.Bool.{cases_lt}
 use Rattle.std.proofs.lemmas.List.{get_or-replicate, get_or_past, length-replicate}
-use Rattle.tg_state.specs.State.{word_at, heap_base}
+use Rattle.tg_machine_state.specs.State.{word_at, heap_base}
 use Rattle.tg_tree.specs.Memory.{Memory, load}
 use Rattle.tg_runtime_proof.specs.Memories.{IsWhole, elements_block, array_block}
 use Rattle.tg_runtime_proof.proofs.Bytes.{word_bytes_are, joined_is, word_past}

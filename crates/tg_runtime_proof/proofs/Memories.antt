@@ -5,7 +5,7 @@ use Rattle.std.proofs.lemmas.Bool.{cases_lt, cases_eq}
 use Rattle.std.specs.Prelude.{slice_set, All, if◌then◌else◌}
 use Rattle.std.proofs.lemmas.List.{length-append, get_or_append_left, append_assoc, set_at}
 use Rattle.std.proofs.lemmas.List.Elements.{All-append}
-use Rattle.tg_state.specs.State.{word_at, set_word, offset, statics_base, heap_base, most_bytes, most_room}
+use Rattle.tg_machine_state.specs.State.{word_at, set_word, offset, statics_base, heap_base, most_bytes, most_room}
 use Rattle.tg_tree.specs.Memory.{Memory, Cell, Closed, Unset, Kept, Has, Spot, in_statics, in_heap, elsewhere}
 use Rattle.tg_tree.specs.Memory.{or_heap, spot, load, load_byte, store, store_byte, word_in, byte_in, store_in}
 use Rattle.tg_tree.specs.Memory.{store_byte_in, put, put_open, cell_word}

@@ -1,8 +1,8 @@
 -- `getchar`.
 use Rattle.std.proofs.Common.{ℕ, ◌+◌, ◌<◌, ◌≤◌, List, [], ◌∷◌, length, refl, arith}
 use Rattle.std.specs.Prelude.{All, take, drop}
-use Rattle.tg_state.specs.declared.ends.RunEnd.TheVariants.{HeapFull}
-use Rattle.tg_state.specs.State.{heap_base}
+use Rattle.tg_machine_state.specs.declared.ends.RunEnd.TheVariants.{HeapFull}
+use Rattle.tg_machine_state.specs.State.{heap_base}
 use Rattle.tg_simulation.specs.Runs.{Run}
 use Rattle.tg_simulation.specs.Ran.{Ran, Ended}
 use Rattle.tg_simulation.specs.laws.Simulating.{Comes}

@@ -5,7 +5,7 @@ use Rattle.std.proofs.Common.{inl, inr, ne_eqb}
 use Rattle.std.specs.Prelude.{if◌then◌else◌}
 use Rattle.std.specs.List.{AllByRecursion}
 use Rattle.std.proofs.lemmas.Bool.{cases_eq}
-use Rattle.tg_state.specs.State.{word_at, statics_base, heap_base}
+use Rattle.tg_machine_state.specs.State.{word_at, statics_base, heap_base}
 use Rattle.tg_simulation.specs.Runs.{Run, again}
 use Rattle.tg_simulation.specs.Ran.{Ran, WantsFuel, stops}
 use Rattle.tg_tree.specs.Tree.{Ts, Code, Function}

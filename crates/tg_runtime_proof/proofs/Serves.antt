@@ -1,7 +1,7 @@
 -- A call of the runtime serves by what its body comes to.
 use Rattle.std.proofs.Common.{◌≡◌, ℕ, ◌+◌, ◌*◌, ◌≤◌, ◌<◌, List, [], ◌∷◌, length, Some, sym, ◌∙◌, arith, subst}
-use Rattle.tg_state.specs.declared.ends.RunEnd.TheVariants.{HeapFull}
-use Rattle.tg_state.specs.State.{heap_base}
+use Rattle.tg_machine_state.specs.declared.ends.RunEnd.TheVariants.{HeapFull}
+use Rattle.tg_machine_state.specs.State.{heap_base}
 use Rattle.tg_frame.specs.declared.accesses.Access.{Access}
 use Rattle.tg_frame.specs.declared.accesses.Access.TheVariants.{InTemp}
 use Rattle.tg_simulation.specs.Runs.{Run}

@@ -4,10 +4,10 @@ use Rattle.std.proofs.Common.{inr, eq-eqb, ne_eqb}
 use Rattle.std.specs.Prelude.{if◌then◌else◌, ◌==◌, replicate}
 use Rattle.std.proofs.lemmas.Bool.{cases_eq, lt-ltb, le-ltb}
 use Rattle.std.proofs.lemmas.List.{length-replicate}
-use Rattle.tg_state.specs.declared.ends.RunEnd.TheVariants.{HeapFull, Exit}
+use Rattle.tg_machine_state.specs.declared.ends.RunEnd.TheVariants.{HeapFull, Exit}
 use Rattle.tg_base.specs.Words.{signed}
-use Rattle.tg_state.specs.Services.{whole_words}
-use Rattle.tg_state.specs.State.{heap_base}
+use Rattle.tg_machine_state.specs.Services.{whole_words}
+use Rattle.tg_machine_state.specs.State.{heap_base}
 use Rattle.tg_simulation.specs.Runs.{Run}
 use Rattle.tg_simulation.specs.Ran.{Ran, Ended}
 use Rattle.tg_simulation.specs.laws.Simulating.{Comes}

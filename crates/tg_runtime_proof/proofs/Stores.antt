@@ -3,7 +3,7 @@ use Rattle.std.proofs.Common.{◌≤◌, ne_eqb, ◌≡◌, ◌≢◌, ℕ, ◌+
 use Rattle.std.proofs.Common.{◌∙◌, arith}
 use Rattle.std.specs.Prelude.{if◌then◌else◌, All}
 use Rattle.std.proofs.lemmas.List.Elements.{All-set}
-use Rattle.tg_state.specs.State.{set_word, statics_base, heap_base, offset}
+use Rattle.tg_machine_state.specs.State.{set_word, statics_base, heap_base, offset}
 use Rattle.tg_tree.specs.Memory.{Memory, Cell, Closed, Unset, Has, Kept, in_statics, in_heap, elsewhere, spot, load}
 use Rattle.tg_tree.specs.Memory.{store, word_in, put, put_open, cell_word, or_heap}
 use Rattle.tg_runtime_proof.specs.Memories.{IsWhole}

@@ -7,7 +7,7 @@ use Rattle.std.specs.Int.{to_le_bytes, w32}
 use Rattle.std.proofs.lemmas.List.{length-append, get_or_append_left, get_or-append_right, get_or_past}
 use Rattle.std.proofs.lemmas.List.{length-replicate}
 use Rattle.std.proofs.lemmas.List.Elements.{All-append, All-replicate}
-use Rattle.tg_state.specs.State.{word_at, heap_base, most_room, padded}
+use Rattle.tg_machine_state.specs.State.{word_at, heap_base, most_room, padded}
 use Rattle.tg_tree.specs.Memory.{Memory, Cell, Closed, Unset, Kept, Has, Spot, in_statics, in_heap, elsewhere, spot, string_block}
 use Rattle.tg_tree.specs.Memory.{load, load_byte, byte_in, cell_word, cell_byte, byte_of}
 use Rattle.tg_runtime_proof.specs.Memories.{IsWhole, IsStringAt}

@@ -5,9 +5,9 @@ use Rattle.std.specs.Prelude.{replicate, take, All, slice_index}
 use Rattle.std.proofs.lemmas.List.{length-append, append_assoc, append-nil, length-take-le, length-replicate}
 use Rattle.std.proofs.lemmas.List.{replicate-append-replicate, take_more, take_all}
 use Rattle.std.proofs.lemmas.List.Elements.{All-append, All-replicate}
-use Rattle.tg_state.specs.declared.ends.RunEnd.TheVariants.{HeapFull}
+use Rattle.tg_machine_state.specs.declared.ends.RunEnd.TheVariants.{HeapFull}
 use Rattle.tg_base.specs.Words.{add, shift_left, shift_right}
-use Rattle.tg_state.specs.State.{heap_base, most_room, word_at}
+use Rattle.tg_machine_state.specs.State.{heap_base, most_room, word_at}
 use Rattle.tg_simulation.specs.Runs.{Run}
 use Rattle.tg_simulation.specs.Ran.{Ran, Ended}
 use Rattle.tg_simulation.specs.laws.Simulating.{Comes}

@@ -2,7 +2,7 @@
 use Rattle.std.specs.Prelude.{ℕ, zero, suc, ◌+◌, ◌*◌, ◌%◌, ◌≡◌, ◌≤◌, ◌<◌, List, [], ◌++◌, length}
 use Rattle.std.specs.Prelude.{Some}
 use Rattle.std.specs.Int.{to_le_bytes, w32}
-use Rattle.tg_state.specs.State.{word_at, heap_base, most_bytes, most_room}
+use Rattle.tg_machine_state.specs.State.{word_at, heap_base, most_bytes, most_room}
 use Rattle.tg_simulation.specs.Bytes.{AreBytes}
 use Rattle.tg_tree.specs.Memory.{Memory, load, string_block}
 

@@ -1,7 +1,7 @@
 -- A program's run as one that code may follow.
 use Rattle.std.proofs.Common.{◌≡◌, zero, suc, refl}
 use Rattle.std.specs.Prelude.{◌≢◌}
-use Rattle.tg_state.specs.declared.ends.RunEnd.TheVariants.{StackFull}
+use Rattle.tg_machine_state.specs.declared.ends.RunEnd.TheVariants.{StackFull}
 use Rattle.tg_simulation.specs.Outcomes.{End, ended, out_of_fuel, stuck, map_end}
 use Rattle.tg_semantics.specs.Values.{Ending, normal, by_nil, by_index, by_division, by_chr, by_substring, by_size, by_heap, by_overflow, by_exit}
 use Rattle.tg_semantics.specs.MachineEnds.{machine_end, TurnsAsSource}

@@ -1,7 +1,7 @@
 -- Computed examples of runs and outcomes.
 use Rattle.std.proofs.Common.{◌≡◌, ℕ, ◌+◌, [], ◌∷◌, Some, None, true, false, refl}
-use Rattle.tg_state.specs.declared.ends.RunEnd.{RunEnd}
-use Rattle.tg_state.specs.declared.ends.RunEnd.TheVariants.{HeapFull}
+use Rattle.tg_machine_state.specs.declared.ends.RunEnd.{RunEnd}
+use Rattle.tg_machine_state.specs.declared.ends.RunEnd.TheVariants.{HeapFull}
 use Rattle.tg_simulation.specs.Runs.{Run, turn, again}
 use Rattle.tg_simulation.specs.Ran.{Ran, WantsFuel, stops, writes, works}
 use Rattle.tg_simulation.specs.Outcomes as outcome

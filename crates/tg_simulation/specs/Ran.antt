@@ -1,6 +1,6 @@
 -- What comes of a run of code from a moment on.
 use Rattle.std.specs.Prelude.{ℕ, ◌+◌, ◌≡◌, ◌≤◌, List, [], ◌++◌}
-use Rattle.tg_state.specs.declared.ends.RunEnd.{RunEnd}
+use Rattle.tg_machine_state.specs.declared.ends.RunEnd.{RunEnd}
 use Rattle.tg_simulation.specs.Runs.{Run}
 
 -- how it stops: by an end of the machine, since it wants more fuel, or since it has gone wrong

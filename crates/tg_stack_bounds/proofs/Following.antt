@@ -10,15 +10,15 @@ use Rattle.tg_syntax.specs.Tree.{Exp, LValue, Exps, Inits, Decs, FunDecs, no_fun
 use Rattle.tg_syntax.specs.Functions.{Levels, crossed, own, own_params, own_functions, own_decs}
 use Rattle.tg_semantics.specs.declared.standards.Standard.{Standard}
 use Rattle.tg_semantics.specs.Environments.{standards}
-use Rattle.tg_types.specs.declared.notes.Note.{Note}
-use Rattle.tg_types.specs.declared.notes.Means.{Means}
-use Rattle.tg_types.specs.declared.notes.Means.TheVariants as means
-use Rattle.tg_types.specs.Types.{Ty, int_type, string_type, none_type, record_type, array_type, Shape}
+use Rattle.tg_typecheck.specs.declared.notes.Note.{Note}
+use Rattle.tg_typecheck.specs.declared.notes.Means.{Means}
+use Rattle.tg_typecheck.specs.declared.notes.Means.TheVariants as means
+use Rattle.tg_typecheck.specs.Types.{Ty, int_type, string_type, none_type, record_type, array_type, Shape}
 use Rattle.tg_semantics.specs.Environments.{name_of}
-use Rattle.tg_types.specs.Scopes.{Signature, Binding, variable_at, function_at, standard_one, Scope, in_a_loop, in_no_loop, binding, at_of}
-use Rattle.tg_types.specs.Scopes.{outermost_scope, entry, standard_bindings, standard_of}
-use Rattle.tg_types.specs.Groups.{with_functions, with_params}
-use Rattle.tg_types.specs.Has as Has
+use Rattle.tg_typecheck.specs.Scopes.{Signature, Binding, variable_at, function_at, standard_one, Scope, in_a_loop, in_no_loop, binding, at_of}
+use Rattle.tg_typecheck.specs.Scopes.{outermost_scope, entry, standard_bindings, standard_of}
+use Rattle.tg_typecheck.specs.Groups.{with_functions, with_params}
+use Rattle.tg_typecheck.specs.Has as Has
 use Rattle.tg_translate.specs.mirror.Scopes.{Findings}
 use Rattle.tg_translate_proof.proofs.invariant.Covered.{Declares, DeclareParams, DeclaresPlace, DeclaresExps, DeclaresInits, DeclaresDecs, DeclaresFunctions}
 use Rattle.tg_stack_bounds.proofs.Leading.{LevelTable, Crosses, AreAt, AreParamsAt, Leads, LeadsPlace, LeadsExps, LeadsInits, LeadsDecs, LeadsBodies}

@@ -8,10 +8,10 @@ use Rattle.std.specs.FinSet.{FinSet}
 use Rattle.std.proofs.lemmas.Bool.{eqb-true, eq-eqb}
 use Rattle.tg_symbols.specs.Tables.{looked_up}
 use Rattle.tg_frame.specs.declared.accesses.Access.TheVariants.{InTemp}
-use Rattle.tg_types.specs.Scopes.{outermost_scope, at_of}
-use Rattle.tg_types.specs.Programs.{CheckedProgram, IsAccepted}
-use Rattle.tg_types.proofs.Derivations.{checked_has_type}
-use Rattle.tg_types.proofs.NotesFound.{notes_are_found}
+use Rattle.tg_typecheck.specs.Scopes.{outermost_scope, at_of}
+use Rattle.tg_typecheck.specs.Programs.{CheckedProgram, IsAccepted}
+use Rattle.tg_typecheck.proofs.Derivations.{checked_has_type}
+use Rattle.tg_typecheck.proofs.NotesFound.{notes_are_found}
 use Rattle.tg_translate.specs.declared.homes.Home.{Home}
 use Rattle.tg_translate.specs.declared.homes.Callee.{Callee}
 use Rattle.tg_translate.specs.declared.wants.Want.TheVariants as want

@@ -13,10 +13,10 @@ use Rattle.tg_runtime.specs.mirror.Routines.{runtime}
 use Rattle.tg_runtime.specs.laws.Laws.{AreRoutines, AllAreRoutines, is_own}
 use Rattle.tg_translate.specs.mirror.Translate.{translated}
 use Rattle.tg_translate_laws.specs.laws.Laws.{names, findings_in, CheckedBodiesAreClosed, CheckedTemporariesAreDrawn}
-use Rattle.tg_flatten_proof.specs.Flattened.{flattened, MayBeFlattened}
-use Rattle.tg_flatten_proof.specs.laws.Laws as carried
+use Rattle.tg_canon_trace_proof.specs.Flattened.{flattened, MayBeFlattened}
+use Rattle.tg_canon_trace_proof.specs.laws.Laws as carried
 use Rattle.tg_instr.proofs.Tests.{all_at}
-use Rattle.tg_irc.specs.Policies.{Rule}
+use Rattle.tg_irc_definition.specs.Policies.{Rule}
 use Rattle.tg_regalloc.specs.declared.allocations.Allocation.{Allocation}
 use Rattle.tg_regalloc.specs.laws.Growth.{AllocationsAreShort}
 use Rattle.tg_emit.specs.mirror.Lines.{size_of}

@@ -13,8 +13,8 @@ use Rattle.tg_syntax.specs.Tree.{Exp, Break, Int, Text, Read, Call, Binary, Make
 use Rattle.tg_syntax.specs.Tree.{Simple, Field, Index, Exps, no_exps, exp, no_inits, init, Decs, no_decs, variable, functions}
 use Rattle.tg_syntax.specs.Tree.{no_functions, function}
 use Rattle.tg_semantics.specs.declared.standards.Standard.TheVariants as standard
-use Rattle.tg_types.specs.declared.notes.Means.{Means}
-use Rattle.tg_types.specs.declared.notes.Means.TheVariants as means
+use Rattle.tg_typecheck.specs.declared.notes.Means.{Means}
+use Rattle.tg_typecheck.specs.declared.notes.Means.TheVariants as means
 use Rattle.tg_translate.specs.mirror.Scopes.{Findings}
 
 abbrev pub sp : Span

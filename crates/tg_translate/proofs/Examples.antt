@@ -3,8 +3,8 @@
 use Rattle.std.proofs.Common.{◌≡◌, ℕ, ◌-◌, ◌++◌, List, [], ◌∷◌, drop, map, Some, Bool, true, false, refl}
 use Rattle.std.specs.Prelude.{codes, pos}
 use Prim.Native.String.{String}
-use Rattle.tg_state.specs.declared.ends.RunEnd.TheVariants.{Exit, Break as Broken, Overflow}
-use Rattle.tg_state.specs.State.{stack_top}
+use Rattle.tg_machine_state.specs.declared.ends.RunEnd.TheVariants.{Exit, Break as Broken, Overflow}
+use Rattle.tg_machine_state.specs.State.{stack_top}
 use Rattle.tg_simulation.specs.Ran.{Ran, Stop, Ended}
 use Rattle.tg_syntax.specs.declared.trees.Op.TheVariants as op
 use Rattle.tg_syntax.specs.Tree.{Exp, Nil, Break, Read, Neg, Binary, Make, Fill, Assign, If, When, While, For, LValue}

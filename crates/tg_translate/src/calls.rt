@@ -14,7 +14,7 @@ use std::alloc::Global;
 use tg_base::{Bytes, Memory};
 use tg_runtime::Routine;
 use tg_tree::{Literal, Tx, call};
-use tg_types::{Means, Standard};
+use tg_typecheck::{Means, Standard};
 
 fn routine_of(standard: Standard) -> Routine
     ensures { result ≡ scopes.routine_of standard }

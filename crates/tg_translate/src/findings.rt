@@ -1,7 +1,7 @@
 ghost use Rattle.std.specs.Prelude.{◌≡◌};
 
 use tg_escape::{Escapes, Links};
-use tg_types::{Means, Notes};
+use tg_typecheck::{Means, Notes};
 
 /// What the passes before found of a program: what its uses mean, which variables escape, and
 /// through the static links of which functions nested ones go.

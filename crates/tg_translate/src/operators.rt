@@ -22,7 +22,7 @@ use tg_base::{Memory, Temp, keep_with, sub};
 use tg_runtime::Routine;
 use tg_syntax::{Exp, Kind, Op};
 use tg_tree::{Bin, Cond, Rel, Ts, Tx, binary, both, compare, either, if_else};
-use tg_types::Means;
+use tg_typecheck::Means;
 
 /// What an operator wants of its left side.
 pub(crate) fn left_want(op: Op) -> Want

@@ -19,7 +19,7 @@ use std::alloc::Global;
 use tg_base::{Memory, Temp};
 use tg_frame::{Access, link_path};
 use tg_tree::{Ts, Tx, after, load, sequence};
-use tg_types::Means;
+use tg_typecheck::Means;
 
 /// Where an l-value's value stands: in a temporary, or at an address after statements that check
 /// it.

@@ -18,7 +18,7 @@ use tg_base::{Label, Memory};
 use tg_escape::{Escapes, links};
 use tg_syntax::Exp;
 use tg_tree::{Fragments, Ts};
-use tg_types::Checked;
+use tg_typecheck::Checked;
 
 /// The label of the program's body. Labels below it are the runtime's.
 const BODY: u32 = 32;

@@ -6,7 +6,7 @@ ghost use Rattle.tg_translate.specs.mirror.Updates as updates;
 use crate::findings::Findings;
 use crate::places::field_number;
 use tg_syntax::{Exp, Kind, Op, Var};
-use tg_types::Means;
+use tg_typecheck::Means;
 
 fn is_same_variable(one: Option<Means>, other: Option<Means>) -> bool
     ensures { result ≡ updates.is_same_variable one other }

@@ -14,10 +14,10 @@ use Rattle.tg_syntax.specs.Functions.{declared_inits, declared_decs, declared_fu
 use Rattle.tg_syntax.specs.Spans.{span_of}
 use Rattle.tg_syntax.proofs.FunctionLaws.{program_size_is}
 use Rattle.tg_tree.specs.Tree.{Ts, Function}
-use Rattle.tg_types.specs.declared.faults.TypeRule.{TypeRule}
-use Rattle.tg_types.specs.declared.faults.TypeRule.TheVariants.{T20, T21, T22}
-use Rattle.tg_types.specs.laws.Laws.{CheckedHasType}
-use Rattle.tg_types.specs.Limits.{above, first_above}
+use Rattle.tg_typecheck.specs.declared.faults.TypeRule.{TypeRule}
+use Rattle.tg_typecheck.specs.declared.faults.TypeRule.TheVariants.{T20, T21, T22}
+use Rattle.tg_typecheck.specs.laws.Laws.{CheckedHasType}
+use Rattle.tg_typecheck.specs.Limits.{above, first_above}
 use Rattle.tg_translate.specs.mirror.Scopes.{found}
 use Rattle.tg_translate.specs.mirror.Translate.{translated}
 use Rattle.tg_translate_laws.specs.laws.Laws.{FunctionIsWithin, FunctionIsSmall, CheckedFramesAreSmall, CheckedConstantsAreWords}

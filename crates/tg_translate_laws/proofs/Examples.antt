@@ -10,8 +10,8 @@ use Rattle.tg_syntax.specs.Functions.{program_functions}
 use Rattle.tg_syntax.specs.Tree.{Exp, Break, Int, Text, Read, Call, Binary, Assign, If, When, While, For, Let, Seq, Simple, no_exps, exp, no_decs}
 use Rattle.tg_syntax.specs.Tree.{variable, functions, no_functions, function}
 use Rattle.tg_semantics.specs.declared.standards.Standard.TheVariants as standard
-use Rattle.tg_types.specs.declared.notes.Means.{Means}
-use Rattle.tg_types.specs.declared.notes.Means.TheVariants as means
+use Rattle.tg_typecheck.specs.declared.notes.Means.{Means}
+use Rattle.tg_typecheck.specs.declared.notes.Means.TheVariants as means
 use Rattle.tg_tree.specs.Tree.{Tx, Load}
 use Rattle.tg_tree.specs.Sizes.{tree_length}
 use Rattle.tg_tree.specs.Named.{function_labels, literal_labels}

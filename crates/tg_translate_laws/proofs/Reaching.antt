@@ -18,14 +18,14 @@ use Rattle.tg_syntax.specs.Beginnings.{exps_beginnings, inits_beginnings, decs_b
 use Rattle.tg_escape.specs.Uses.{DeclaredAs, a_variable, a_function, Seen, Use, used, uses, place_uses, exps_uses, inits_uses, decs_uses}
 use Rattle.tg_escape.specs.Uses.{functions_uses, declare_variable, declare_params, declare_functions, declare_all}
 use Rattle.tg_escape.specs.Escaping.{escapes_by}
-use Rattle.tg_types.specs.declared.notes.Note.{Note}
-use Rattle.tg_types.specs.declared.notes.Means.{Means}
-use Rattle.tg_types.specs.declared.notes.Means.TheVariants as means
-use Rattle.tg_types.specs.Types.{Ty, int_type, string_type, none_type, record_type, array_type, Shape}
+use Rattle.tg_typecheck.specs.declared.notes.Note.{Note}
+use Rattle.tg_typecheck.specs.declared.notes.Means.{Means}
+use Rattle.tg_typecheck.specs.declared.notes.Means.TheVariants as means
+use Rattle.tg_typecheck.specs.Types.{Ty, int_type, string_type, none_type, record_type, array_type, Shape}
 use Rattle.tg_semantics.specs.Environments.{name_of}
-use Rattle.tg_types.specs.Scopes.{Signature, Binding, variable_at, function_at, Scope, in_a_loop, in_no_loop, binding, at_of}
-use Rattle.tg_types.specs.Groups.{with_functions, with_params}
-use Rattle.tg_types.specs.Has as Has
+use Rattle.tg_typecheck.specs.Scopes.{Signature, Binding, variable_at, function_at, Scope, in_a_loop, in_no_loop, binding, at_of}
+use Rattle.tg_typecheck.specs.Groups.{with_functions, with_params}
+use Rattle.tg_typecheck.specs.Has as Has
 use Rattle.tg_translate.specs.mirror.Scopes.{Findings}
 use Rattle.tg_translate_laws.specs.Standing.{params_of, owned_by, AreApart, IsInReach, Reaches, ReachesPlace, ReachesExps, ReachesInits, ReachesDecs}
 use Rattle.tg_translate_laws.specs.Standing.{ReachesBodies}

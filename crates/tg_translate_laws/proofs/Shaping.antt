@@ -18,9 +18,9 @@ use Rattle.tg_escape.specs.Escaping.{escapes_by, escapes_of}
 use Rattle.tg_semantics.specs.declared.standards.Standard.{Standard}
 use Rattle.tg_semantics.specs.Environments.{standards}
 use Rattle.tg_symbols.specs.Tables.{looked_up}
-use Rattle.tg_types.specs.Types.{Ty}
-use Rattle.tg_types.specs.laws.Laws.{CheckedHasType, NotesAreFound}
-use Rattle.tg_types.specs.Scopes.{Binding, variable_at, standard_one, standard_of, standard_bindings, entry, outermost_scope}
+use Rattle.tg_typecheck.specs.Types.{Ty}
+use Rattle.tg_typecheck.specs.laws.Laws.{CheckedHasType, NotesAreFound}
+use Rattle.tg_typecheck.specs.Scopes.{Binding, variable_at, standard_one, standard_of, standard_bindings, entry, outermost_scope}
 use Rattle.tg_runtime.specs.laws.Laws.{AreRoutines, is_own, LabelsInOrder, AllAreRoutines}
 use Rattle.tg_runtime.specs.mirror.Routines.{runtime}
 use Rattle.tg_tree.specs.Memory.{string_text}

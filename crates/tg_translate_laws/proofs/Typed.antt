@@ -2,11 +2,11 @@
 use Rattle.std.proofs.Common.{◌≡◌, ℕ, Bool, true, false, List, [], ◌∷◌, refl, sym, ◌∙◌}
 use Rattle.tg_syntax.specs.declared.trees.Param.{Param}
 use Rattle.tg_syntax.specs.Tree.{Exp, LValue, Exps, Inits, Decs, FunDecs, no_functions, function}
-use Rattle.tg_types.specs.declared.notes.Note.{Note}
-use Rattle.tg_types.specs.Types.{Ty, int_type, string_type, none_type, record_type, array_type, Shape}
-use Rattle.tg_types.specs.Scopes.{Signature, Scope, in_a_loop, in_no_loop, binding, variable_at, function_at, at_of}
-use Rattle.tg_types.specs.Groups.{with_functions, with_params}
-use Rattle.tg_types.specs.Has as Has
+use Rattle.tg_typecheck.specs.declared.notes.Note.{Note}
+use Rattle.tg_typecheck.specs.Types.{Ty, int_type, string_type, none_type, record_type, array_type, Shape}
+use Rattle.tg_typecheck.specs.Scopes.{Signature, Scope, in_a_loop, in_no_loop, binding, variable_at, function_at, at_of}
+use Rattle.tg_typecheck.specs.Groups.{with_functions, with_params}
+use Rattle.tg_typecheck.specs.Has as Has
 use Rattle.tg_translate_laws.specs.Standing.{BreaksStand, BreaksStandPlace, BreaksStandExps, BreaksStandInits, BreaksStandDecs, BreaksStandBodies}
 
 loop_functions : (fs : FunDecs) (ss : List Signature) (scope : Scope) → (with_functions fs ss scope).in_loop ≡

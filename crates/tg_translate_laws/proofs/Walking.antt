@@ -11,7 +11,7 @@ use Rattle.tg_tree.specs.Tree as tree
 use Rattle.tg_tree.specs.Tree.{Tx, Const, Txs, no_txs, tx, Cond, Stms, no_stms}
 use Rattle.tg_tree.specs.Forms.{nothing}
 use Rattle.tg_tree.specs.glue.Lists.{join_txs}
-use Rattle.tg_types.specs.declared.notes.Means.{Means}
+use Rattle.tg_typecheck.specs.declared.notes.Means.{Means}
 use Rattle.tg_translate.specs.declared.wants.Want.{Want}
 use Rattle.tg_translate.specs.declared.wants.Want.TheVariants as want
 use Rattle.tg_translate.specs.mirror.States.{TranslationState, Translates, after, give}

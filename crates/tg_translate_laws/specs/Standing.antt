@@ -8,8 +8,8 @@ use Rattle.tg_syntax.specs.Tree.{Exp, Nil, Break, Int, Text, Read, Call, Neg, Bi
 use Rattle.tg_syntax.specs.Tree.{Assign, If, When, While, For, Let, Seq, LValue, Simple, Field}
 use Rattle.tg_syntax.specs.Tree.{Index, Exps, no_exps, exp, Inits, no_inits, init, Decs, no_decs}
 use Rattle.tg_syntax.specs.Tree.{types, variable, functions, FunDecs, no_functions, function}
-use Rattle.tg_types.specs.declared.notes.Means.{Means}
-use Rattle.tg_types.specs.declared.notes.Means.TheVariants as means
+use Rattle.tg_typecheck.specs.declared.notes.Means.{Means}
+use Rattle.tg_typecheck.specs.declared.notes.Means.TheVariants as means
 use Rattle.tg_translate.specs.mirror.Scopes.{Findings}
 use Rattle.tg_translate.specs.mirror.Functions.{at_of}
 

@@ -17,7 +17,7 @@ ghost use Rattle.tg_translate_laws.specs.laws.Laws.{
 };
 
 use tg_runtime::routines_are_closed;
-use tg_types::{checked_has_type, notes_are_found};
+use tg_typecheck::{checked_has_type, notes_are_found};
 
 /// Laws of the labels of every program, whatever it means: with the runtime after it, all labels
 /// of functions and literals differ, the body's is 32, each function that is called and each

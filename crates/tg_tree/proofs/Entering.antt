@@ -1,8 +1,8 @@
 -- What bodies keep, calls and programs keep, in any form of code.
 use Rattle.std.proofs.Common.{◌≡◌, ℕ, ◌<◌, ◌≤◌, List, [], length, arith}
 use Rattle.std.specs.Prelude.{pos}
-use Rattle.tg_state.specs.declared.ends.RunEnd.TheVariants.{Exit}
-use Rattle.tg_state.specs.State.{stack_top}
+use Rattle.tg_machine_state.specs.declared.ends.RunEnd.TheVariants.{Exit}
+use Rattle.tg_machine_state.specs.State.{stack_top}
 use Rattle.tg_simulation.specs.Ran.{Ended, IsOver, GoesOn}
 use Rattle.tg_tree.specs.Tree.{Function, Code}
 use Rattle.tg_tree.specs.Memory.{begin}

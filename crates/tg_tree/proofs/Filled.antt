@@ -1,7 +1,7 @@
 -- A run that doesn't go wrong is the same where more is set.
 use Rattle.std.proofs.Common.{◌≡◌, ℕ, zero, suc, ◌+◌, ◌%◌, ◌^◌, ◌<◌, ◌≤◌, List, [], ◌∷◌, length, Bool, true, false, Option, Some, None, refl, sym, ap, arith}
 use Rattle.std.specs.Prelude.{◌≢◌, ◌==◌, nat_lt, if◌then◌else◌}
-use Rattle.tg_state.specs.State.{heap_base}
+use Rattle.tg_machine_state.specs.State.{heap_base}
 use Rattle.tg_simulation.specs.Runs.{Run}
 use Rattle.tg_simulation.specs.Ran.{Ran, Stop, WantsFuel, Wrong, writes, works}
 use Rattle.tg_tree.specs.Memory.{Memory, Cell, Closed, Unset, Has, Kept, Spot, in_statics, in_heap, elsewhere, spot, cell_word, cell_byte, word_in}

@@ -2,8 +2,8 @@
 use Rattle.std.proofs.Common.{◌≡◌, ℕ, zero, suc, ◌+◌, ◌^◌, ◌<◌, ◌≤◌, List, [], ◌∷◌, ◌++◌, length, Bool, true, false, Option, Some, None, refl, sym}
 use Rattle.std.proofs.Common.{ap, ◌∙◌, arith, append_assoc}
 use Rattle.std.specs.Prelude.{nat_lt, if◌then◌else◌}
-use Rattle.tg_state.specs.declared.ends.RunEnd.TheVariants.{HeapFull}
-use Rattle.tg_state.specs.State.{heap_base}
+use Rattle.tg_machine_state.specs.declared.ends.RunEnd.TheVariants.{HeapFull}
+use Rattle.tg_machine_state.specs.State.{heap_base}
 use Rattle.tg_simulation.specs.Runs.{Run, IsSameTo}
 use Rattle.tg_simulation.specs.Ran.{Ran, Stop, Ended, WantsFuel, Wrong, stops, writes, works, IsOver, GoesOn}
 use Rattle.tg_simulation.proofs.Fixpoint.{turn_same}

@@ -1,8 +1,8 @@
 -- Static links that are right, and one that isn't, each computed by the definition itself.
 use Rattle.std.proofs.Common.{◌≡◌, ℕ, ◌-◌, List, [], ◌∷◌, ◌++◌, ap, refl}
 use Rattle.std.specs.Prelude.{pos}
-use Rattle.tg_state.specs.declared.ends.RunEnd.TheVariants.{Exit}
-use Rattle.tg_state.specs.State.{stack_top}
+use Rattle.tg_machine_state.specs.declared.ends.RunEnd.TheVariants.{Exit}
+use Rattle.tg_machine_state.specs.State.{stack_top}
 use Rattle.tg_frame.specs.declared.accesses.Access.{Access}
 use Rattle.tg_frame.specs.declared.accesses.Access.TheVariants.{InFrame}
 use Rattle.tg_simulation.specs.Ran.{Ran, Stop, Ended, Wrong}

@@ -1,7 +1,7 @@
 -- Where each function is carried, calls are, and so is a program from its first activation on.
 use Rattle.std.proofs.Common.{ℕ, zero, suc, ◌+◌, ◌*◌, ◌<◌, ◌≤◌, List, [], ◌∷◌, length, Bool, true, false, Option, Some, arith}
 use Rattle.std.specs.Prelude.{◌==◌, nat_lt, if◌then◌else◌}
-use Rattle.tg_state.specs.declared.ends.RunEnd.TheVariants.{StackFull}
+use Rattle.tg_machine_state.specs.declared.ends.RunEnd.TheVariants.{StackFull}
 use Rattle.tg_frame.specs.declared.accesses.Access.{Access}
 use Rattle.tg_frame.specs.declared.accesses.Access.TheVariants.{InTemp, InFrame}
 use Rattle.tg_simulation.specs.Runs.{Run}

@@ -4,10 +4,10 @@ use Rattle.std.specs.Prelude.{ℕ, zero, suc, ◌+◌, ◌^◌, ◌%◌, ◌==�
 use Rattle.std.specs.Prelude.{replicate, Option, Some, None, true, false, nat_lt, if◌then◌else◌}
 use Rattle.std.specs.Prelude.{pos}
 use Rattle.std.specs.Fmt.{signed_decimal}
-use Rattle.tg_state.specs.declared.ends.RunEnd.TheVariants.{Exit, HeapFull, BadService}
+use Rattle.tg_machine_state.specs.declared.ends.RunEnd.TheVariants.{Exit, HeapFull, BadService}
 use Rattle.tg_base.specs.Words.{signed}
-use Rattle.tg_state.specs.State.{heap_base}
-use Rattle.tg_state.specs.Services.{whole_words}
+use Rattle.tg_machine_state.specs.State.{heap_base}
+use Rattle.tg_machine_state.specs.Services.{whole_words}
 use Rattle.tg_simulation.specs.Runs.{Run}
 use Rattle.tg_simulation.specs.Ran.{Ran, Stop, Ended, Wrong, stops, writes, works}
 use Rattle.tg_tree.specs.Operators.{Given, word, stops_by}

@@ -1,7 +1,7 @@
 -- Runs of flat code (Appel, chapter 8). A jump, a branch that is taken and a call take a unit of
 -- fuel each.
 use Rattle.std.specs.Prelude.{ℕ, ◌==◌, List, [], ◌∷◌, Option, Some, None, if◌then◌else◌}
-use Rattle.tg_state.specs.declared.ends.RunEnd.TheVariants.{Break}
+use Rattle.tg_machine_state.specs.declared.ends.RunEnd.TheVariants.{Break}
 use Rattle.tg_simulation.specs.Runs.{Run, again}
 use Rattle.tg_simulation.specs.Ran.{Ran, Ended, WantsFuel, Wrong, stops}
 use Rattle.tg_tree.specs.Tree.{Linear, Mark, Do', Jump, Branch, Fault', Return', Code}

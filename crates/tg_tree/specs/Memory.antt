@@ -3,7 +3,7 @@
 use Rattle.std.specs.Prelude.{ℕ, zero, suc, ◌+◌, ◌-◌, ◌*◌, ◌/◌, ◌%◌, ◌^◌, ◌==◌, List, [], ◌∷◌, ◌++◌}
 use Rattle.std.specs.Prelude.{length, slice_index, slice_set, Option, Some, None, if◌then◌else◌}
 use Rattle.std.specs.Int.{to_le_bytes, w32}
-use Rattle.tg_state.specs.State.{offset, word_at, set_word, padded, statics_base, heap_base}
+use Rattle.tg_machine_state.specs.State.{offset, word_at, set_word, padded, statics_base, heap_base}
 use Rattle.tg_tree.specs.Tree.{Literal}
 
 -- A word of the stack: no slot of an open activation; a slot that wasn't stored to since its

@@ -1,7 +1,7 @@
 -- What operators and comparisons make of words.
 use Rattle.std.specs.Prelude.{ℕ, ◌%◌, ◌==◌, Bool, not, nat_lt, if◌then◌else◌, Option, Some, None}
 use Rattle.std.specs.Prelude.{bit_and, bit_or, bit_xor}
-use Rattle.tg_state.specs.declared.ends.RunEnd.TheVariants.{Overflow}
+use Rattle.tg_machine_state.specs.declared.ends.RunEnd.TheVariants.{Overflow}
 use Rattle.tg_base.specs.Words.{add, sub, mul, quot, less, exact_sum, exact_difference}
 use Rattle.tg_base.specs.Words.{product_high, shift_left, shift_right, shift_signed}
 use Rattle.tg_simulation.specs.Ran.{Stop, Ended, Wrong}

@@ -2,8 +2,8 @@
 -- activation of a program takes none.
 use Rattle.std.specs.Prelude.{ℕ, ◌+◌, ◌==◌, List, [], ◌∷◌, Option, Some, None, length, map, nat_lt}
 use Rattle.std.specs.Prelude.{if◌then◌else◌, pos}
-use Rattle.tg_state.specs.declared.ends.RunEnd.TheVariants.{Exit, StackFull}
-use Rattle.tg_state.specs.State.{stack_top}
+use Rattle.tg_machine_state.specs.declared.ends.RunEnd.TheVariants.{Exit, StackFull}
+use Rattle.tg_machine_state.specs.State.{stack_top}
 use Rattle.tg_frame.specs.declared.accesses.Access.{Access}
 use Rattle.tg_frame.specs.declared.accesses.Access.TheVariants.{InTemp, InFrame}
 use Rattle.tg_simulation.specs.Runs.{Run, turn, again}

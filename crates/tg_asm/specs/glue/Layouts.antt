@@ -3,7 +3,7 @@ use Rattle.std.specs.Prelude.{ℕ, ◌≤◌, ◌≡◌, ⊤, List, [], ◌∷�
 use Rattle.std.specs.Prelude.{Err}
 use Rattle.tg_base.specs.declared.faulty.Faulty.{Faulty}
 use Rattle.tg_base.specs.declared.faulty.Faulty.TheVariants as fault
-use Rattle.tg_state.specs.State.{most_words, most_bytes}
+use Rattle.tg_machine_state.specs.State.{most_words, most_bytes}
 use Rattle.tg_asm_text.specs.Assembly as assembly
 use Rattle.tg_asm_text.specs.declared.keywords.AsmRule.{AsmRule}
 use Rattle.tg_asm_text.specs.declared.keywords.AsmRule.TheVariants.{A4}

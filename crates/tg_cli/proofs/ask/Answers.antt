@@ -1,7 +1,7 @@
 use denote.Param.Object.{read_made}
 use Rattle.std.proofs.Common.{ℕ, List, None, ◌≡◌, inl, refl, subst}
-use Rattle.tg_irc.specs.Policies.{Rule, least_use}
-use Rattle.tg_watch.specs.Watching.{Report}
+use Rattle.tg_irc_definition.specs.Policies.{Rule, least_use}
+use Rattle.tg_profiler.specs.Watching.{Report}
 use Rattle.tg_driver.specs.Calls.{shelf_of, call_of}
 use Rattle.tg_driver.specs.Answered.{Answers}
 use Rattle.tg_cli.specs.Ends.{untold, AnswersWords, IsAnswered}

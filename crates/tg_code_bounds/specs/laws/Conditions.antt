@@ -10,7 +10,7 @@ use Rattle.tg_tree.specs.Sizes.{
   flat_needs,
 }
 use Rattle.tg_canon.specs.laws.Meaning.{canonical}
-use Rattle.tg_flatten_proof.specs.Flattened.{flattened, MayBeFlattened}
+use Rattle.tg_canon_trace_proof.specs.Flattened.{flattened, MayBeFlattened}
 use Rattle.tg_munch.specs.mirror.Bodies.{munched}
 
 -- the most of length and of needs that a pass takes, before instructions are chosen

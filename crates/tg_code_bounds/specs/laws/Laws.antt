@@ -3,10 +3,10 @@ use Rattle.std.specs.Prelude.{ℕ, ◌≤◌, ◌<◌, ◌+◌, ◌-◌, ◌*◌
 use Rattle.std.specs.List.{AllZip, list_all}
 use Rattle.std.specs.Ordering.{nat_cmp}
 use Rattle.std.specs.FinSet.{FinSet}
-use Rattle.tg_state.specs.State.{most_words as segment_words}
+use Rattle.tg_machine_state.specs.State.{most_words as segment_words}
 use Rattle.tg_syntax.specs.Tree.{Exp}
 use Rattle.tg_syntax.specs.Functions.{Measures, program_functions, program_size}
-use Rattle.tg_types.specs.Programs.{CheckedProgram, IsAccepted}
+use Rattle.tg_typecheck.specs.Programs.{CheckedProgram, IsAccepted}
 use Rattle.tg_tree.specs.Tree.{Ts, Function}
 use Rattle.tg_tree.specs.Sizes.{tree_length, tree_needs}
 use Rattle.tg_tree.specs.declared.fragments.Literal.{Literal}
@@ -23,12 +23,12 @@ use Rattle.tg_translate_laws.specs.laws.Laws.{
   function_needs,
   findings_in,
 }
-use Rattle.tg_flatten_proof.specs.Flattened.{MayBeFlattened}
-use Rattle.tg_flatten_proof.specs.laws.Laws.{added_length, added_needs}
+use Rattle.tg_canon_trace_proof.specs.Flattened.{MayBeFlattened}
+use Rattle.tg_canon_trace_proof.specs.laws.Laws.{added_length, added_needs}
 use Rattle.tg_instr.specs.declared.codes.Allocated.{Allocated}
 use Rattle.tg_instr.specs.Lengths as instr
 use Rattle.tg_munch.specs.laws.Lengths.{kept_count}
-use Rattle.tg_irc.specs.Policies.{Rule}
+use Rattle.tg_irc_definition.specs.Policies.{Rule}
 use Rattle.tg_regalloc.specs.declared.allocations.Allocation.{Allocation}
 use Rattle.tg_regalloc.specs.Allocations.{codes_of}
 use Rattle.tg_emit.specs.mirror.Lines.{

@@ -1,7 +1,7 @@
 -- What the parts of the compilation promise one another.
 use Rattle.std.specs.Prelude.{◌<◌, ◌≤◌, ◌^◌, ℕ, nat_lt, Bool, true, List, [], ◌∷◌, IsTrue}
 use Rattle.std.specs.List.{Contains, list_all}
-use Rattle.tg_state.specs.State.{most_words}
+use Rattle.tg_machine_state.specs.State.{most_words}
 use Rattle.tg_frame.specs.Homes.{slot_bound}
 use Rattle.tg_tree.specs.declared.fragments.Literal.{Literal}
 use Rattle.tg_tree.specs.Tree.{Ts, Linear, Function}
@@ -12,7 +12,7 @@ use Rattle.tg_translate_laws.specs.laws.Laws.{names}
 use Rattle.tg_instr.specs.Codes.{has_slots_below, names_registers}
 use Rattle.tg_instr.specs.declared.codes.Allocated.{Allocated}
 use Rattle.tg_munch.specs.Naming.{names_allowed}
-use Rattle.tg_irc.specs.Policies.{Rule}
+use Rattle.tg_irc_definition.specs.Policies.{Rule}
 use Rattle.tg_regalloc.specs.Conditions.{is_fixed}
 use Rattle.tg_regalloc.specs.declared.allocations.Allocation.{Allocation}
 use Rattle.tg_emit.specs.Conditions.{has_code}
@@ -25,7 +25,7 @@ use Rattle.tg_emit_laws.specs.Programs.{
   calls_those,
 }
 use Rattle.tg_code_bounds.specs.Allocating.{chosen, IsAllocationOf, has_small_frame}
-use Rattle.tg_flatten_proof.specs.Flattened.{flattened}
+use Rattle.tg_canon_trace_proof.specs.Flattened.{flattened}
 use Rattle.tg_compile.specs.declared.programs.Placement.{Placement}
 
 -- a function whose body is closed, whose temporaries its frame has drawn, and whose slots are few

@@ -9,20 +9,20 @@ use Rattle.tg_simulation.specs.Preserving.{Preserves}
 use Rattle.tg_simulation.specs.Agreement.{Source, Follows, Agrees, FillsStack}
 use Rattle.tg_simulation.specs.laws.Laws.{NeverEndsFull, NeverStuck}
 use Rattle.tg_semantics.specs.MachineEnds.{program_run}
-use Rattle.tg_types.specs.Programs.{CheckedProgram, IsAccepted}
+use Rattle.tg_typecheck.specs.Programs.{CheckedProgram, IsAccepted}
 use Rattle.tg_asm_text.specs.Assembly.{Assembled, assembled}
 use Rattle.tg_tree.specs.declared.fragments.Literal.{Literal}
 use Rattle.tg_tree.specs.Tree.{Ts, Function}
 use Rattle.tg_tree.specs.Named.{named_ts, HasWords}
 use Rattle.tg_tree.specs.FrameSizes.{IsSizeOf, IsNested}
 use Rattle.tg_instr.specs.declared.instr.Instr.{Instr}
-use Rattle.tg_irc.specs.Policies.{Rule}
+use Rattle.tg_irc_definition.specs.Policies.{Rule}
 use Rattle.tg_regalloc.specs.declared.allocations.Allocation.{Allocation}
 use Rattle.tg_compile.specs.Compiling.{fragments_of, Compiles}
 use Rattle.tg_emit_proof.specs.laws.Emission.{MayRun, FitRegions}
-use Rattle.tg_correct.specs.laws.Laws.{tree_work, tree_besides, unit_words, kept_words}
-use Rattle.tg_correct.specs.laws.Laws.{most_work, most_besides}
-use Rattle.tg_correct.specs.Images.{AreSizes, DoesWhatIsMeant}
+use Rattle.tg_correctness.specs.laws.Laws.{tree_work, tree_besides, unit_words, kept_words}
+use Rattle.tg_correctness.specs.laws.Laws.{most_work, most_besides}
+use Rattle.tg_correctness.specs.Images.{AreSizes, DoesWhatIsMeant}
 use Rattle.tg_compile_proof.specs.Forms.{Compilation, IsCompiled, instructions, registers}
 use Rattle.tg_compile_proof.specs.Forms.{frames, tree_form, flat_form, instruction_form}
 use Rattle.tg_compile_proof.specs.Forms.{register_form, machine_form}

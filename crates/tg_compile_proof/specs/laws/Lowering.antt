@@ -8,15 +8,15 @@ use Rattle.tg_tree.specs.Tree.{Ts, Function, Literal, Code}
 use Rattle.tg_tree.specs.Units.{Trees}
 use Rattle.tg_tree.specs.Named.{constant, named_ts}
 use Rattle.tg_tree.specs.Running.{tree_run}
-use Rattle.tg_flatten_proof.specs.Flattened.{flattened, flattened_code, MayBeFlattened}
-use Rattle.tg_flatten_proof.specs.laws.Laws as flattening
+use Rattle.tg_canon_trace_proof.specs.Flattened.{flattened, flattened_code, MayBeFlattened}
+use Rattle.tg_canon_trace_proof.specs.laws.Laws as flattening
 use Rattle.tg_instr.specs.declared.instr.Instr.{Instr}
 use Rattle.tg_instr.specs.Lengths.{most_words}
 use Rattle.tg_instr.specs.Running.{everywhere, code_run}
 use Rattle.tg_munch_proof.specs.Words.{IsWord}
 use Rattle.tg_munch_proof.specs.laws.Chosen as choosing
 use Rattle.tg_munch_proof.specs.glue.Places.{each_one}
-use Rattle.tg_correct.specs.laws.Laws.{unit_words, kept_words}
+use Rattle.tg_correctness.specs.laws.Laws.{unit_words, kept_words}
 use Rattle.tg_munch_proof.specs.laws.Chosen.{chosen_code, MayBeChosen}
 use Rattle.tg_munch_proof.specs.laws.Chosen.{HasRoom}
 

@@ -1,6 +1,6 @@
 -- What is built of a source does what the source means, and what the ends of its runs say.
 use Rattle.std.specs.Prelude.{ℕ, ◌≡◌, ◌<◌, ◌^◌, List}
-use Rattle.tg_state.specs.declared.ends.RunEnd.{RunEnd}
+use Rattle.tg_machine_state.specs.declared.ends.RunEnd.{RunEnd}
 use Rattle.tg_syntax.specs.declared.tokens.Spanned.{Spanned}
 use Rattle.tg_syntax.specs.Tree.{Exp}
 use Rattle.tg_simulation.specs.Bytes.{AreBytes}
@@ -8,13 +8,13 @@ use Rattle.tg_simulation.specs.Outcomes.{ended}
 use Rattle.tg_semantics.specs.Values.{by_exit}
 use Rattle.tg_semantics.specs.Direct.{evaluate}
 use Rattle.tg_isa.specs.Runs.{Execution, Running, Ended}
-use Rattle.tg_irc.specs.Policies.{Rule as SpillRule}
-use Rattle.tg_state.specs.declared.ends.RunEnd.TheVariants.{StepLimit}
-use Rattle.tg_correct.specs.Images.{AreSizes, runs_to}
+use Rattle.tg_irc_definition.specs.Policies.{Rule as SpillRule}
+use Rattle.tg_machine_state.specs.declared.ends.RunEnd.TheVariants.{StepLimit}
+use Rattle.tg_correctness.specs.Images.{AreSizes, runs_to}
 use Rattle.tg_compile_proof.specs.Builds.{Builds}
-use Rattle.tg_correct.specs.Ends.{EndIsMeant}
-use Rattle.tg_correct.specs.Assemblies.{IsAsMeant}
-use Rattle.tg_correct.specs.Sources.{IsSourceOf}
+use Rattle.tg_correctness.specs.Ends.{EndIsMeant}
+use Rattle.tg_correctness.specs.Assemblies.{IsAsMeant}
+use Rattle.tg_correctness.specs.Sources.{IsSourceOf}
 
 -- The headline: whatever the policy, an assembly text that a source is built to has an image that
 -- does what the source means.

@@ -1,8 +1,9 @@
 -- Ends whose line names no number.
 use Rattle.std.specs.Prelude.{ℕ, ◌≤◌}
-use Rattle.tg_state.specs.declared.ends.RunEnd.{RunEnd}
-use Rattle.tg_state.specs.declared.ends.RunEnd.TheVariants.{Break, BadAddress, Unaligned, BadWord}
-use Rattle.tg_state.specs.declared.ends.RunEnd.TheVariants.{BadService}
+use Rattle.tg_machine_state.specs.declared.ends.RunEnd.{RunEnd}
+use Rattle.tg_machine_state.specs.declared.ends.RunEnd.TheVariants.{Break, BadAddress, Unaligned}
+use Rattle.tg_machine_state.specs.declared.ends.RunEnd.TheVariants.{BadWord}
+use Rattle.tg_machine_state.specs.declared.ends.RunEnd.TheVariants.{BadService}
 
 -- the code of a `break` that a compiled program tests for
 abbrev pub IsOwnBreak : (code : ℕ) → Type 0

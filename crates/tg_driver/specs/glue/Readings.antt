@@ -8,16 +8,16 @@ use Rattle.tg_syntax.specs.declared.trees.Program.{Program}
 use Rattle.tg_syntax.specs.glue.Plain.{plain}
 use Rattle.tg_syntax.specs.LexicalFaults.{HasLexicalFault}
 use Rattle.tg_syntax.specs.Tree.{Exp}
-use Rattle.tg_irc.specs.Policies.{Rule as SpillRule}
+use Rattle.tg_irc_definition.specs.Policies.{Rule as SpillRule}
 use Rattle.tg_parser.specs.Answers.{HasSyntaxFault}
 use Rattle.tg_parser.specs.declared.faults.SyntaxRule.{SyntaxRule}
-use Rattle.tg_types.specs.declared.faults.TypeRule.{TypeRule}
-use Rattle.tg_types.specs.Accepted.{finding, at_fault}
+use Rattle.tg_typecheck.specs.declared.faults.TypeRule.{TypeRule}
+use Rattle.tg_typecheck.specs.Accepted.{finding, at_fault}
 use Rattle.tg_driver.specs.declared.reading.NamedProgram.{NamedProgram}
 use Rattle.tg_driver.specs.declared.reading.NamedTokens.{NamedTokens}
 use Rattle.tg_driver.specs.declared.faults.Rule.{Rule}
 use Rattle.tg_compile.specs.declared.compiled.Compiled.{Compiled}
-use Rattle.tg_correct.specs.Sources.{HasTokens, HasTree}
+use Rattle.tg_correctness.specs.Sources.{HasTokens, HasTree}
 use Rattle.tg_driver.specs.Faults.{HasFault, IsUntyped}
 use Rattle.tg_compile_proof.specs.Builds.{CompilesTo}
 

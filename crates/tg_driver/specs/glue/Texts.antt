@@ -1,8 +1,8 @@
 -- Which text of a source a mode writes to the output.
 use Rattle.std.specs.Prelude.{List, ℕ}
-use Rattle.tg_irc.specs.Policies.{Rule as SpillRule}
+use Rattle.tg_irc_definition.specs.Policies.{Rule as SpillRule}
 use Rattle.tg_regalloc.specs.declared.allocations.Allocation.{Allocation}
-use Rattle.tg_regalloc_listing.specs.Listing.{listed}
+use Rattle.tg_regalloc_report.specs.Listing.{listed}
 use Rattle.tg_driver.specs.declared.writing.Wanted.{Wanted}
 use Rattle.tg_driver.specs.declared.writing.Wanted.TheVariants.{Assembly, Allocations}
 use Rattle.tg_compile_proof.specs.Builds.{Builds}

@@ -1,11 +1,11 @@
 -- What the answers to a call amount to.
 use Rattle.std.specs.Prelude.{ℕ, ◌≡◌, ◌≢◌, List, [], ◌++◌, Option, Some}
 use Rattle.std.specs.Io.KnownBytes.{Appends}
-use Rattle.tg_state.specs.declared.ends.RunEnd.{RunEnd}
-use Rattle.tg_state.specs.declared.ends.RunEnd.TheVariants.{ReadFault, WriteFault}
+use Rattle.tg_machine_state.specs.declared.ends.RunEnd.{RunEnd}
+use Rattle.tg_machine_state.specs.declared.ends.RunEnd.TheVariants.{ReadFault, WriteFault}
 use Rattle.tg_isa.specs.declared.images.Image.{Image}
-use Rattle.tg_watch.specs.Watching.{Report}
-use Rattle.tg_generate.specs.Generated.{generated}
+use Rattle.tg_profiler.specs.Watching.{Report}
+use Rattle.tg_program_generator.specs.Generated.{generated}
 use Rattle.tg_command.specs.declared.modes.Mode.{Mode}
 use Rattle.tg_command.specs.declared.modes.Mode.TheVariants.{Check, Build, Run, Exec, Alloc, Gen}
 use Rattle.tg_command.specs.declared.modes.Mode.TheVariants.{Format}
@@ -13,7 +13,7 @@ use Rattle.tg_command.specs.Commands.{Asked, Ask}
 use Rattle.tg_driver.specs.declared.answers.Answer.{Answer}
 use Rattle.tg_driver.specs.declared.answers.Answer.TheVariants.{Faulty, Written, Finished}
 use Rattle.tg_driver.specs.Calls.{HasFailed, Shelved, IsUnread, Call}
-use Rattle.tg_correct.specs.Sources.{IsSource}
+use Rattle.tg_correctness.specs.Sources.{IsSource}
 use Rattle.tg_driver.specs.Faults.{IsFaultOf}
 use Rattle.tg_driver.specs.MeantRuns.{EndsAsMeant}
 use Rattle.tg_driver.specs.Runs.{RunRelation, end_in, outcome_on}

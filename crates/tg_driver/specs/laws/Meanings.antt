@@ -4,7 +4,7 @@ use Rattle.tg_syntax.specs.declared.tokens.Spanned.{Spanned}
 use Rattle.tg_syntax.specs.Tree.{Exp}
 use Rattle.tg_simulation.specs.Outcomes.{stuck}
 use Rattle.tg_semantics.specs.Direct.{evaluate}
-use Rattle.tg_correct.specs.Sources.{IsSourceOf}
+use Rattle.tg_correctness.specs.Sources.{IsSourceOf}
 
 -- whatever its input, its sizes and its fuel, a text that is a program meets no value of the wrong
 -- kind and no name without meaning

@@ -1,13 +1,13 @@
 -- What `build`, `run` and `gen` do by the meaning of their source, where no count of faults rose.
 use Rattle.std.specs.Prelude.{ℕ, List, []}
 use Rattle.std.specs.Io.KnownBytes.{Appends}
-use Rattle.tg_state.specs.declared.ends.RunEnd.{RunEnd}
+use Rattle.tg_machine_state.specs.declared.ends.RunEnd.{RunEnd}
 use Rattle.tg_base.specs.InMemory.{PlainBytes}
-use Rattle.tg_generate.specs.Generated.{generated}
+use Rattle.tg_program_generator.specs.Generated.{generated}
 use Rattle.tg_command.specs.declared.modes.Mode.{Mode}
 use Rattle.tg_command.specs.declared.modes.Mode.TheVariants.{Build, Run, Gen}
 use Rattle.tg_command.specs.Commands.{Asked}
-use Rattle.tg_correct.specs.Assemblies.{IsAsMeant}
+use Rattle.tg_correctness.specs.Assemblies.{IsAsMeant}
 use Rattle.tg_driver.specs.declared.answers.Answer.{Answer}
 use Rattle.tg_driver.specs.declared.answers.Answer.TheVariants.{Faulty, Written, Finished}
 use Rattle.tg_driver.specs.Calls.{Stream, Streams, Call}

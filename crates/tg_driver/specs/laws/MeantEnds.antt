@@ -1,8 +1,8 @@
 -- What the end of a run says of the meaning of its source, in `run` and in `gen`.
 use Rattle.std.specs.Prelude.{ℕ, ◌≡◌, ◌≢◌, ◌%◌, List, [], ◌++◌}
 use Rattle.std.specs.Io.KnownBytes.{Appends, Consumes}
-use Rattle.tg_state.specs.declared.ends.RunEnd.{RunEnd}
-use Rattle.tg_state.specs.declared.ends.RunEnd.TheVariants.{ReadFault, WriteFault}
+use Rattle.tg_machine_state.specs.declared.ends.RunEnd.{RunEnd}
+use Rattle.tg_machine_state.specs.declared.ends.RunEnd.TheVariants.{ReadFault, WriteFault}
 use Rattle.tg_base.specs.InMemory.{PlainBytes}
 use Rattle.tg_syntax.specs.declared.tokens.Spanned.{Spanned}
 use Rattle.tg_syntax.specs.Tree.{Exp}
@@ -13,9 +13,9 @@ use Rattle.tg_semantics.specs.Values.{by_substring, by_size, by_heap, by_overflo
 use Rattle.tg_semantics.specs.MachineEnds.{machine_end}
 use Rattle.tg_semantics.specs.Direct.{evaluate}
 use Rattle.tg_isa.specs.Runs.{Execution, answers}
-use Rattle.tg_correct.specs.Images.{AreSizes}
-use Rattle.tg_correct.specs.Sources.{IsSourceOf}
-use Rattle.tg_correct.specs.Ends.{EndIsMeant}
+use Rattle.tg_correctness.specs.Images.{AreSizes}
+use Rattle.tg_correctness.specs.Sources.{IsSourceOf}
+use Rattle.tg_correctness.specs.Ends.{EndIsMeant}
 use Rattle.tg_driver.specs.declared.answers.Answer.{Answer}
 use Rattle.tg_driver.specs.Calls.{Stream, stream_of, Streams, streams_of}
 use Rattle.tg_driver.specs.Endings.{end_status}

@@ -1,22 +1,22 @@
 -- What a call leaves, whatever it is given: any words, any bytes, streams that fail at any call.
 use Rattle.std.specs.Prelude.{ℕ, ◌≡◌, ◌≤◌, ◌⊎◌, List, [], ◌++◌, length, Option, Some, Ok}
-use Rattle.tg_state.specs.declared.ends.RunEnd.{RunEnd}
-use Rattle.tg_state.specs.declared.ends.RunEnd.TheVariants.{Exit, ReadFault, WriteFault}
+use Rattle.tg_machine_state.specs.declared.ends.RunEnd.{RunEnd}
+use Rattle.tg_machine_state.specs.declared.ends.RunEnd.TheVariants.{Exit, ReadFault, WriteFault}
 use Rattle.tg_base.specs.Files.{IsFilePrefix}
-use Rattle.tg_state.specs.State.{initial_machine}
+use Rattle.tg_machine_state.specs.State.{initial_machine}
 use Rattle.tg_base.specs.Writes.{TakesPrefix}
 use Rattle.tg_isa.specs.declared.images.Image.{Image}
 use Rattle.tg_asm_text.specs.Assembly.{assembled}
 use Rattle.tg_isa.specs.Runs.{run}
 use Rattle.tg_asm.specs.Images.{image_of}
 use Rattle.tg_machine.specs.Ran.{begun_on}
-use Rattle.tg_irc.specs.Policies.{Rule as SpillRule}
-use Rattle.tg_generate.specs.Generated.{generated}
+use Rattle.tg_irc_definition.specs.Policies.{Rule as SpillRule}
+use Rattle.tg_program_generator.specs.Generated.{generated}
 use Rattle.tg_command.specs.declared.modes.Mode.{Mode}
 use Rattle.tg_command.specs.declared.modes.Mode.TheVariants.{Check, Build, Run, Exec, Alloc, Gen}
 use Rattle.tg_command.specs.declared.modes.Mode.TheVariants.{Format}
 use Rattle.tg_command.specs.Commands.{Asked, Ask}
-use Rattle.tg_correct.specs.Assemblies.{IsAsMeant}
+use Rattle.tg_correctness.specs.Assemblies.{IsAsMeant}
 use Rattle.tg_driver.specs.declared.answers.Answer.{Answer}
 use Rattle.tg_driver.specs.declared.answers.Answer.TheVariants.{Unreadable, Unwritten, Finished}
 use Rattle.tg_driver.specs.Calls.{Stays, HasFailed, Streams, Untouched, IsUnread, Call}

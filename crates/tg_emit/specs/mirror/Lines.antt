@@ -1,7 +1,7 @@
 -- The lines that stand for the functions and the literals of a program.
 use Rattle.std.specs.Prelude.{ℕ, ◌+◌, ◌-◌, ◌*◌, ◌/◌, ◌%◌, List, [], ◌∷◌, ◌++◌, Bool, true, false}
 use Rattle.std.specs.Prelude.{Option, Some, None, max, nat_lt, nat_le, if◌then◌else◌}
-use Rattle.tg_state.specs.State.{padded}
+use Rattle.tg_machine_state.specs.State.{padded}
 use Rattle.tg_isa.specs.declared.mips.Mips.{Mips}
 use Rattle.tg_isa.specs.declared.mips.Mips.TheVariants.{Addiu, Addu, Subu, Lui, Ori, Lw, Sw, Jr}
 use Rattle.tg_isa.specs.declared.mips.Mips.TheVariants.{Break, J, Jal}

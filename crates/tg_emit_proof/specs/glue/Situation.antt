@@ -3,7 +3,7 @@
 use Rattle.std.specs.Prelude.{ℕ, ◌+◌, ◌*◌, ◌%◌, ◌^◌, ◌≡◌, ◌<◌, ◌≤◌, List, ◌∷◌, ◌++◌, Some}
 use Rattle.std.specs.Prelude.{All, IsTrue}
 use Rattle.std.specs.List.{Contains, list_all}
-use Rattle.tg_state.specs.State.{MachineState, statics_base, most_room}
+use Rattle.tg_machine_state.specs.State.{MachineState, statics_base, most_room}
 use Rattle.tg_simulation.specs.Runs.{Run}
 use Rattle.tg_simulation.specs.Ran.{Ran}
 use Rattle.tg_simulation.specs.laws.Simulating.{Simulates}

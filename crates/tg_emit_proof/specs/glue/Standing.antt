@@ -3,7 +3,8 @@
 use Rattle.std.specs.Prelude.{ℕ, ◌+◌, ◌-◌, ◌*◌, ◌%◌, ◌^◌, ◌≡◌, ◌<◌, ◌≤◌, List, ◌∷◌, ◌++◌}
 use Rattle.std.specs.Prelude.{length, All, Some, IsTrue}
 use Rattle.std.specs.List.{Contains, AllByRecursion}
-use Rattle.tg_state.specs.State.{MachineState, register, floor, stack_top, most_bytes, word_at}
+use Rattle.tg_machine_state.specs.State.{MachineState, register, floor, stack_top, most_bytes}
+use Rattle.tg_machine_state.specs.State.{word_at}
 use Rattle.tg_simulation.specs.Bytes.{AreBytes}
 use Rattle.tg_simulation.specs.laws.Simulating.{Simulates}
 use Rattle.tg_isa.specs.declared.mips.Mips.TheVariants.{Lw, Jal}

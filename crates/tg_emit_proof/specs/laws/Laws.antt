@@ -2,7 +2,7 @@
 -- words after the calls there, and these are such as a run of lines asks for.
 use Rattle.std.specs.Prelude.{ℕ, ◌+◌, ◌*◌, ◌^◌, ◌==◌, ◌≡◌, ◌≢◌, ◌<◌, List, [], ◌∷◌, ◌++◌, map}
 use Rattle.std.specs.Prelude.{codes, All, if◌then◌else◌}
-use Rattle.tg_state.specs.State.{code_base, most_words, initial_machine}
+use Rattle.tg_machine_state.specs.State.{code_base, most_words, initial_machine}
 use Rattle.tg_simulation.specs.Ran.{Wrong}
 use Rattle.tg_isa.specs.declared.mips.Mips.TheVariants.{Jal}
 use Rattle.tg_asm_text.specs.declared.keywords.Segment.TheVariants.{Code}

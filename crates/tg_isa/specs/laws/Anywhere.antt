@@ -1,7 +1,7 @@
 -- A machine's state in other code and at another place of it, and the rows that do the same there.
 use Rattle.std.specs.Prelude.{ℕ, ◌≡◌, List}
-use Rattle.tg_state.specs.State.{MachineState}
-use Rattle.tg_state.specs.Services.{Step, Goes, Ends, Reads, Writes}
+use Rattle.tg_machine_state.specs.State.{MachineState}
+use Rattle.tg_machine_state.specs.Services.{Step, Goes, Ends, Reads, Writes}
 use Rattle.tg_isa.specs.declared.mips.Mips.{Mips}
 use Rattle.tg_isa.specs.declared.mips.Mips.TheVariants.{J, Jal, Jr, Jalr, Beq, Bne, Blez, Bgtz}
 use Rattle.tg_isa.specs.declared.mips.Mips.TheVariants.{Bltz, Bgez}

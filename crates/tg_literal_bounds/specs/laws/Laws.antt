@@ -1,7 +1,7 @@
 -- Laws of the strings of a text, and of the literals that its program is translated to.
 use Rattle.std.specs.Prelude.{ℕ, ◌≡◌, ◌≤◌, ◌+◌, ◌*◌, List, length}
 use Rattle.std.specs.List.{sum_by}
-use Rattle.tg_state.specs.State.{most_bytes, padded}
+use Rattle.tg_machine_state.specs.State.{most_bytes, padded}
 use Rattle.tg_syntax.specs.declared.tokens.Spanned.{Spanned}
 use Rattle.tg_syntax.specs.Tree.{Exp}
 use Rattle.tg_syntax.specs.Lexing.{Lexes}

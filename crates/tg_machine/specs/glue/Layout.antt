@@ -1,6 +1,6 @@
 -- What the fields of a core keep.
 use Rattle.std.specs.Prelude.{◌%◌, ◌≤◌, ◌≡◌, length, vec_capacity, map}
-use Rattle.tg_state.specs.State.{MachineState, most_words, most_bytes, most_room}
+use Rattle.tg_machine_state.specs.State.{MachineState, most_words, most_bytes, most_room}
 use Rattle.tg_machine.specs.declared.cores.Core.TheInside.{Inside}
 use Rattle.tg_machine.specs.mirror.Rows.{row_of}
 

@@ -2,12 +2,13 @@
 use Rattle.std.specs.Prelude.{ℕ, ◌≡◌, ◌≤◌, ◌<◌, ◌+◌, List, [], ◌∷◌, length, slice_index, Option}
 use Rattle.std.specs.Prelude.{Some, None, Result, Ok, Err, Bool, true, false}
 use Rattle.std.specs.Io.KnownBytes.{Appends, Consumes, Keeps}
-use Rattle.tg_state.specs.declared.ends.RunEnd.{RunEnd}
-use Rattle.tg_state.specs.declared.ends.RunEnd.TheVariants.{StepLimit, ReadFault, WriteFault}
+use Rattle.tg_machine_state.specs.declared.ends.RunEnd.{RunEnd}
+use Rattle.tg_machine_state.specs.declared.ends.RunEnd.TheVariants.{StepLimit, ReadFault}
+use Rattle.tg_machine_state.specs.declared.ends.RunEnd.TheVariants.{WriteFault}
 use Rattle.tg_base.specs.Causes.{Rose}
 use Rattle.tg_base.specs.Writes.{TakesAll, TakesPrefix}
-use Rattle.tg_state.specs.State.{MachineState, go, load_byte, stack_top}
-use Rattle.tg_state.specs.Services.{Step, Goes, Ends, Reads, Writes, answered, text_at}
+use Rattle.tg_machine_state.specs.State.{MachineState, go, load_byte, stack_top}
+use Rattle.tg_machine_state.specs.Services.{Step, Goes, Ends, Reads, Writes, answered, text_at}
 use Rattle.tg_machine.specs.Ran.{MeetsEnd, saturating_sum}
 
 -- an end that the machine comes to itself, with no limit of steps and no fault of a source or a

@@ -1,8 +1,8 @@
 -- How far a machine comes by itself: until a service is due, until the run ends, or as many steps
 -- as it may make.
 use Rattle.std.specs.Prelude.{ℕ, zero, suc, ◌≡◌, ◌<◌}
-use Rattle.tg_state.specs.Services.{Goes, Ends, service}
-use Rattle.tg_state.specs.State.{MachineState}
+use Rattle.tg_machine_state.specs.Services.{Goes, Ends, service}
+use Rattle.tg_machine_state.specs.State.{MachineState}
 use Rattle.tg_isa.specs.Effects.{step}
 use Rattle.tg_machine.specs.declared.pauses.Pause.{Pause}
 use Rattle.tg_machine.specs.declared.pauses.Pause.TheVariants.{Due, Ended, Made}

@@ -1,7 +1,7 @@
 -- The laws of calls of the machine.
 use Rattle.std.specs.Prelude.{ℕ, ◌≡◌, ◌≢◌, ◌+◌, ◌++◌, List, Option, None, IfSome}
-use Rattle.tg_state.specs.declared.ends.RunEnd.{RunEnd}
-use Rattle.tg_state.specs.declared.ends.RunEnd.TheVariants.{StepLimit}
+use Rattle.tg_machine_state.specs.declared.ends.RunEnd.{RunEnd}
+use Rattle.tg_machine_state.specs.declared.ends.RunEnd.TheVariants.{StepLimit}
 use Rattle.tg_machine.specs.declared.fetches.Seen.{Seen}
 use Rattle.tg_machine.specs.declared.status.Status.{Status}
 use Rattle.tg_machine.specs.declared.status.Status.TheVariants.{Ended}

@@ -1,11 +1,12 @@
 -- A word of code as the machine executes it, and what it does.
 use Rattle.std.specs.Prelude.{ℕ, ◌+◌, ◌*◌, ◌/◌, ◌%◌, ◌^◌, Bool, if◌then◌else◌, ◌==◌, nat_lt, Option}
 use Rattle.std.specs.Prelude.{Some, None, List, length, slice_index}
-use Rattle.tg_state.specs.declared.ends.RunEnd.TheVariants.{BadWord}
+use Rattle.tg_machine_state.specs.declared.ends.RunEnd.TheVariants.{BadWord}
 use Rattle.tg_base.specs.Words.{add, less, exact_sum, extended, flag}
-use Rattle.tg_state.specs.State.{MachineState, register, set_register, go, load_byte, load_word}
-use Rattle.tg_state.specs.State.{store_byte, store_word, offset, code_base}
-use Rattle.tg_state.specs.Services.{Step, Goes, Ends}
+use Rattle.tg_machine_state.specs.State.{MachineState, register, set_register, go, load_byte}
+use Rattle.tg_machine_state.specs.State.{load_word}
+use Rattle.tg_machine_state.specs.State.{store_byte, store_word, offset, code_base}
+use Rattle.tg_machine_state.specs.Services.{Step, Goes, Ends}
 use Rattle.tg_isa.specs.declared.mips.Mips.{Mips}
 use Rattle.tg_isa.specs.declared.mips.Mips.TheVariants as mips
 use Rattle.tg_isa.specs.Effects.{effect, extended_load, put, put_exact, stored}

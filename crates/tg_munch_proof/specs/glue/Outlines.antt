@@ -1,6 +1,6 @@
 -- How the stack is seen by flat code and by its instructions, and when their worlds are alike.
 use Rattle.std.specs.Prelude.{ℕ, ◌+◌, ◌-◌, ◌*◌, ◌%◌, ◌≡◌, ◌≢◌, ◌≤◌, ◌<◌, Bool, true, length}
-use Rattle.tg_state.specs.State.{stack_top}
+use Rattle.tg_machine_state.specs.State.{stack_top}
 use Rattle.tg_tree.specs.Memory.{Closed}
 use Rattle.tg_tree.specs.Actions.{World}
 use Rattle.tg_tree.specs.Holding.{WorldHoldsAtLeast}

@@ -2,7 +2,7 @@
 -- body.
 use Rattle.std.specs.Prelude.{ℕ, ◌+◌, ◌-◌, ◌*◌, ◌%◌, ◌==◌, ◌&&◌, ◌||◌, not, ◌≡◌, ◌≤◌, ◌<◌, List, []}
 use Rattle.std.specs.Prelude.{◌∷◌, length, Bool, true, Option, Some, nat_lt, nat_le}
-use Rattle.tg_state.specs.State.{stack_top}
+use Rattle.tg_machine_state.specs.State.{stack_top}
 use Rattle.tg_base.specs.declared.ids.Temp.{Temp}
 use Rattle.tg_frame.specs.declared.accesses.Access.{Access}
 use Rattle.tg_frame.specs.declared.accesses.Access.TheVariants.{InTemp, InFrame}

@@ -1,7 +1,7 @@
 -- A code of instructions, chosen function by function for flat code, and what is asked of that.
 use Rattle.std.specs.Prelude.{ℕ, ◌+◌, ◌*◌, ◌≤◌, List, [], length, map}
 use Rattle.std.specs.List.{Contains}
-use Rattle.tg_state.specs.State.{statics_base, heap_base, stack_top}
+use Rattle.tg_machine_state.specs.State.{statics_base, heap_base, stack_top}
 use Rattle.tg_frame.specs.Homes.{slot_bound, temp_bound}
 use Rattle.tg_simulation.specs.Preserving.{Preserves}
 use Rattle.tg_tree.specs.Tree.{Linear, Function, Literal, Code}
@@ -16,7 +16,7 @@ use Rattle.tg_instr.specs.Running.{Units, everywhere, code_run}
 use Rattle.tg_munch.specs.laws.Lengths.{kept_count}
 use Rattle.tg_munch.specs.mirror.Bodies.{munched, outs}
 use Rattle.tg_simulation.specs.Bytes.{AreBytes}
-use Rattle.tg_correct.specs.laws.Laws.{unit_words, kept_words}
+use Rattle.tg_correctness.specs.laws.Laws.{unit_words, kept_words}
 use Rattle.tg_munch_proof.specs.Words.{IsWord}
 use Rattle.tg_munch_proof.specs.glue.Places.{each_one}
 

@@ -10,17 +10,17 @@ use Rattle.tg_instr.specs.declared.instr.Instr.TheVariants.{FrameLoad, FrameStor
 use Rattle.tg_instr.specs.declared.codes.Code.{Code}
 use Rattle.tg_instr.specs.Renaming.{renamed}
 use Rattle.tg_graph.specs.Interference.{Interference}
-use Rattle.tg_irc.specs.declared.moves.Move.{Move}
-use Rattle.tg_irc.specs.declared.moves.MoveState.TheVariants.{Constrained}
-use Rattle.tg_irc.specs.declared.rounds.Round.{Round}
-use Rattle.tg_irc.specs.Graphs.{IsGreedilyColourable}
-use Rattle.tg_irc.specs.Policies.{Rule}
-use Rattle.tg_irc.specs.States.{Problem, problem, start}
-use Rattle.tg_irc.specs.laws.Laws.{SpillsNothing, IsFrozenAtLast}
+use Rattle.tg_irc_definition.specs.declared.moves.Move.{Move}
+use Rattle.tg_irc_definition.specs.declared.moves.MoveState.TheVariants.{Constrained}
+use Rattle.tg_irc_definition.specs.declared.rounds.Round.{Round}
+use Rattle.tg_irc_definition.specs.Graphs.{IsGreedilyColourable}
+use Rattle.tg_irc_definition.specs.Policies.{Rule}
+use Rattle.tg_irc_definition.specs.States.{Problem, problem, start}
+use Rattle.tg_irc_definition.specs.laws.Laws.{SpillsNothing, IsFrozenAtLast}
 use Rattle.tg_interference.specs.Pairs.{IsInterference}
 use Rattle.tg_interference.specs.Moves.{moves_of}
 use Rattle.tg_interference.specs.Facts.{facts_of_nodes}
-use Rattle.tg_coalesce.specs.glue.Standing.{graph_of}
+use Rattle.tg_coalescing_round.specs.glue.Standing.{graph_of}
 use Rattle.tg_regalloc.specs.declared.allocations.Allocation.{Allocation}
 use Rattle.tg_regalloc.specs.Rounds.{BetweenRounds, last_round}
 use Rattle.tg_regalloc.specs.Allocations.{IsAllocation}

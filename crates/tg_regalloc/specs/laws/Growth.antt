@@ -8,9 +8,9 @@ use Rattle.tg_instr.specs.declared.instr.Instr.{Instr}
 use Rattle.tg_instr.specs.declared.instr.Instr.TheVariants.{Call}
 use Rattle.tg_instr.specs.declared.codes.Code.{Code}
 use Rattle.tg_instr.specs.Lengths.{words_of, words, most_words}
-use Rattle.tg_irc.specs.declared.rounds.Round.{Round}
-use Rattle.tg_irc.specs.Policies.{Rule}
-use Rattle.tg_irc.specs.laws.Classes.{class_of}
+use Rattle.tg_irc_definition.specs.declared.rounds.Round.{Round}
+use Rattle.tg_irc_definition.specs.Policies.{Rule}
+use Rattle.tg_irc_definition.specs.laws.Classes.{class_of}
 use Rattle.tg_regalloc.specs.declared.allocations.Allocation.{Allocation}
 use Rattle.tg_regalloc.specs.mirror.InFrame.{instruction_in_frame}
 use Rattle.tg_regalloc.specs.Painting.{colour_of, code_painted}

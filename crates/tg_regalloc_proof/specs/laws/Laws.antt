@@ -11,7 +11,7 @@ use Rattle.tg_instr.specs.declared.codes.Code.{Code}
 use Rattle.tg_instr.specs.Codes.{names_registers}
 use Rattle.tg_instr.specs.Lengths.{most_words}
 use Rattle.tg_instr.specs.Running.{everywhere, code_run}
-use Rattle.tg_irc.specs.Policies.{Rule}
+use Rattle.tg_irc_definition.specs.Policies.{Rule}
 use Rattle.tg_regalloc_proof.specs.Keeping.{AreHeld, Keeps, Surroundings, program}
 use Rattle.tg_regalloc.specs.declared.allocations.Allocation.{Allocation}
 use Rattle.tg_regalloc.specs.Allocations.{IsAllocation, codes_of}

@@ -4,9 +4,9 @@ use Rattle.std.specs.Prelude.{ℕ, ◌+◌, ◌*◌, ◌^◌, ◌≡◌, ◌≤�
 use Rattle.std.specs.Prelude.{take, drop, replicate, Bool, true, false, if◌then◌else◌}
 use Rattle.std.specs.Prelude.{nat_lt, ◌||◌}
 use Rattle.std.specs.Str.{bytes_eq}
-use Rattle.tg_state.specs.declared.ends.RunEnd.TheVariants.{Exit, Break, HeapFull}
+use Rattle.tg_machine_state.specs.declared.ends.RunEnd.TheVariants.{Exit, Break, HeapFull}
 use Rattle.tg_base.specs.Words.{is_negative, signed}
-use Rattle.tg_state.specs.State.{heap_base}
+use Rattle.tg_machine_state.specs.State.{heap_base}
 use Rattle.tg_simulation.specs.Runs.{Run}
 use Rattle.tg_simulation.specs.Ran.{Ran, Ended}
 use Rattle.tg_simulation.specs.Bytes.{AreBytes}

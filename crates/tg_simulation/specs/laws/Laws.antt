@@ -1,6 +1,6 @@
 -- The laws of passes and of agreement, and how the steps of code follow those of a program.
 use Rattle.std.specs.Prelude.{ℕ, ◌+◌, ◌*◌, ◌≡◌, ◌≢◌, ◌≤◌, ◌<◌, List, [], Bool, true}
-use Rattle.tg_state.specs.declared.ends.RunEnd.TheVariants.{StackFull}
+use Rattle.tg_machine_state.specs.declared.ends.RunEnd.TheVariants.{StackFull}
 use Rattle.tg_simulation.specs.Runs.{Run, turn}
 use Rattle.tg_simulation.specs.Ran.{Ran, Ended, WantsFuel, stops, writes, works, StaysOver}
 use Rattle.tg_simulation.specs.Preserving.{Preserves}

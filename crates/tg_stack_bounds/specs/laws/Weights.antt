@@ -6,13 +6,13 @@ use Rattle.std.specs.Ordering.{nat_cmp}
 use Rattle.std.specs.FinSet.{FinSet}
 use Rattle.tg_syntax.specs.Functions.{Measures, program_functions}
 use Rattle.tg_semantics.specs.Levels.{activation}
-use Rattle.tg_types.specs.Programs.{CheckedProgram, IsAccepted}
+use Rattle.tg_typecheck.specs.Programs.{CheckedProgram, IsAccepted}
 use Rattle.tg_tree.specs.Tree.{Ts, Function}
 use Rattle.tg_tree.specs.Sizes.{tree_length, tree_needs}
 use Rattle.tg_translate.specs.mirror.Translate.{translated}
 use Rattle.tg_translate_laws.specs.laws.Laws.{findings_in}
-use Rattle.tg_flatten_proof.specs.Flattened.{MayBeFlattened}
-use Rattle.tg_irc.specs.Policies.{Rule}
+use Rattle.tg_canon_trace_proof.specs.Flattened.{MayBeFlattened}
+use Rattle.tg_irc_definition.specs.Policies.{Rule}
 use Rattle.tg_regalloc.specs.declared.allocations.Allocation.{Allocation}
 use Rattle.tg_emit.specs.mirror.Lines.{size_of}
 use Rattle.tg_code_bounds.specs.Allocating.{IsAllocationOf}

@@ -6,13 +6,13 @@ use Rattle.tg_runtime.specs.declared.routines.Routine.{Routine}
 use Rattle.tg_runtime.specs.declared.routines.Routine.TheVariants as routine
 use Rattle.tg_semantics.specs.declared.standards.Standard.{Standard}
 use Rattle.tg_semantics.specs.declared.standards.Standard.TheVariants as standard
-use Rattle.tg_types.specs.declared.notes.Means.{Means}
-use Rattle.tg_types.specs.declared.notes.Means.TheVariants as means
+use Rattle.tg_typecheck.specs.declared.notes.Means.{Means}
+use Rattle.tg_typecheck.specs.declared.notes.Means.TheVariants as means
 use Rattle.tg_tree.specs.Tree.{Tx, Const, Address, Call, Txs, tx, no_stms}
 use Rattle.std.specs.Ordering.{nat_cmp}
 use Rattle.std.specs.FinSet.{FinSet, contains}
-use Rattle.tg_types.specs.declared.notes.Note.{Note}
-use Rattle.tg_types.specs.Answered.{meaning_at}
+use Rattle.tg_typecheck.specs.declared.notes.Note.{Note}
+use Rattle.tg_typecheck.specs.Answered.{meaning_at}
 use Rattle.tg_tree.specs.Memory.{string_text}
 use Rattle.tg_translate.specs.declared.findings.Findings.{Findings as CodeFindings}
 use Rattle.tg_translate.specs.declared.homes.Home.{Home}

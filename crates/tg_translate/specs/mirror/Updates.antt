@@ -6,8 +6,8 @@ use Rattle.std.specs.Prelude.{ℕ, ◌==◌, ◌&&◌, Bool, true, false, Option
 use Rattle.tg_syntax.specs.declared.trees.Op.{Op}
 use Rattle.tg_syntax.specs.declared.trees.Op.TheVariants.{Plus, Minus}
 use Rattle.tg_syntax.specs.Tree.{Exp, Int, Read, Binary, LValue, Simple, Field, Index}
-use Rattle.tg_types.specs.declared.notes.Means.{Means}
-use Rattle.tg_types.specs.declared.notes.Means.TheVariants as means
+use Rattle.tg_typecheck.specs.declared.notes.Means.{Means}
+use Rattle.tg_typecheck.specs.declared.notes.Means.TheVariants as means
 use Rattle.tg_translate.specs.mirror.Scopes.{field_number}
 use Rattle.tg_translate.specs.mirror.Functions.{at_of}
 

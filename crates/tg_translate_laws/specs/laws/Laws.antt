@@ -9,7 +9,7 @@ use Rattle.tg_syntax.specs.Functions.{Measures, program_functions}
 use Rattle.tg_syntax.specs.Measures.{size, inner}
 use Rattle.tg_syntax.specs.OfWords.{OfWords}
 use Rattle.tg_escape.specs.Escaping.{escapes_of}
-use Rattle.tg_types.specs.Programs.{CheckedProgram, IsAccepted}
+use Rattle.tg_typecheck.specs.Programs.{CheckedProgram, IsAccepted}
 use Rattle.tg_tree.specs.Tree.{Ts, Function}
 use Rattle.tg_tree.specs.Shapes.{IsClosed}
 use Rattle.tg_tree.specs.Sizes.{tree_length, tree_needs}

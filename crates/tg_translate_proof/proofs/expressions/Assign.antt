@@ -11,10 +11,10 @@ use Rattle.tg_semantics.specs.Values.{Value, nothing, SourceWorld}
 use Rattle.tg_semantics.specs.Evaluation.{Location}
 use Rattle.tg_semantics.specs.Passing.{Rest}
 use Rattle.tg_semantics.specs.MachineEnds.{rest_run, as_source}
-use Rattle.tg_types.specs.Types.{Ty, int_type, none_type}
-use Rattle.tg_types.specs.Scopes.{at_of}
-use Rattle.tg_types.specs.Has as has
-use Rattle.tg_types.specs.Has.{Has, HasPlace, Fits}
+use Rattle.tg_typecheck.specs.Types.{Ty, int_type, none_type}
+use Rattle.tg_typecheck.specs.Scopes.{at_of}
+use Rattle.tg_typecheck.specs.Has as has
+use Rattle.tg_typecheck.specs.Has.{Has, HasPlace, Fits}
 use Rattle.tg_tree.specs.Tree.{Tx, Ts, Load, Stms, no_stms}
 use Rattle.tg_tree.specs.Units.{Trees, hoisted_units}
 use Rattle.tg_tree.specs.Sizes.{expression_length}
@@ -37,7 +37,7 @@ use Rattle.tg_translate.specs.mirror.Purity.{assigns_nothing}
 use Rattle.tg_translate.specs.mirror.Scopes.{field_number}
 use Rattle.tg_translate.specs.mirror.Updates.{begins_with, is_same_place}
 use Rattle.tg_translate.specs.mirror.Translate.{expression, locate, assignment, updated, behind_read}
-use Rattle.tg_correct.specs.laws.Laws.{tree_work}
+use Rattle.tg_correctness.specs.laws.Laws.{tree_work}
 use Rattle.tg_translate_proof.specs.glue.Tables.{Later}
 use Rattle.tg_translate_proof.specs.glue.Worlds.{Holdings, Stands, temporary, nowhere, GrowsTo}
 use Rattle.tg_translate_proof.specs.glue.Situations.{Program, Setting, IsCovered, Holds, Extends, value_runs, statement_runs, statements_run}

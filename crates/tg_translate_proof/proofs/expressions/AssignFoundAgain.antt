@@ -18,13 +18,13 @@ use Rattle.tg_semantics.specs.Operators.{field_in, element_in, is_below}
 use Rattle.tg_semantics.specs.Passing.{Rest, Passing, passing, with_found, ends}
 use Rattle.tg_semantics.specs.laws.Laws.{behind}
 use Rattle.tg_semantics.specs.Levels.{levels_of}
-use Rattle.tg_types.specs.declared.notes.Means.{Means}
-use Rattle.tg_types.specs.declared.notes.Means.TheVariants as means
-use Rattle.tg_types.specs.Types.{Ty, record_type, array_type, record_shape, array_shape, int_type}
+use Rattle.tg_typecheck.specs.declared.notes.Means.{Means}
+use Rattle.tg_typecheck.specs.declared.notes.Means.TheVariants as means
+use Rattle.tg_typecheck.specs.Types.{Ty, record_type, array_type, record_shape, array_shape, int_type}
 use Rattle.tg_semantics.specs.Environments.{name_of}
-use Rattle.tg_types.specs.Scopes.{at_of, Scope}
-use Rattle.tg_types.specs.Has as has
-use Rattle.tg_types.specs.Has.{Has, HasPlace}
+use Rattle.tg_typecheck.specs.Scopes.{at_of, Scope}
+use Rattle.tg_typecheck.specs.Has as has
+use Rattle.tg_typecheck.specs.Has.{Has, HasPlace}
 use Rattle.tg_translate.specs.mirror.States.{TranslationState}
 use Rattle.tg_translate.specs.mirror.Scopes.{field_number}
 use Rattle.tg_translate.specs.mirror.Updates.{is_same_variable, is_sum_or_difference, is_same_place, is_same_index}

@@ -11,9 +11,9 @@ use Rattle.tg_semantics.specs.Values.{Value, nothing, SourceWorld, put_variable}
 use Rattle.tg_semantics.specs.Evaluation.{Location, in_variable}
 use Rattle.tg_semantics.specs.Passing.{Rest, with_found}
 use Rattle.tg_semantics.specs.MachineEnds.{rest_run}
-use Rattle.tg_types.specs.Types.{Ty, none_type}
-use Rattle.tg_types.specs.Has as has
-use Rattle.tg_types.specs.Has.{Has, HasPlace, HasValues, Fits}
+use Rattle.tg_typecheck.specs.Types.{Ty, none_type}
+use Rattle.tg_typecheck.specs.Has as has
+use Rattle.tg_typecheck.specs.Has.{Has, HasPlace, HasValues, Fits}
 use Rattle.tg_tree.specs.Tree.{Tx, Ts, Store, Stms, no_stms, stm}
 use Rattle.tg_tree.specs.Units.{Trees, hoisted_units}
 use Rattle.tg_tree.specs.Shapes.{is_flat}
@@ -28,7 +28,7 @@ use Rattle.tg_translate.specs.mirror.Wants.{Made, value, done, value_of, put_in,
 use Rattle.tg_translate.specs.mirror.Constructs.{Storage, in_temp, at_address, want_for, assign, store_at}
 use Rattle.tg_translate.specs.mirror.Updates.{begins_with}
 use Rattle.tg_translate.specs.mirror.Translate.{expression, locate, assignment, assigned, behind_read}
-use Rattle.tg_correct.specs.laws.Laws.{tree_work}
+use Rattle.tg_correctness.specs.laws.Laws.{tree_work}
 use Rattle.tg_translate_proof.specs.glue.Tables.{Later}
 use Rattle.tg_translate_proof.specs.glue.Worlds.{Holdings, unknown, Stands, GrowsTo, Key, cell, temporary, IsOf, variable, kept}
 use Rattle.tg_translate_proof.specs.glue.Situations.{Program, Part, Setting, Holds, MayAssign, Extends, with_temps, floor, value_runs, statement_runs}

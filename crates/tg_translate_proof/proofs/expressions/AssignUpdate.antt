@@ -15,13 +15,13 @@ use Rattle.tg_semantics.specs.Values.{Value, SourceWorld, Env}
 use Rattle.tg_semantics.specs.Evaluation.{Location, in_variable, in_field, in_element}
 use Rattle.tg_semantics.specs.Passing.{Rest, Passing, ends}
 use Rattle.tg_semantics.specs.MachineEnds.{rest_run, as_source}
-use Rattle.tg_types.specs.declared.notes.Means.{Means}
-use Rattle.tg_types.specs.declared.notes.Means.TheVariants as means
-use Rattle.tg_types.specs.Types.{Ty}
+use Rattle.tg_typecheck.specs.declared.notes.Means.{Means}
+use Rattle.tg_typecheck.specs.declared.notes.Means.TheVariants as means
+use Rattle.tg_typecheck.specs.Types.{Ty}
 use Rattle.tg_semantics.specs.Environments.{name_of}
-use Rattle.tg_types.specs.Scopes.{at_of}
-use Rattle.tg_types.specs.Has as has
-use Rattle.tg_types.specs.Has.{Has, HasPlace, HasValues}
+use Rattle.tg_typecheck.specs.Scopes.{at_of}
+use Rattle.tg_typecheck.specs.Has as has
+use Rattle.tg_typecheck.specs.Has.{Has, HasPlace, HasValues}
 use Rattle.tg_frame.specs.declared.accesses.Access.{Access}
 use Rattle.tg_frame.specs.declared.accesses.Access.TheVariants.{InTemp, InFrame}
 use Rattle.tg_tree.specs.declared.operators.Bin.TheVariants.{Sub}
@@ -40,7 +40,7 @@ use Rattle.tg_translate.specs.mirror.Choices.{left_want}
 use Rattle.tg_translate.specs.mirror.Purity.{assigns_nothing}
 use Rattle.tg_translate.specs.mirror.Updates.{is_same_variable, is_same_place, begins_with}
 use Rattle.tg_translate.specs.mirror.Translate.{expression, locate, assignment, assigned, updated, behind_read, with_left}
-use Rattle.tg_correct.specs.laws.Laws.{tree_work}
+use Rattle.tg_correctness.specs.laws.Laws.{tree_work}
 use Rattle.tg_translate_proof.specs.glue.Worlds.{Holdings, temporary, IsOf, GrowsTo}
 use Rattle.tg_translate_proof.specs.glue.Situations.{Program, Part, Setting, Holds, Extends, value_runs, statements_run}
 use Rattle.tg_translate_proof.specs.glue.Shown.{Situation, IsShown, FollowsHere, evaluates, left_over}

@@ -4,13 +4,13 @@ use Rattle.tg_base.specs.declared.ids.Span.{Span}
 use Rattle.tg_syntax.specs.declared.trees.Op.{Op}
 use Rattle.tg_syntax.specs.declared.trees.Op.TheVariants as op
 use Rattle.tg_syntax.specs.Tree.{Exp, Binary}
-use Rattle.tg_types.specs.declared.notes.Note.{Note}
-use Rattle.tg_types.specs.declared.notes.Means.{Means}
-use Rattle.tg_types.specs.declared.notes.Means.TheVariants as means
-use Rattle.tg_types.specs.Types.{Ty, int_type, string_type}
-use Rattle.tg_types.specs.Scopes.{Scope}
-use Rattle.tg_types.specs.Has as has
-use Rattle.tg_types.specs.Has.{Has, Says, SaysOf, Compares, Identifies, Alike}
+use Rattle.tg_typecheck.specs.declared.notes.Note.{Note}
+use Rattle.tg_typecheck.specs.declared.notes.Means.{Means}
+use Rattle.tg_typecheck.specs.declared.notes.Means.TheVariants as means
+use Rattle.tg_typecheck.specs.Types.{Ty, int_type, string_type}
+use Rattle.tg_typecheck.specs.Scopes.{Scope}
+use Rattle.tg_typecheck.specs.Has as has
+use Rattle.tg_typecheck.specs.Has.{Has, Says, SaysOf, Compares, Identifies, Alike}
 use Rattle.tg_translate_proof.specs.glue.Situations.{Program, Setting}
 use Rattle.tg_translate_proof.specs.glue.Shown.{Shown, Situation, IsShown}
 use Rattle.tg_translate_proof.proofs.invariant.Parts.{StatesGrow, Piece}

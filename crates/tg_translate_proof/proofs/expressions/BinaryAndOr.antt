@@ -9,8 +9,8 @@ use Rattle.tg_simulation.specs.Agreement.{Source}
 use Rattle.tg_semantics.specs.Values.{Value, int}
 use Rattle.tg_semantics.specs.Passing.{Rest}
 use Rattle.tg_semantics.specs.MachineEnds.{rest_run}
-use Rattle.tg_types.specs.Types.{Ty, int_type}
-use Rattle.tg_types.specs.Has.{Has, HasValues, Fits, the_same}
+use Rattle.tg_typecheck.specs.Types.{Ty, int_type}
+use Rattle.tg_typecheck.specs.Has.{Has, HasValues, Fits, the_same}
 use Rattle.tg_tree.specs.Tree as tree
 use Rattle.tg_tree.specs.Tree.{Temp, Const, Cond, Ts}
 use Rattle.tg_translate.specs.declared.wants.Want.{Want}

@@ -8,8 +8,8 @@ use Rattle.tg_simulation.specs.Agreement.{Source}
 use Rattle.tg_semantics.specs.Values.{Value, SourceWorld}
 use Rattle.tg_semantics.specs.Passing.{Rest}
 use Rattle.tg_semantics.specs.MachineEnds.{rest_run}
-use Rattle.tg_types.specs.Types.{Ty, int_type}
-use Rattle.tg_types.specs.Has.{Has}
+use Rattle.tg_typecheck.specs.Types.{Ty, int_type}
+use Rattle.tg_typecheck.specs.Has.{Has}
 use Rattle.tg_tree.specs.Tree as tree
 use Rattle.tg_tree.specs.Tree.{Tx, Const, Address, Temp, FrameAddress, Load, LoadByte, Call, Service, After, Stms, no_stms}
 use Rattle.tg_tree.specs.glue.Lists.{join_stms}

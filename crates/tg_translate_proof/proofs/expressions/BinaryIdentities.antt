@@ -3,7 +3,7 @@
 use Rattle.std.proofs.Common.{◌≡◌, ◌≢◌, ℕ, suc, ◌+◌, ◌*◌, ◌<◌, ◌≤◌, ◌==◌, List, [], ◌∷◌, Option, Some, None, Bool, true, false, refl, sym, ap, ◌∙◌, arith, subst, inl, inr, eq-eqb, ne_eqb}
 use Rattle.std.specs.Prelude.{not, slice_get}
 use Rattle.std.proofs.lemmas.Bool.{cases_order}
-use Rattle.tg_state.specs.State.{heap_base}
+use Rattle.tg_machine_state.specs.State.{heap_base}
 use Rattle.tg_base.specs.declared.ids.Span.{Span}
 use Rattle.tg_syntax.specs.declared.trees.Op.{Op}
 use Rattle.tg_syntax.specs.declared.trees.Op.TheVariants as op
@@ -19,9 +19,9 @@ use Rattle.tg_semantics.specs.Evaluation as E
 use Rattle.tg_semantics.specs.Operators.{identity, truth}
 use Rattle.tg_semantics.specs.MachineEnds.{rest_run}
 use Rattle.tg_semantics.specs.Passing.{Rest, Passing, passing}
-use Rattle.tg_types.specs.declared.notes.Means.TheVariants as means
-use Rattle.tg_types.specs.Types.{Ty, int_type, nil_type, none_type, record_type, array_type}
-use Rattle.tg_types.specs.Has.{Says, Compares, Identifies, Alike, records, arrays, nil_and, and_nil}
+use Rattle.tg_typecheck.specs.declared.notes.Means.TheVariants as means
+use Rattle.tg_typecheck.specs.Types.{Ty, int_type, nil_type, none_type, record_type, array_type}
+use Rattle.tg_typecheck.specs.Has.{Says, Compares, Identifies, Alike, records, arrays, nil_and, and_nil}
 use Rattle.tg_tree.specs.Tree as tree
 use Rattle.tg_tree.specs.Tree.{Tx}
 use Rattle.tg_tree.specs.Shapes.{is_flat}
@@ -36,7 +36,7 @@ use Rattle.tg_translate.specs.mirror.Scopes.{compares_strings}
 use Rattle.tg_translate.specs.mirror.States.{drawn, Translates, after, give}
 use Rattle.tg_translate.specs.mirror.Translate.{expression, with_left}
 use Rattle.tg_translate.specs.mirror.Wants.{Made, test}
-use Rattle.tg_correct.specs.laws.Laws.{tree_work}
+use Rattle.tg_correctness.specs.laws.Laws.{tree_work}
 use Rattle.tg_translate_proof.specs.glue.Tables.{Later}
 use Rattle.tg_translate_proof.specs.glue.Worlds as worlds
 use Rattle.tg_translate_proof.specs.glue.Worlds.{Holdings, Stands, a_nil, a_nil_record, a_record, an_array}

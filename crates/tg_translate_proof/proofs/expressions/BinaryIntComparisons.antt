@@ -10,9 +10,9 @@ use Rattle.tg_semantics.specs.Values.{Value, int}
 use Rattle.tg_semantics.specs.Passing.{Rest}
 use Rattle.tg_semantics.specs.MachineEnds.{rest_run}
 use Rattle.tg_semantics.specs.Operators.{truth}
-use Rattle.tg_types.specs.Types.{Ty, int_type}
-use Rattle.tg_types.specs.declared.notes.Means.TheVariants as means
-use Rattle.tg_types.specs.Has.{Has, Says}
+use Rattle.tg_typecheck.specs.Types.{Ty, int_type}
+use Rattle.tg_typecheck.specs.declared.notes.Means.TheVariants as means
+use Rattle.tg_typecheck.specs.Has.{Has, Says}
 use Rattle.tg_tree.specs.declared.operators.Rel.{Rel}
 use Rattle.tg_tree.specs.declared.operators.Rel.TheVariants as rel
 use Rattle.tg_tree.specs.Tree as tree

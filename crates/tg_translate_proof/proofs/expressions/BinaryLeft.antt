@@ -4,7 +4,7 @@ use Rattle.std.proofs.Common.{◌≡◌, ℕ, List}
 use Rattle.tg_syntax.specs.declared.trees.Op.{Op}
 use Rattle.tg_syntax.specs.Tree.{Exp}
 use Rattle.tg_semantics.specs.Values.{SourceWorld}
-use Rattle.tg_types.specs.Types.{Ty}
+use Rattle.tg_typecheck.specs.Types.{Ty}
 use Rattle.tg_tree.specs.Actions.{World, Temps}
 use Rattle.tg_translate.specs.declared.homes.Within.{Within}
 use Rattle.tg_translate.specs.declared.wants.Want.{Want}

@@ -10,7 +10,7 @@ use Rattle.tg_simulation.specs.Agreement.{Source}
 use Rattle.tg_semantics.specs.Values.{Value}
 use Rattle.tg_semantics.specs.Passing.{Rest}
 use Rattle.tg_semantics.specs.MachineEnds.{rest_run}
-use Rattle.tg_types.specs.Types.{Ty, none_type}
+use Rattle.tg_typecheck.specs.Types.{Ty, none_type}
 use Rattle.tg_tree.specs.Tree.{Tx}
 use Rattle.tg_tree.specs.Units.{Trees, hoisted_units}
 use Rattle.tg_tree.specs.Actions.{World, Temps, Go}

@@ -12,11 +12,11 @@ use Rattle.tg_semantics.specs.Values.{Value, SourceWorld}
 use Rattle.tg_semantics.specs.Evaluation.{Location}
 use Rattle.tg_semantics.specs.Passing.{Rest}
 use Rattle.tg_semantics.specs.MachineEnds.{rest_run}
-use Rattle.tg_types.specs.declared.notes.Means.TheVariants as means
-use Rattle.tg_types.specs.Types.{Ty, int_type, string_type}
-use Rattle.tg_types.specs.Scopes.{Scope}
-use Rattle.tg_types.specs.Has as has
-use Rattle.tg_types.specs.Has.{Has, SaysOf, Alike, records, arrays, nil_and, and_nil}
+use Rattle.tg_typecheck.specs.declared.notes.Means.TheVariants as means
+use Rattle.tg_typecheck.specs.Types.{Ty, int_type, string_type}
+use Rattle.tg_typecheck.specs.Scopes.{Scope}
+use Rattle.tg_typecheck.specs.Has as has
+use Rattle.tg_typecheck.specs.Has.{Has, SaysOf, Alike, records, arrays, nil_and, and_nil}
 use Rattle.tg_tree.specs.Tree.{Tx, Load}
 use Rattle.tg_tree.specs.Units.{Trees}
 use Rattle.tg_tree.specs.Sizes.{expression_length}
@@ -27,7 +27,7 @@ use Rattle.tg_tree.specs.Actions.{World, Temps}
 use Rattle.tg_translate.specs.mirror.Wants.{value}
 use Rattle.tg_translate.specs.mirror.Updates.{begins_with, is_same_place}
 use Rattle.tg_translate.specs.mirror.Translate.{behind_read}
-use Rattle.tg_correct.specs.laws.Laws.{tree_work}
+use Rattle.tg_correctness.specs.laws.Laws.{tree_work}
 use Rattle.tg_translate_proof.specs.glue.Worlds.{Holdings, Stands}
 use Rattle.tg_translate_proof.specs.glue.Situations.{Program, Part, Setting, IsCovered, value_runs}
 use Rattle.tg_translate_proof.specs.glue.Shown.{SituationBy, IsShown, Shown, FollowsHere, left_over, evaluates}

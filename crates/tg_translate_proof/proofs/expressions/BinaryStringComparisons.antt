@@ -19,10 +19,10 @@ use Rattle.tg_semantics.specs.Levels.{runtime_weight}
 use Rattle.tg_semantics.specs.Operators.{comparison as compared, string_less, truth}
 use Rattle.tg_semantics.specs.MachineEnds.{rest_run}
 use Rattle.tg_semantics.specs.Passing.{Rest, Passing, passing}
-use Rattle.tg_types.specs.declared.notes.Means.{Means}
-use Rattle.tg_types.specs.declared.notes.Means.TheVariants as means
-use Rattle.tg_types.specs.Types.{Ty, int_type, string_type}
-use Rattle.tg_types.specs.Has.{Says, Compares, the_same}
+use Rattle.tg_typecheck.specs.declared.notes.Means.{Means}
+use Rattle.tg_typecheck.specs.declared.notes.Means.TheVariants as means
+use Rattle.tg_typecheck.specs.Types.{Ty, int_type, string_type}
+use Rattle.tg_typecheck.specs.Has.{Says, Compares, the_same}
 use Rattle.tg_tree.specs.Tree as tree
 use Rattle.tg_tree.specs.Tree.{Tx, Txs, tx, no_txs, Const}
 use Rattle.tg_tree.specs.Units.{Trees}
@@ -41,7 +41,7 @@ use Rattle.tg_translate.specs.mirror.Scopes.{compares_strings}
 use Rattle.tg_translate.specs.mirror.States.{TranslationState, drawn, Translates, after, give}
 use Rattle.tg_translate.specs.mirror.Translate.{expression, with_left}
 use Rattle.tg_translate.specs.mirror.Wants.{Made, test, value_of, value_from}
-use Rattle.tg_correct.specs.laws.Laws.{tree_work}
+use Rattle.tg_correctness.specs.laws.Laws.{tree_work}
 use Rattle.tg_translate_proof.specs.glue.Tables.{Later}
 use Rattle.tg_translate_proof.specs.glue.Worlds.{Holdings, Stands}
 use Rattle.tg_translate_proof.specs.glue.Situations.{Program, Setting, Holds, test_runs, value_runs, values_run, calling, frames_at}

@@ -20,13 +20,13 @@ use Rattle.tg_semantics.specs.Levels.{levels_of}
 use Rattle.tg_semantics.specs.Passing.{Rest, Passing, passing, with_found}
 use Rattle.tg_semantics.specs.MachineEnds.{rest_run}
 use Rattle.tg_semantics.specs.laws.Laws.{behind}
-use Rattle.tg_types.specs.declared.notes.Means.TheVariants as means
-use Rattle.tg_types.specs.Types.{Ty, int_type, none_type}
+use Rattle.tg_typecheck.specs.declared.notes.Means.TheVariants as means
+use Rattle.tg_typecheck.specs.Types.{Ty, int_type, none_type}
 use Rattle.tg_semantics.specs.Environments.{name_of}
-use Rattle.tg_types.specs.Scopes.{Signature, function_at, at_of, bound, Scope, Binding, standard_one, signature}
+use Rattle.tg_typecheck.specs.Scopes.{Signature, function_at, at_of, bound, Scope, Binding, standard_one, signature}
 use Rattle.tg_semantics.specs.declared.standards.Standard.{Standard}
-use Rattle.tg_types.specs.Has as has
-use Rattle.tg_types.specs.Has.{Has, HasAll, end_args, an_arg, HaveValues, Says}
+use Rattle.tg_typecheck.specs.Has as has
+use Rattle.tg_typecheck.specs.Has.{Has, HasAll, end_args, an_arg, HaveValues, Says}
 use Rattle.tg_tree.specs.Tree as tree
 use Rattle.tg_tree.specs.Tree.{Tx, Txs, no_txs, tx}
 use Rattle.tg_tree.specs.Units.{Trees, argument_units, hoisted_units}
@@ -45,7 +45,7 @@ use Rattle.tg_translate.specs.mirror.Scopes as scopes
 use Rattle.tg_translate.specs.mirror.Constructs.{frame_out}
 use Rattle.tg_translate.specs.mirror.Purity.{assigns_nothing, all_assign_nothing}
 use Rattle.tg_translate.specs.mirror.Translate.{values as made_values}
-use Rattle.tg_correct.specs.laws.Laws.{tree_work}
+use Rattle.tg_correctness.specs.laws.Laws.{tree_work}
 use Rattle.tg_translate_proof.specs.glue.Covered.{CoversExps, CoversUse, LinksLead}
 use Rattle.tg_translate_proof.specs.glue.Tables.{Later, HasFound}
 use Rattle.tg_translate_proof.specs.glue.Worlds.{Holdings, Stands, Places, Scene, temporary, kept}

@@ -11,8 +11,8 @@ use Rattle.tg_semantics.specs.Evaluation.{eval_all}
 use Rattle.tg_semantics.specs.Passing.{Rest, Passing, passing}
 use Rattle.tg_semantics.specs.MachineEnds.{rest_run}
 use Rattle.tg_semantics.specs.laws.Laws.{behind}
-use Rattle.tg_types.specs.Types.{Ty}
-use Rattle.tg_types.specs.Has.{Fits, HasValues}
+use Rattle.tg_typecheck.specs.Types.{Ty}
+use Rattle.tg_typecheck.specs.Has.{Fits, HasValues}
 use Rattle.tg_tree.specs.Tree.{Tx, Txs, no_txs, tx}
 use Rattle.tg_tree.specs.Units.{Trees, argument_units, hoisted_units}
 use Rattle.tg_tree.specs.Shapes.{are_flat}
@@ -25,7 +25,7 @@ use Rattle.tg_translate.specs.mirror.Scopes.{Findings}
 use Rattle.tg_translate.specs.mirror.States.{TranslationState, drawn, after}
 use Rattle.tg_translate.specs.mirror.Translate.{expression, values as made_values}
 use Rattle.tg_translate.specs.mirror.Wants.{value_from}
-use Rattle.tg_correct.specs.laws.Laws.{tree_work}
+use Rattle.tg_correctness.specs.laws.Laws.{tree_work}
 use Rattle.tg_translate_proof.specs.glue.Tables.{Later}
 use Rattle.tg_translate_proof.specs.glue.Worlds.{Holdings, Stands}
 use Rattle.tg_translate_proof.specs.glue.Situations.{Program, Setting, value_runs, values_run}

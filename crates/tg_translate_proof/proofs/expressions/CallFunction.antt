@@ -5,7 +5,7 @@ use Rattle.std.proofs.Common.{refl, sym, ap, ◌∙◌, arith, subst}
 use Rattle.std.proofs.Common.{inl, inr, ltb-true, lt-ltb}
 use Rattle.std.specs.Prelude.{if◌then◌else◌, ◌-◌, ◌⊎◌, length, nat_lt, drop}
 use Rattle.std.proofs.lemmas.Bool.{cases_lt}
-use Rattle.tg_state.specs.declared.ends.RunEnd.TheVariants.{StackFull}
+use Rattle.tg_machine_state.specs.declared.ends.RunEnd.TheVariants.{StackFull}
 use Rattle.tg_frame.specs.declared.accesses.Access.{Access}
 use Rattle.tg_frame.specs.Homes.{homes_of, homes_from}
 use Rattle.tg_simulation.specs.Runs.{Run, turn}
@@ -21,8 +21,8 @@ use Rattle.tg_semantics.specs.Passing.{Rest, Passing, passing, with_turn, over_i
 use Rattle.tg_semantics.specs.MachineEnds.{rest_run, as_source}
 use Rattle.tg_semantics.specs.laws.Laws.{behind}
 use Rattle.tg_semantics.proofs.AsSource.{turns_as_source}
-use Rattle.tg_types.specs.Types.{Ty}
-use Rattle.tg_types.specs.Scopes.{Signature, at_of}
+use Rattle.tg_typecheck.specs.Types.{Ty}
+use Rattle.tg_typecheck.specs.Scopes.{Signature, at_of}
 use Rattle.tg_tree.specs.Tree.{Ts, Function}
 use Rattle.tg_tree.specs.Units.{Trees, marked_entry_units}
 use Rattle.tg_tree.specs.Actions.{World, Temps, Around, Back, Next, over, wrong, charged}
@@ -31,8 +31,8 @@ use Rattle.tg_tree.specs.Running.{without_slots, no_temps, placed}
 use Rattle.tg_tree.specs.Links.{LinkedPoint, first_is, frames_around, run_linked_body, call_within}
 use Rattle.tg_runtime_proof.proofs.Calling.{placed_world, placed_temps, placed_is}
 use Rattle.tg_translate.specs.mirror.Wants.{done}
-use Rattle.tg_types.specs.Has.{HaveValues}
-use Rattle.tg_correct.specs.laws.Laws.{tree_work}
+use Rattle.tg_typecheck.specs.Has.{HaveValues}
+use Rattle.tg_correctness.specs.laws.Laws.{tree_work}
 use Rattle.tg_translate_proof.specs.glue.Worlds.{Holdings}
 use Rattle.tg_translate_proof.specs.glue.Worlds.{Scene, IsScene}
 use Rattle.tg_translate_proof.specs.glue.Situations.{Program, Setting, Part, floor, Holds}

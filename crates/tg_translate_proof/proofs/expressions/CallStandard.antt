@@ -18,10 +18,10 @@ use Rattle.tg_semantics.specs.laws.Laws.{behind}
 use Rattle.tg_semantics.specs.Operators.{is_below}
 use Rattle.tg_semantics.specs.MachineEnds.{rest_run}
 use Rattle.tg_semantics.specs.Passing.{Rest, Passing, passing, with_found}
-use Rattle.tg_types.specs.declared.notes.Means.TheVariants as means
-use Rattle.tg_types.specs.Types.{Ty, int_type, string_type}
-use Rattle.tg_types.specs.Scopes.{signature, at_of}
-use Rattle.tg_types.specs.Has.{Says}
+use Rattle.tg_typecheck.specs.declared.notes.Means.TheVariants as means
+use Rattle.tg_typecheck.specs.Types.{Ty, int_type, string_type}
+use Rattle.tg_typecheck.specs.Scopes.{signature, at_of}
+use Rattle.tg_typecheck.specs.Has.{Says}
 use Rattle.tg_tree.specs.Tree as tree
 use Rattle.tg_tree.specs.Tree.{Tx, Txs, no_txs}
 use Rattle.tg_tree.specs.Units.{Trees}
@@ -33,7 +33,7 @@ use Rattle.tg_translate.specs.mirror.Scopes.{call, routine_of}
 use Rattle.tg_translate.specs.mirror.States.{TranslationState, drawn, after, give}
 use Rattle.tg_translate.specs.mirror.Translate.{values}
 use Rattle.tg_translate.specs.mirror.Wants.{value}
-use Rattle.tg_correct.specs.laws.Laws.{tree_work}
+use Rattle.tg_correctness.specs.laws.Laws.{tree_work}
 use Rattle.tg_translate_proof.specs.glue.Tables.{Later}
 use Rattle.tg_translate_proof.specs.glue.Worlds.{Holdings, Stands, IsText, IsScene}
 use Rattle.tg_translate_proof.specs.glue.Situations.{Program, Part, Setting, Holds, floor, value_runs, values_run, calling, frames_at}

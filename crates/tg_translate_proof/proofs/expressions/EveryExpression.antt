@@ -9,11 +9,11 @@ use Rattle.tg_symbols.specs.Tables.{looked_up}
 use Rattle.tg_semantics.specs.declared.standards.Standard.{Standard}
 use Rattle.tg_semantics.specs.declared.standards.Standard.TheVariants as standard
 use Rattle.tg_semantics.specs.Environments.{find, to_standard}
-use Rattle.tg_types.specs.Types.{Ty, int_type, string_type, array_type, array_shape}
+use Rattle.tg_typecheck.specs.Types.{Ty, int_type, string_type, array_type, array_shape}
 use Rattle.tg_semantics.specs.Environments.{name_of}
-use Rattle.tg_types.specs.Scopes.{Scope, standard_one, signature}
-use Rattle.tg_types.specs.Has as has
-use Rattle.tg_types.specs.Has.{Has, HasValues, HaveValues, Fits}
+use Rattle.tg_typecheck.specs.Scopes.{Scope, standard_one, signature}
+use Rattle.tg_typecheck.specs.Has as has
+use Rattle.tg_typecheck.specs.Has.{Has, HasValues, HaveValues, Fits}
 use Rattle.tg_translate.specs.mirror.Purity.{assigns_nothing}
 use Rattle.tg_translate_proof.specs.glue.Situations.{Program, Part, Setting, MayAssign}
 use Rattle.tg_translate_proof.specs.glue.Shown.{Shown, ExpressionFollows}

@@ -1,7 +1,7 @@
 -- Fields of records as l-values: the record is held, checked for nil, and its field's address is found.
 use Rattle.std.proofs.Common.{◌≡◌, ◌≢◌, ℕ, zero, suc, ◌+◌, ◌-◌, ◌*◌, ◌^◌, ◌<◌, ◌≤◌, ◌==◌, List, Option, Some, None, Bool, true, false, refl, sym, ap, ◌∙◌, arith, subst, inl, inr, ne_eqb}
 use Rattle.std.specs.Prelude.{slice_get, if◌then◌else◌}
-use Rattle.tg_state.specs.State.{heap_base}
+use Rattle.tg_machine_state.specs.State.{heap_base}
 use Rattle.tg_base.specs.Words.{add}
 use Rattle.tg_syntax.specs.declared.tokens.Ident.{Ident}
 use Rattle.tg_syntax.specs.Tree.{LValue, Field}
@@ -15,13 +15,13 @@ use Rattle.tg_semantics.specs.Evaluation as evaluation
 use Rattle.tg_semantics.specs.Evaluation.{Location, in_variable, in_field}
 use Rattle.tg_semantics.specs.Passing.{Rest, Passing, passing, with_found}
 use Rattle.tg_semantics.specs.MachineEnds.{rest_run}
-use Rattle.tg_types.specs.declared.notes.Means.TheVariants as means
-use Rattle.tg_types.specs.Types.{Ty, record_type, record_shape}
-use Rattle.tg_types.specs.Typing.{placed}
+use Rattle.tg_typecheck.specs.declared.notes.Means.TheVariants as means
+use Rattle.tg_typecheck.specs.Types.{Ty, record_type, record_shape}
+use Rattle.tg_typecheck.specs.Typing.{placed}
 use Rattle.tg_semantics.specs.Environments.{name_of}
-use Rattle.tg_types.specs.Scopes.{at_of}
-use Rattle.tg_types.specs.Has as has
-use Rattle.tg_types.specs.Has.{HasPlace, Says}
+use Rattle.tg_typecheck.specs.Scopes.{at_of}
+use Rattle.tg_typecheck.specs.Has as has
+use Rattle.tg_typecheck.specs.Has.{HasPlace, Says}
 use Rattle.tg_tree.specs.Tree.{Tx, Temp, Const, Load, After, Move, Ts, Fault, Stms, no_stms, stm}
 use Rattle.tg_tree.specs.declared.operators.Bin.TheVariants.{Add}
 use Rattle.tg_tree.specs.Operators.{word, operate}
@@ -33,7 +33,7 @@ use Rattle.tg_translate.specs.mirror.Constructs.{Storage, in_temp, at_address, r
 use Rattle.tg_translate.specs.mirror.Constructs.{operand}
 use Rattle.tg_translate.specs.mirror.Scopes.{field_number}
 use Rattle.tg_translate.specs.mirror.Translate.{locate}
-use Rattle.tg_correct.specs.laws.Laws.{tree_work}
+use Rattle.tg_correctness.specs.laws.Laws.{tree_work}
 use Rattle.tg_translate_proof.specs.glue.Tables.{Later}
 use Rattle.tg_translate_proof.specs.glue.Worlds.{Holdings, unknown, Stands, a_nil_record, a_record, record_of, temporary, nowhere, part}
 use Rattle.tg_translate_proof.specs.glue.Situations.{Program, Part, Setting, Holds, Extends, value_runs, statement_runs, statements_run}

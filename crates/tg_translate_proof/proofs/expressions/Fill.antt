@@ -3,8 +3,8 @@ use Rattle.std.proofs.Common.{◌≡◌, ℕ, suc, ◌+◌, ◌-◌, ◌*◌, �
 use Rattle.std.specs.Prelude.{if◌then◌else◌, nat_lt, replicate}
 use Rattle.std.proofs.lemmas.Bool.{cases_lt, lt-ltb, le-ltb}
 use Rattle.tg_base.specs.declared.ids.Span.{Span}
-use Rattle.tg_state.specs.declared.ends.RunEnd.TheVariants.{HeapFull, Break}
-use Rattle.tg_state.specs.State.{heap_base}
+use Rattle.tg_machine_state.specs.declared.ends.RunEnd.TheVariants.{HeapFull, Break}
+use Rattle.tg_machine_state.specs.State.{heap_base}
 use Rattle.tg_base.specs.Words.{is_negative}
 use Rattle.tg_syntax.specs.declared.tokens.Ident.{Ident}
 use Rattle.tg_syntax.specs.Tree.{Exp, Exps, no_exps, exp, Fill}
@@ -22,8 +22,8 @@ use Rattle.tg_semantics.specs.Levels.{runtime_weight}
 use Rattle.tg_semantics.specs.Operators.{array_bytes}
 use Rattle.tg_semantics.specs.MachineEnds.{rest_run}
 use Rattle.tg_semantics.specs.Passing.{Rest, Passing, passing, ends}
-use Rattle.tg_types.specs.Types.{Ty, int_type, array_type, array_shape}
-use Rattle.tg_types.specs.Has.{Fits, HasValues, the_same}
+use Rattle.tg_typecheck.specs.Types.{Ty, int_type, array_type, array_shape}
+use Rattle.tg_typecheck.specs.Has.{Fits, HasValues, the_same}
 use Rattle.tg_tree.specs.Tree.{Tx, Txs, tx, no_txs}
 use Rattle.tg_tree.specs.Units.{Trees, marked_entry_units}
 use Rattle.tg_tree.specs.Actions.{World, Temps, Go, Back, over}
@@ -37,7 +37,7 @@ use Rattle.tg_translate.specs.mirror.Constructs.{make_array, two_txs}
 use Rattle.tg_translate.specs.mirror.States.{TranslationState, drawn, after, give}
 use Rattle.tg_translate.specs.mirror.Translate.{expression}
 use Rattle.tg_translate.specs.mirror.Wants.{value, value_from}
-use Rattle.tg_correct.specs.laws.Laws.{tree_work}
+use Rattle.tg_correctness.specs.laws.Laws.{tree_work}
 use Rattle.tg_translate_proof.specs.glue.Tables.{Later}
 use Rattle.tg_translate_proof.specs.glue.Worlds.{Holdings, Stands, an_array, array_of, IsScene}
 use Rattle.tg_translate_proof.specs.glue.Situations.{Program, Part, Setting, Holds, floor, value_runs, values_run, calling, frames_at}

@@ -16,11 +16,11 @@ use Rattle.tg_semantics.specs.Levels.{levels_of}
 use Rattle.tg_semantics.specs.Passing.{Rest, Passing, passing}
 use Rattle.tg_semantics.specs.MachineEnds.{rest_run}
 use Rattle.tg_semantics.specs.laws.Laws.{behind}
-use Rattle.tg_types.specs.Types.{Ty, int_type, none_type}
+use Rattle.tg_typecheck.specs.Types.{Ty, int_type, none_type}
 use Rattle.tg_semantics.specs.Environments.{name_of}
-use Rattle.tg_types.specs.Scopes.{variable_at, binding, in_a_loop, at_of}
-use Rattle.tg_types.specs.Has as has
-use Rattle.tg_types.specs.Has.{Has}
+use Rattle.tg_typecheck.specs.Scopes.{variable_at, binding, in_a_loop, at_of}
+use Rattle.tg_typecheck.specs.Has as has
+use Rattle.tg_typecheck.specs.Has.{Has}
 use Rattle.tg_frame.specs.declared.accesses.Access.{Access}
 use Rattle.tg_tree.specs.declared.operators.Rel.TheVariants as rel
 use Rattle.tg_tree.specs.Tree as tree

@@ -1,15 +1,15 @@
 -- The homes that `for` draws for its variable and its upper bound, and how they are given back.
 use Rattle.std.proofs.Common.{◌≡◌, ◌≢◌, ℕ, ◌+◌, ◌-◌, ◌*◌, ◌%◌, ◌^◌, ◌<◌, ◌≤◌, List, [], ◌∷◌, Bool, true, false, refl, sym, ap, ◌∙◌, arith, subst, inl, inr}
 use Rattle.std.specs.Prelude.{length, if◌then◌else◌, ◌⊎◌}
-use Rattle.tg_state.specs.State.{stack_top, heap_base}
+use Rattle.tg_machine_state.specs.State.{stack_top, heap_base}
 use Rattle.tg_base.specs.Words.{add, sub, less}
 use Rattle.tg_syntax.specs.declared.tokens.Ident.{Ident}
 use Rattle.tg_simulation.specs.Runs.{Run}
 use Rattle.tg_simulation.specs.Ran.{works}
 use Rattle.tg_simulation.specs.Agreement.{Source}
 use Rattle.tg_semantics.specs.Values.{nothing, SourceWorld}
-use Rattle.tg_types.specs.Types.{Ty}
-use Rattle.tg_types.specs.Scopes.{at_of}
+use Rattle.tg_typecheck.specs.Types.{Ty}
+use Rattle.tg_typecheck.specs.Scopes.{at_of}
 use Rattle.tg_frame.specs.declared.accesses.Access.{Access}
 use Rattle.tg_frame.specs.Homes.{next_home}
 use Rattle.tg_tree.specs.Tree as tree

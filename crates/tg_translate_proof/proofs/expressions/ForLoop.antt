@@ -1,7 +1,7 @@
 -- `for`: the parts of it, and its loop from the head on, where its variable's home has a word one less.
 use Rattle.std.proofs.Common.{◌≡◌, ◌≢◌, ℕ, zero, suc, ◌+◌, ◌*◌, ◌%◌, ◌^◌, ◌<◌, ◌≤◌, ◌==◌, List, [], ◌∷◌, Option, Some, None, Bool, true, false, refl, sym, ap, ◌∙◌, arith, subst, inl, inr}
 use Rattle.std.specs.Prelude.{slice_get, length, not, if◌then◌else◌, ◌⊎◌}
-use Rattle.tg_state.specs.State.{stack_top, heap_base}
+use Rattle.tg_machine_state.specs.State.{stack_top, heap_base}
 use Rattle.tg_base.specs.Words.{add}
 use Rattle.tg_base.specs.declared.ids.Span.{Span}
 use Rattle.tg_syntax.specs.declared.tokens.Ident.{Ident}
@@ -16,10 +16,10 @@ use Rattle.tg_semantics.specs.Evaluation.{with_variable}
 use Rattle.tg_semantics.specs.Passing.{Rest, Passing, passing, with_turn, with_found}
 use Rattle.tg_semantics.specs.MachineEnds.{rest_run}
 use Rattle.tg_semantics.specs.laws.Laws.{behind}
-use Rattle.tg_types.specs.Types.{Ty, int_type, none_type}
+use Rattle.tg_typecheck.specs.Types.{Ty, int_type, none_type}
 use Rattle.tg_semantics.specs.Environments.{name_of}
-use Rattle.tg_types.specs.Scopes.{variable_at, binding, in_a_loop, at_of}
-use Rattle.tg_types.specs.Has.{Has}
+use Rattle.tg_typecheck.specs.Scopes.{variable_at, binding, in_a_loop, at_of}
+use Rattle.tg_typecheck.specs.Has.{Has}
 use Rattle.tg_frame.specs.declared.accesses.Access.{Access}
 use Rattle.tg_tree.specs.declared.operators.Rel.TheVariants as rel
 use Rattle.tg_tree.specs.declared.operators.Bin.TheVariants as bin
@@ -33,7 +33,7 @@ use Rattle.tg_translate.specs.mirror.States.{TranslationState, drawn}
 use Rattle.tg_translate.specs.mirror.Wants.{Made, dropped}
 use Rattle.tg_translate.specs.mirror.Constructs.{read, own_place, assign_value, turn_of, in_body, operand}
 use Rattle.tg_translate.specs.mirror.Translate.{expression}
-use Rattle.tg_correct.specs.laws.Laws.{tree_work}
+use Rattle.tg_correctness.specs.laws.Laws.{tree_work}
 use Rattle.tg_translate_proof.specs.glue.Tables.{Later}
 use Rattle.tg_translate_proof.specs.glue.Worlds.{Holdings, unknown, Stands, an_int, GrowsTo, Key, cell, temporary, Content, nowhere, variable, kept, fixed}
 use Rattle.tg_translate_proof.specs.glue.Worlds.{Places, IsOf, HoldsAt, HoldsVariable, word_of}

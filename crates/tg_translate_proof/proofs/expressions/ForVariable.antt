@@ -2,13 +2,13 @@
 -- where the home's word is not yet the variable's.
 use Rattle.std.proofs.Common.{◌≡◌, ◌≢◌, ℕ, suc, ◌+◌, ◌-◌, ◌*◌, ◌%◌, ◌^◌, ◌<◌, ◌≤◌, List, [], ◌∷◌, ◌++◌, Option, Some, None, Bool, true, false, refl, sym, ap, ◌∙◌, arith, subst, inl, inr}
 use Rattle.std.specs.Prelude.{slice_get, length, ◌⊎◌}
-use Rattle.tg_state.specs.State.{stack_top, heap_base}
+use Rattle.tg_machine_state.specs.State.{stack_top, heap_base}
 use Rattle.tg_base.specs.Words.{sub}
 use Rattle.tg_simulation.specs.Runs.{Run}
 use Rattle.tg_simulation.specs.Ran.{Ran}
 use Rattle.tg_simulation.specs.Agreement.{Source}
 use Rattle.tg_semantics.specs.Values.{Value, int, SourceWorld, add_variable, put_variable}
-use Rattle.tg_types.specs.Types.{Ty, Shape, int_type}
+use Rattle.tg_typecheck.specs.Types.{Ty, Shape, int_type}
 use Rattle.tg_frame.specs.declared.accesses.Access.{Access}
 use Rattle.tg_frame.specs.declared.accesses.Access.TheVariants.{InTemp, InFrame}
 use Rattle.tg_tree.specs.Tree.{Tx}

@@ -11,10 +11,10 @@ use Rattle.tg_simulation.specs.Agreement.{Source}
 use Rattle.tg_semantics.specs.Values.{Value, int, nothing, SourceWorld}
 use Rattle.tg_semantics.specs.Passing.{Rest}
 use Rattle.tg_semantics.specs.MachineEnds.{rest_run}
-use Rattle.tg_types.specs.Types.{Ty, int_type, none_type}
-use Rattle.tg_types.specs.Scopes.{Scope}
-use Rattle.tg_types.specs.Has as has
-use Rattle.tg_types.specs.Has.{Has, Fits, HasValues}
+use Rattle.tg_typecheck.specs.Types.{Ty, int_type, none_type}
+use Rattle.tg_typecheck.specs.Scopes.{Scope}
+use Rattle.tg_typecheck.specs.Has as has
+use Rattle.tg_typecheck.specs.Has.{Has, Fits, HasValues}
 use Rattle.tg_tree.specs.Forms.{nothing as nothing_done}
 use Rattle.tg_tree.specs.Tree as tree
 use Rattle.tg_tree.specs.Tree.{Tx, Temp, Const, Cond, Ts}

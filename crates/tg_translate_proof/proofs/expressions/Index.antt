@@ -1,7 +1,7 @@
 -- Elements of arrays as l-values: the array is held over its index, which is checked.
 use Rattle.std.proofs.Common.{◌≡◌, ◌≢◌, ℕ, zero, suc, ◌+◌, ◌*◌, ◌^◌, ◌<◌, ◌≤◌, ◌%◌, List, Option, Some, None, Bool, true, false, refl, sym, ap, ◌∙◌, arith, subst, inl, inr, ltb-true}
 use Rattle.std.specs.Prelude.{slice_get, length, nat_lt, not, ◌&&◌, if◌then◌else◌, ◌⊎◌}
-use Rattle.tg_state.specs.State.{heap_base}
+use Rattle.tg_machine_state.specs.State.{heap_base}
 use Rattle.tg_base.specs.Words.{add, shift_left, is_negative}
 use Rattle.tg_syntax.specs.Tree.{Exp, LValue, Index}
 use Rattle.tg_symbols.specs.Tables.{looked_up}
@@ -15,9 +15,9 @@ use Rattle.tg_semantics.specs.Evaluation as evaluation
 use Rattle.tg_semantics.specs.Evaluation.{Location, in_element}
 use Rattle.tg_semantics.specs.Passing.{Rest, Passing, passing, with_found}
 use Rattle.tg_semantics.specs.MachineEnds.{rest_run}
-use Rattle.tg_types.specs.Types.{Ty, int_type, array_type, array_shape}
-use Rattle.tg_types.specs.Has as has
-use Rattle.tg_types.specs.Has.{Has, HasPlace}
+use Rattle.tg_typecheck.specs.Types.{Ty, int_type, array_type, array_shape}
+use Rattle.tg_typecheck.specs.Has as has
+use Rattle.tg_typecheck.specs.Has.{Has, HasPlace}
 use Rattle.tg_tree.specs.Tree.{Tx, Temp, Const, Load, Binary, Ts, Fault, Stms, no_stms, stm}
 use Rattle.tg_tree.specs.Forms.{nothing as nothing_done}
 use Rattle.tg_tree.specs.glue.Lists.{join_stms}
@@ -35,7 +35,7 @@ use Rattle.tg_translate.specs.mirror.Constructs.{Storage, in_temp, at_address, r
 use Rattle.tg_translate.specs.mirror.Constructs.{after_all, Held}
 use Rattle.tg_translate.specs.mirror.Purity.{assigns_nothing, place_assigns_nothing}
 use Rattle.tg_translate.specs.mirror.Translate.{expression, locate}
-use Rattle.tg_correct.specs.laws.Laws.{tree_work}
+use Rattle.tg_correctness.specs.laws.Laws.{tree_work}
 use Rattle.tg_translate_proof.specs.glue.Tables.{Later}
 use Rattle.tg_translate_proof.specs.glue.Worlds.{Holdings, unknown, part, GrowsTo, Stands, an_int, an_array, array_of, temporary, IsOf, kept}
 use Rattle.tg_translate_proof.specs.glue.Situations.{Program, Part, Setting, Holds, MayAssign, Extends, value_runs, statement_runs, statements_run}

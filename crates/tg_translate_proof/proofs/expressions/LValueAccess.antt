@@ -3,7 +3,7 @@
 use Rattle.std.proofs.Common.{◌≡◌, ◌≢◌, ℕ, zero, suc, ◌+◌, ◌-◌, ◌*◌, ◌%◌, ◌^◌, ◌<◌, ◌≤◌, ◌==◌, List, [], ◌∷◌, Option, Some, None, Bool, true, false, refl, sym, ap, ◌∙◌}
 use Rattle.std.proofs.Common.{arith, subst, inl, inr}
 use Rattle.std.specs.Prelude.{slice_get, slice_set, length, if◌then◌else◌}
-use Rattle.tg_state.specs.State.{stack_top, heap_base}
+use Rattle.tg_machine_state.specs.State.{stack_top, heap_base}
 use Rattle.tg_symbols.specs.Tables.{looked_up}
 use Rattle.tg_simulation.specs.Runs.{Run}
 use Rattle.tg_simulation.specs.Agreement.{Source}
@@ -12,9 +12,9 @@ use Rattle.tg_semantics.specs.Operators.{field_in, element_in, with_field, with_
 use Rattle.tg_semantics.specs.Evaluation.{Location, in_variable, in_field, in_element}
 use Rattle.tg_semantics.specs.Passing.{Rest, with_found}
 use Rattle.tg_semantics.specs.MachineEnds.{rest_run}
-use Rattle.tg_types.specs.Types.{Ty, Shape, record_shape, array_shape, none_type}
-use Rattle.tg_types.specs.Typing.{placed}
-use Rattle.tg_types.specs.Has.{HasValues}
+use Rattle.tg_typecheck.specs.Types.{Ty, Shape, record_shape, array_shape, none_type}
+use Rattle.tg_typecheck.specs.Typing.{placed}
+use Rattle.tg_typecheck.specs.Has.{HasValues}
 use Rattle.tg_tree.specs.Memory.{Memory, Closed, Has, put, load, store, slot}
 use Rattle.tg_tree.specs.Actions.{World, Temps}
 use Rattle.tg_runtime_proof.proofs.Stores.{IsStored}

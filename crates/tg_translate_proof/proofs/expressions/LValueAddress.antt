@@ -3,7 +3,7 @@
 use Rattle.std.proofs.Common.{◌≡◌, ◌≢◌, ℕ, zero, suc, ◌+◌, ◌-◌, ◌*◌, ◌%◌, ◌^◌, ◌<◌, ◌≤◌, ◌==◌, List, [], ◌∷◌, Option, Some, None, Bool, true, false, refl, sym, ap, ◌∙◌}
 use Rattle.std.proofs.Common.{arith, subst, inl, inr}
 use Rattle.std.specs.Prelude.{slice_get, length, ◌⊎◌, if◌then◌else◌}
-use Rattle.tg_state.specs.State.{stack_top, heap_base, most_room}
+use Rattle.tg_machine_state.specs.State.{stack_top, heap_base, most_room}
 use Rattle.tg_syntax.specs.declared.tokens.Ident.{Ident}
 use Rattle.tg_syntax.specs.Tree.{Exp, LValue, Simple, Field, Index, Exps, Decs}
 use Rattle.tg_syntax.specs.OfWords.{PlaceOfWords}
@@ -21,13 +21,13 @@ use Rattle.tg_semantics.specs.Passing.{Rest, Passing, passing, with_found}
 use Rattle.tg_semantics.specs.MachineEnds.{rest_run}
 use Rattle.tg_semantics.specs.Levels.{levels_of}
 use Rattle.tg_semantics.specs.laws.Laws.{behind}
-use Rattle.tg_types.specs.declared.notes.Means.TheVariants as means
-use Rattle.tg_types.specs.Types.{Ty, Shape, record_shape, array_shape}
-use Rattle.tg_types.specs.Typing.{placed}
+use Rattle.tg_typecheck.specs.declared.notes.Means.TheVariants as means
+use Rattle.tg_typecheck.specs.Types.{Ty, Shape, record_shape, array_shape}
+use Rattle.tg_typecheck.specs.Typing.{placed}
 use Rattle.tg_semantics.specs.Environments.{name_of}
-use Rattle.tg_types.specs.Scopes.{bound, variable_at, function_at, standard_one, at_of, Binding}
-use Rattle.tg_types.specs.Has as has
-use Rattle.tg_types.specs.Has.{HasPlace, HasValues, FieldsHaveValues, ShapeHasValues, ShapesHaveValues, Says}
+use Rattle.tg_typecheck.specs.Scopes.{bound, variable_at, function_at, standard_one, at_of, Binding}
+use Rattle.tg_typecheck.specs.Has as has
+use Rattle.tg_typecheck.specs.Has.{HasPlace, HasValues, FieldsHaveValues, ShapeHasValues, ShapesHaveValues, Says}
 use Rattle.tg_frame.specs.declared.accesses.Access.{Access}
 use Rattle.tg_frame.specs.declared.accesses.Access.TheVariants.{InTemp, InFrame}
 use Rattle.tg_tree.specs.declared.operators.Bin.TheVariants.{Sub}
@@ -48,7 +48,7 @@ use Rattle.tg_translate.specs.mirror.Constructs.{Storage, in_temp, at_address, p
 use Rattle.tg_translate.specs.mirror.Scopes.{home_place, frame_at, variable_place}
 use Rattle.tg_translate.specs.mirror.Purity.{place_assigns_nothing}
 use Rattle.tg_translate.specs.mirror.Translate.{locate, sequence, declarations, Begun}
-use Rattle.tg_correct.specs.laws.Laws.{tree_work}
+use Rattle.tg_correctness.specs.laws.Laws.{tree_work}
 use Rattle.tg_translate_proof.specs.glue.Tables.{Table, Later, HasFound}
 use Rattle.tg_translate_proof.specs.glue.Covered.{CoversPlace, CoversName, LinksLead}
 use Rattle.tg_translate_proof.specs.glue.Worlds.{Holdings, Stands, GrowsTo, record_of, array_of, Key, cell, temporary, Content, nowhere, variable, kept, Places}

@@ -14,11 +14,11 @@ use Rattle.tg_semantics.specs.Evaluation.{function_count}
 use Rattle.tg_semantics.specs.Levels.{levels_of}
 use Rattle.tg_semantics.specs.Passing.{Rest}
 use Rattle.tg_semantics.specs.MachineEnds.{rest_run}
-use Rattle.tg_types.specs.Types.{Ty, none_type}
-use Rattle.tg_types.specs.Scopes.{Scope}
-use Rattle.tg_types.specs.Groups.{with_functions}
-use Rattle.tg_types.specs.Has as has
-use Rattle.tg_types.specs.Has.{Has, HasDecs, HasLast}
+use Rattle.tg_typecheck.specs.Types.{Ty, none_type}
+use Rattle.tg_typecheck.specs.Scopes.{Scope}
+use Rattle.tg_typecheck.specs.Groups.{with_functions}
+use Rattle.tg_typecheck.specs.Has as has
+use Rattle.tg_typecheck.specs.Has.{Has, HasDecs, HasLast}
 use Rattle.tg_tree.specs.Tree.{Tx, Const, Address, Temp, FrameAddress, Binary, Load, LoadByte, Call, Service, After, Ts, Stms, no_stms, stm}
 use Rattle.tg_tree.specs.Units.{Trees}
 use Rattle.tg_tree.specs.glue.Lists.{join_stms}
@@ -30,7 +30,7 @@ use Rattle.tg_translate.specs.declared.wants.Want.TheVariants as want
 use Rattle.tg_translate.specs.mirror.States.{TranslationState, drawn}
 use Rattle.tg_translate.specs.mirror.Wants.{Made, value, done, test, value_of, put_in, dropped, behind}
 use Rattle.tg_translate.specs.mirror.Translate.{declarations, sequence}
-use Rattle.tg_correct.specs.laws.Laws.{tree_work}
+use Rattle.tg_correctness.specs.laws.Laws.{tree_work}
 use Rattle.tg_translate_proof.specs.glue.Covered.{CoversDecs, CoversExps}
 use Rattle.tg_translate_proof.specs.glue.Tables.{Later}
 use Rattle.tg_translate_proof.specs.glue.Worlds.{Holdings, Stands, GrowsTo, Places, temporary, kept}

@@ -5,12 +5,12 @@ use Rattle.std.proofs.lemmas.List.{append-nil, append_assoc}
 use Rattle.tg_syntax.specs.OfWords.{OfWords, InitsOfWords}
 use Rattle.tg_syntax.specs.declared.tokens.Ident.{Ident}
 use Rattle.tg_base.specs.declared.ids.Span.{Span}
-use Rattle.tg_state.specs.State.{heap_base}
+use Rattle.tg_machine_state.specs.State.{heap_base}
 use Rattle.tg_syntax.specs.Tree.{Exp, Make, Inits, no_inits, init}
 use Rattle.tg_symbols.specs.Tables.{looked_up}
 use Rattle.tg_semantics.specs.Environments.{name_of}
 use Rattle.tg_semantics.specs.Levels.{levels_of}
-use Rattle.tg_types.specs.Scopes.{Scope}
+use Rattle.tg_typecheck.specs.Scopes.{Scope}
 use Rattle.tg_simulation.specs.Runs.{Run}
 use Rattle.tg_simulation.specs.Ran.{Ran}
 use Rattle.tg_simulation.specs.Agreement.{Source}
@@ -22,9 +22,9 @@ use Rattle.tg_semantics.specs.Evaluation.{eval_inits}
 use Rattle.tg_semantics.specs.Passing.{Rest, Passing, passing}
 use Rattle.tg_semantics.specs.MachineEnds.{rest_run}
 use Rattle.tg_semantics.specs.laws.Laws.{behind}
-use Rattle.tg_types.specs.Types.{Ty, Shape, none_type, record_type, record_shape}
-use Rattle.tg_types.specs.Has as has
-use Rattle.tg_types.specs.Has.{Has, HasInits, Fits, HasValues, FieldsHaveValues, ShapeHasValues, ShapesHaveValues}
+use Rattle.tg_typecheck.specs.Types.{Ty, Shape, none_type, record_type, record_shape}
+use Rattle.tg_typecheck.specs.Has as has
+use Rattle.tg_typecheck.specs.Has.{Has, HasInits, Fits, HasValues, FieldsHaveValues, ShapeHasValues, ShapesHaveValues}
 use Rattle.tg_tree.specs.Tree.{Tx, Temp, After, Move, Seq, Stms, no_stms, stm}
 use Rattle.tg_tree.specs.glue.Lists.{join_stms}
 use Rattle.tg_tree.proofs.ListLaws.{join_stms-none, join_stms-assoc}
@@ -39,7 +39,7 @@ use Rattle.tg_translate.specs.mirror.Wants.{Made, value, value_of, value_from}
 use Rattle.tg_translate.specs.mirror.Constructs.{hold_next, none_held, record_of, make_record, space_for_record, Held, HeldAll}
 use Rattle.tg_translate.specs.mirror.Purity.{assigns_nothing, inits_assign_nothing}
 use Rattle.tg_translate.specs.mirror.Translate.{expression, fields as made_fields}
-use Rattle.tg_correct.specs.laws.Laws.{tree_work}
+use Rattle.tg_correctness.specs.laws.Laws.{tree_work}
 use Rattle.tg_translate_proof.specs.glue.Covered.{Covers, CoversInits}
 use Rattle.tg_translate_proof.specs.glue.Tables.{Later}
 use Rattle.tg_translate_proof.specs.glue.Worlds.{Holdings, Stands, GrowsTo, temporary, nowhere, Places, Scene}

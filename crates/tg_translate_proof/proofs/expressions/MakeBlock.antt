@@ -3,9 +3,9 @@
 use Rattle.std.proofs.Common.{◌≡◌, ℕ, zero, suc, ◌+◌, ◌-◌, ◌*◌, ◌%◌, ◌<◌, ◌≤◌, List, [], ◌∷◌, ◌++◌, length, Some, Bool, true, false, refl, sym, ap, ◌∙◌, arith, subst, inl, inr}
 use Rattle.std.specs.Prelude.{if◌then◌else◌, nat_lt, replicate, max}
 use Rattle.std.proofs.lemmas.Bool.{cases_lt, lt-ltb, le-ltb}
-use Rattle.tg_state.specs.declared.ends.RunEnd.TheVariants.{HeapFull}
-use Rattle.tg_state.specs.State.{heap_base}
-use Rattle.tg_state.specs.Services.{whole_words}
+use Rattle.tg_machine_state.specs.declared.ends.RunEnd.TheVariants.{HeapFull}
+use Rattle.tg_machine_state.specs.State.{heap_base}
+use Rattle.tg_machine_state.specs.Services.{whole_words}
 use Rattle.tg_symbols.specs.Tables.{looked_up}
 use Rattle.tg_simulation.specs.Runs.{Run}
 use Rattle.tg_simulation.specs.Ran.{Ran, Ended}
@@ -18,13 +18,13 @@ use Rattle.tg_semantics.specs.Levels.{runtime_weight}
 use Rattle.tg_semantics.specs.Operators.{record_bytes}
 use Rattle.tg_semantics.specs.MachineEnds.{rest_run}
 use Rattle.tg_semantics.specs.Passing.{Rest, Passing, passing, ends}
-use Rattle.tg_types.specs.Types.{Ty, record_type, record_shape}
+use Rattle.tg_typecheck.specs.Types.{Ty, record_type, record_shape}
 use Rattle.tg_tree.specs.Tree.{Tx, Stms, no_stms, stm, Move}
 use Rattle.tg_tree.specs.Actions.{World, Temps, set_temp, Next, over}
 use Rattle.tg_translate.specs.declared.operands.Operand.{Operand}
 use Rattle.tg_translate.specs.mirror.Constructs.{space_for_record}
 use Rattle.tg_runtime_proof.specs.laws.Serving.{with_block}
-use Rattle.tg_correct.specs.laws.Laws.{tree_work}
+use Rattle.tg_correctness.specs.laws.Laws.{tree_work}
 use Rattle.tg_translate_proof.specs.glue.Worlds.{Holdings, Stands, GrowsTo, a_record, record_of, temporary, nowhere}
 use Rattle.tg_translate_proof.specs.glue.Situations.{Program, Part, Setting, Holds, statements_run}
 use Rattle.tg_translate_proof.specs.glue.Shown.{FollowsHere}

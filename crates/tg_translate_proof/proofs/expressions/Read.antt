@@ -11,9 +11,9 @@ use Rattle.tg_semantics.specs.Values.{Value, SourceWorld}
 use Rattle.tg_semantics.specs.Evaluation.{Location, in_variable}
 use Rattle.tg_semantics.specs.Passing.{Rest, with_found}
 use Rattle.tg_semantics.specs.MachineEnds.{rest_run}
-use Rattle.tg_types.specs.Types.{Ty}
-use Rattle.tg_types.specs.Has as has
-use Rattle.tg_types.specs.Has.{Has, HasPlace}
+use Rattle.tg_typecheck.specs.Types.{Ty}
+use Rattle.tg_typecheck.specs.Has as has
+use Rattle.tg_typecheck.specs.Has.{Has, HasPlace}
 use Rattle.tg_tree.specs.Tree.{Tx, Temp, Load, Stms, no_stms, stm}
 use Rattle.tg_tree.specs.Memory.{load}
 use Rattle.tg_tree.specs.Actions.{World, Temps, Go, charged, with_word}
@@ -23,7 +23,7 @@ use Rattle.tg_translate.specs.mirror.Wants.{Made, value}
 use Rattle.tg_translate.specs.mirror.Constructs.{Storage, in_temp, at_address, read, after_all}
 use Rattle.tg_translate.specs.mirror.Purity.{place_assigns_nothing}
 use Rattle.tg_translate.specs.mirror.Translate.{locate}
-use Rattle.tg_correct.specs.laws.Laws.{tree_work}
+use Rattle.tg_correctness.specs.laws.Laws.{tree_work}
 use Rattle.tg_translate_proof.specs.glue.Tables.{Later}
 use Rattle.tg_translate_proof.specs.glue.Worlds.{Holdings, Stands, GrowsTo, temporary, IsOf, word_of, HoldsVariable}
 use Rattle.tg_translate_proof.specs.glue.Situations.{Program, Part, Setting, Holds, IsReady, MayAssign, Extends, with_temps, value_runs, statements_run}

@@ -2,8 +2,8 @@
 use Rattle.std.proofs.Common.{◌≡◌, ℕ, suc, ◌+◌, ◌-◌, ◌*◌, ◌%◌, ◌/◌, ◌<◌, ◌≤◌, List, [], ◌++◌, length, Some, Bool, true, false, refl, sym, ap, ◌∙◌, arith, subst, inl, inr}
 use Rattle.std.specs.Prelude.{if◌then◌else◌, nat_lt}
 use Rattle.std.proofs.lemmas.Bool.{cases_lt, lt-ltb}
-use Rattle.tg_state.specs.declared.ends.RunEnd.TheVariants.{StackFull}
-use Rattle.tg_state.specs.State.{word_at, heap_base, stack_top}
+use Rattle.tg_machine_state.specs.declared.ends.RunEnd.TheVariants.{StackFull}
+use Rattle.tg_machine_state.specs.State.{word_at, heap_base, stack_top}
 use Rattle.tg_simulation.specs.Runs.{Run}
 use Rattle.tg_simulation.specs.Ran.{Ran, Ended, works}
 use Rattle.tg_simulation.specs.Outcomes.{Outcome, passes_limit}
@@ -14,7 +14,7 @@ use Rattle.tg_semantics.specs.Values.{Ending, SourceWorld, add_weight}
 use Rattle.tg_semantics.specs.Levels.{runtime_weight}
 use Rattle.tg_semantics.specs.MachineEnds.{rest_run, as_source}
 use Rattle.tg_semantics.specs.Passing.{Rest}
-use Rattle.tg_types.specs.Types.{Ty, Shape}
+use Rattle.tg_typecheck.specs.Types.{Ty, Shape}
 use Rattle.tg_tree.specs.Tree.{Ts, Function}
 use Rattle.tg_tree.specs.Units.{Trees, marked_entry_units}
 use Rattle.tg_tree.specs.Memory.{string_block}
@@ -32,7 +32,7 @@ use Rattle.tg_runtime_proof.specs.laws.Serving.{Serves, ServesWell, linked_host,
 use Rattle.tg_runtime_proof.proofs.Calling.{around_body}
 use Rattle.tg_runtime_proof.proofs.Running.{linked_are_served}
 use Rattle.tg_runtime_proof.proofs.Strings.{block_length}
-use Rattle.tg_correct.specs.laws.Laws.{tree_work}
+use Rattle.tg_correctness.specs.laws.Laws.{tree_work}
 use Rattle.tg_translate_proof.specs.glue.Worlds.{Holdings, IsText, Invariant, IsScene, Places, AllTemps, unknown}
 use Rattle.tg_translate_proof.specs.glue.Situations.{Program, Part, Setting, Holds, floor, going, calling, frames_at}
 use Rattle.tg_translate_proof.specs.glue.Shown.{FollowsHere}

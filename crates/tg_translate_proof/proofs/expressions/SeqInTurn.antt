@@ -13,9 +13,9 @@ use Rattle.tg_semantics.specs.Evaluation as evaluation
 use Rattle.tg_semantics.specs.MachineEnds.{rest_run}
 use Rattle.tg_semantics.specs.laws.Laws.{behind}
 use Rattle.tg_semantics.specs.Levels.{levels_of}
-use Rattle.tg_types.specs.Types.{Ty, int_type, none_type}
-use Rattle.tg_types.specs.Has as has
-use Rattle.tg_types.specs.Has.{Has, HasLast}
+use Rattle.tg_typecheck.specs.Types.{Ty, int_type, none_type}
+use Rattle.tg_typecheck.specs.Has as has
+use Rattle.tg_typecheck.specs.Has.{Has, HasLast}
 use Rattle.tg_tree.specs.Tree as tree
 use Rattle.tg_tree.specs.Tree.{Tx, Const, Ts, Stms, no_stms, stm}
 use Rattle.tg_tree.specs.glue.Lists.{join_stms}

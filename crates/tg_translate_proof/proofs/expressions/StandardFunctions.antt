@@ -5,8 +5,8 @@ use Rattle.std.specs.Prelude.{if◌then◌else◌, nat_lt, take, drop, ◌==◌,
 use Rattle.std.proofs.lemmas.Bool.{cases_lt, lt-ltb, le-ltb}
 use Rattle.std.proofs.lemmas.List.{length-append, length-take, length-drop}
 use Rattle.std.proofs.lemmas.List.Elements.{All-append, All-take, All-drop}
-use Rattle.tg_state.specs.declared.ends.RunEnd.TheVariants.{HeapFull, Break, Exit}
-use Rattle.tg_state.specs.State.{word_at, heap_base, stack_top, most_room}
+use Rattle.tg_machine_state.specs.declared.ends.RunEnd.TheVariants.{HeapFull, Break, Exit}
+use Rattle.tg_machine_state.specs.State.{word_at, heap_base, stack_top, most_room}
 use Rattle.tg_base.specs.Words.{is_negative, signed}
 use Rattle.tg_simulation.specs.Bytes.{AreBytes}
 use Rattle.tg_simulation.specs.Runs.{Run}
@@ -23,7 +23,7 @@ use Rattle.tg_semantics.specs.MachineEnds.{rest_run, machine_end}
 use Rattle.tg_semantics.specs.Passing.{Rest, Passing, passing, ends}
 use Rattle.tg_semantics.specs.declared.standards.Standard.TheVariants.{Print, Flush, Getchar, Ord, Chr, Size, Substring, Concat, Not}
 use Rattle.tg_semantics.specs.declared.standards.Standard.TheVariants as standard
-use Rattle.tg_types.specs.Types.{Ty, int_type, string_type, none_type}
+use Rattle.tg_typecheck.specs.Types.{Ty, int_type, string_type, none_type}
 use Rattle.tg_tree.specs.Units.{marked_entry_units}
 use Rattle.tg_tree.specs.Memory.{string_block, statics_of}
 use Rattle.tg_tree.specs.Actions.{World, Temps, Go, Back, over, written}
@@ -34,7 +34,7 @@ use Rattle.tg_runtime_proof.specs.laws.Serving.{Serves, Makes, ServesWell, with_
 use Rattle.tg_runtime_proof.specs.Memories.{IsStringAt}
 use Rattle.tg_runtime_proof.proofs.Strings.{block_length, block_small, string_ends}
 use Rattle.tg_runtime_proof.proofs.Signs.{below_lt, neither_of}
-use Rattle.tg_correct.specs.laws.Laws.{tree_work}
+use Rattle.tg_correctness.specs.laws.Laws.{tree_work}
 use Rattle.tg_translate_proof.specs.glue.Worlds.{Holdings, Stored, unknown, word, part, Stands, an_int, a_string, no_value, GrowsTo, IsText, IsScene, Invariant}
 use Rattle.tg_translate_proof.specs.glue.Situations.{Program, Part, Setting, Holds, floor, calling, frames_at, with_temps}
 use Rattle.tg_translate_proof.specs.glue.Shown.{FollowsHere}

@@ -4,22 +4,22 @@ use Rattle.std.specs.Prelude.{if◌then◌else◌}
 use Rattle.std.specs.List.{Contains}
 use Rattle.std.proofs.lemmas.List.Elements.{Contains-append_left, Contains-append_right}
 use Rattle.tg_base.specs.declared.ids.Span.{Span}
-use Rattle.tg_state.specs.State.{padded, statics_base}
+use Rattle.tg_machine_state.specs.State.{padded, statics_base}
 use Rattle.tg_syntax.specs.Tree.{Exp, Text}
 use Rattle.tg_simulation.specs.Runs.{Run}
 use Rattle.tg_simulation.specs.Agreement.{Source}
 use Rattle.tg_semantics.specs.Values.{string}
 use Rattle.tg_semantics.specs.MachineEnds.{rest_run}
-use Rattle.tg_types.specs.Types.{Ty, string_type}
-use Rattle.tg_types.specs.Scopes.{Scope}
-use Rattle.tg_types.specs.Has as has
-use Rattle.tg_types.specs.Has.{Has}
+use Rattle.tg_typecheck.specs.Types.{Ty, string_type}
+use Rattle.tg_typecheck.specs.Scopes.{Scope}
+use Rattle.tg_typecheck.specs.Has as has
+use Rattle.tg_typecheck.specs.Has.{Has}
 use Rattle.tg_tree.specs.Tree.{Address, Literal}
 use Rattle.tg_tree.specs.Memory.{literal_from, literal_address, string_text}
 use Rattle.tg_tree.specs.Actions.{Go, with_word}
 use Rattle.tg_translate.specs.mirror.States.{drawn}
 use Rattle.tg_translate.specs.mirror.Wants.{value}
-use Rattle.tg_correct.specs.laws.Laws.{tree_work}
+use Rattle.tg_correctness.specs.laws.Laws.{tree_work}
 use Rattle.tg_translate_proof.specs.glue.Worlds.{Stands, a_string}
 use Rattle.tg_translate_proof.specs.glue.Situations.{Program, value_runs}
 use Rattle.tg_translate_proof.specs.glue.Shown.{Situation, Shown, left_over, FollowsHere}

@@ -15,10 +15,10 @@ use Rattle.tg_semantics.specs.MachineEnds.{rest_run, as_source}
 use Rattle.tg_semantics.specs.laws.Laws.{behind}
 use Rattle.tg_semantics.proofs.AsSource.{turns_as_source}
 use Rattle.tg_semantics.proofs.Unfolding.{fuel_unfolds}
-use Rattle.tg_types.specs.Types.{Ty, int_type, none_type}
-use Rattle.tg_types.specs.Scopes.{in_a_loop}
-use Rattle.tg_types.specs.Has as has
-use Rattle.tg_types.specs.Has.{Has}
+use Rattle.tg_typecheck.specs.Types.{Ty, int_type, none_type}
+use Rattle.tg_typecheck.specs.Scopes.{in_a_loop}
+use Rattle.tg_typecheck.specs.Has as has
+use Rattle.tg_typecheck.specs.Has.{Has}
 use Rattle.tg_tree.specs.Tree as tree
 use Rattle.tg_tree.specs.Tree.{Ts, Cond}
 use Rattle.tg_tree.specs.Units.{Trees}
@@ -31,7 +31,7 @@ use Rattle.tg_translate.specs.mirror.States.{TranslationState, drawn}
 use Rattle.tg_translate.specs.mirror.Wants.{Made, done, test_of, dropped, condition_from, statement_from}
 use Rattle.tg_translate.specs.mirror.Constructs.{repeat_while, in_body, in_test}
 use Rattle.tg_translate.specs.mirror.Translate.{expression}
-use Rattle.tg_correct.specs.laws.Laws.{tree_work}
+use Rattle.tg_correctness.specs.laws.Laws.{tree_work}
 use Rattle.tg_translate_proof.specs.glue.Tables.{Later}
 use Rattle.tg_translate_proof.specs.glue.Worlds.{Holdings, GrowsTo, temporary, kept}
 use Rattle.tg_translate_proof.specs.glue.Situations.{Program, Part, Setting, Holds, IsReady, MayAssign, Extends, floor, statement_runs, test_runs, going_on}

@@ -10,11 +10,11 @@ use Rattle.tg_frame.specs.declared.accesses.Access.TheVariants.{InTemp, InFrame}
 use Rattle.tg_semantics.specs.Values.{Value, SourceWorld, put_variable}
 use Rattle.tg_semantics.specs.Environments.{find, to_variable}
 use Rattle.tg_semantics.specs.Evaluation.{in_variable}
-use Rattle.tg_types.specs.declared.notes.Means.TheVariants as means
-use Rattle.tg_types.specs.Types.{Ty}
+use Rattle.tg_typecheck.specs.declared.notes.Means.TheVariants as means
+use Rattle.tg_typecheck.specs.Types.{Ty}
 use Rattle.tg_semantics.specs.Environments.{name_of}
-use Rattle.tg_types.specs.Scopes.{at_of}
-use Rattle.tg_types.specs.Has.{HasPlace}
+use Rattle.tg_typecheck.specs.Scopes.{at_of}
+use Rattle.tg_typecheck.specs.Has.{HasPlace}
 use Rattle.tg_tree.specs.Tree.{Tx, Stms, no_stms}
 use Rattle.tg_tree.specs.Operators.{word}
 use Rattle.tg_tree.specs.FlatValue.{flat_value}

@@ -8,8 +8,8 @@ use Rattle.tg_simulation.specs.Agreement.{Source}
 use Rattle.tg_semantics.specs.Values.{Value, SourceWorld}
 use Rattle.tg_semantics.specs.Passing.{Rest}
 use Rattle.tg_semantics.specs.MachineEnds.{rest_run}
-use Rattle.tg_types.specs.Types.{Ty, int_type, none_type}
-use Rattle.tg_types.specs.Has.{Has}
+use Rattle.tg_typecheck.specs.Types.{Ty, int_type, none_type}
+use Rattle.tg_typecheck.specs.Has.{Has}
 use Rattle.tg_tree.specs.Tree.{Tx, Cond, Ts}
 use Rattle.tg_tree.specs.Actions.{World, Temps, set_temp, Go, Next}
 use Rattle.tg_translate.specs.declared.wants.Want.{Want}

@@ -2,7 +2,7 @@
 use Rattle.std.proofs.Common.{◌≡◌, ◌≢◌, ℕ, zero, suc, ◌+◌, ◌*◌, ◌<◌, ◌≤◌, ◌^◌, ◌==◌, List, [], ◌∷◌, ◌++◌, Option, Some, None, Bool, true, false, refl, sym, ap, ◌∙◌, arith, subst, eqb-true, eq-eqb}
 use Rattle.std.specs.Prelude.{if◌then◌else◌, slice_get, not, ◌-◌}
 use Rattle.tg_base.specs.declared.ids.Span.{Span}
-use Rattle.tg_state.specs.State.{stack_top}
+use Rattle.tg_machine_state.specs.State.{stack_top}
 use Rattle.tg_syntax.specs.Tree.{Exp, Int}
 use Rattle.tg_simulation.specs.Runs.{Run}
 use Rattle.tg_simulation.specs.Ran.{Ran, works}
@@ -18,11 +18,11 @@ use Rattle.tg_semantics.specs.Passing.{Rest, Passing, passing}
 use Rattle.tg_semantics.specs.Evaluation.{eval}
 use Rattle.tg_semantics.specs.MachineEnds.{rest_run}
 use Rattle.tg_semantics.specs.laws.Laws.{behind}
-use Rattle.tg_types.specs.declared.notes.Note.{Note}
-use Rattle.tg_types.specs.Types.{Ty, Shape, int_type, none_type}
-use Rattle.tg_types.specs.Scopes.{Scope}
-use Rattle.tg_types.specs.Has as has
-use Rattle.tg_types.specs.Has.{Has}
+use Rattle.tg_typecheck.specs.declared.notes.Note.{Note}
+use Rattle.tg_typecheck.specs.Types.{Ty, Shape, int_type, none_type}
+use Rattle.tg_typecheck.specs.Scopes.{Scope}
+use Rattle.tg_typecheck.specs.Has as has
+use Rattle.tg_typecheck.specs.Has.{Has}
 use Rattle.tg_tree.specs.Tree.{Tx, Const, Temp, After, Cond, Ts, Move, Literal, Function}
 use Rattle.tg_tree.specs.Units.{Trees}
 use Rattle.tg_tree.specs.Actions.{World, Temps, set_temp, Around, Go, Next, with_word}
@@ -33,7 +33,7 @@ use Rattle.tg_translate.specs.declared.wants.Want.TheVariants as want
 use Rattle.tg_translate.specs.mirror.States.{TranslationState, Translated, drawn, Translates, after}
 use Rattle.tg_translate.specs.mirror.Wants.{Made, value, done, test, value_of}
 use Rattle.tg_translate.specs.mirror.Scopes.{Findings}
-use Rattle.tg_correct.specs.laws.Laws.{tree_work}
+use Rattle.tg_correctness.specs.laws.Laws.{tree_work}
 use Rattle.tg_translate_proof.specs.glue.Worlds.{Holdings, Stands, an_int, GrowsTo, unknown, Invariant, Key, cell, temporary, nowhere, free, HoldsAt, word_of}
 use Rattle.tg_translate_proof.specs.glue.Worlds.{variable, kept, fixed, Content, Places, AllTemps}
 use Rattle.tg_translate_proof.specs.glue.Situations as situations

@@ -21,17 +21,17 @@ use Rattle.tg_escape.specs.Uses.{functions_uses, declare_variable, declare_param
 use Rattle.tg_escape.specs.Escaping.{escapes_by}
 use Rattle.tg_escape.specs.Links.{links_by}
 use Rattle.tg_semantics.specs.Levels.{activation}
-use Rattle.tg_types.specs.declared.notes.Note.{Note}
-use Rattle.tg_types.specs.declared.notes.Means.{Means}
-use Rattle.tg_types.specs.declared.notes.Means.TheVariants as means
-use Rattle.tg_types.specs.Types.{Ty, int_type, string_type, none_type, record_type, array_type, Shape}
-use Rattle.tg_types.specs.Scopes.{Signature, Binding, variable_at, function_at, standard_one, Scope, in_a_loop}
+use Rattle.tg_typecheck.specs.declared.notes.Note.{Note}
+use Rattle.tg_typecheck.specs.declared.notes.Means.{Means}
+use Rattle.tg_typecheck.specs.declared.notes.Means.TheVariants as means
+use Rattle.tg_typecheck.specs.Types.{Ty, int_type, string_type, none_type, record_type, array_type, Shape}
+use Rattle.tg_typecheck.specs.Scopes.{Signature, Binding, variable_at, function_at, standard_one, Scope, in_a_loop}
 use Rattle.tg_semantics.specs.Environments.{name_of}
-use Rattle.tg_types.specs.Scopes.{in_no_loop, binding, at_of, outermost_scope, entry, standard_bindings, standard_of}
+use Rattle.tg_typecheck.specs.Scopes.{in_no_loop, binding, at_of, outermost_scope, entry, standard_bindings, standard_of}
 use Rattle.tg_semantics.specs.declared.standards.Standard.{Standard}
 use Rattle.tg_semantics.specs.Environments.{standards}
-use Rattle.tg_types.specs.Groups.{with_functions, with_params}
-use Rattle.tg_types.specs.Has as Has
+use Rattle.tg_typecheck.specs.Groups.{with_functions, with_params}
+use Rattle.tg_typecheck.specs.Has as Has
 use Rattle.tg_translate.specs.declared.homes.Home.{Home}
 use Rattle.tg_translate.specs.declared.homes.Callee.{Callee}
 use Rattle.tg_translate.specs.mirror.Scopes.{Findings}

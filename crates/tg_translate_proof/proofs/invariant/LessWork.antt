@@ -5,7 +5,7 @@ use Rattle.tg_simulation.specs.Ran.{Ran, works, Wrong}
 use Rattle.tg_tree.specs.Actions.{World, over}
 use Rattle.tg_simulation.specs.Agreement.{Source, Matches, same, cut, unsaid, Fits, Follows}
 use Rattle.tg_simulation.specs.Outcomes.{End, ended, out_of_fuel, stuck}
-use Rattle.tg_state.specs.declared.ends.RunEnd.{RunEnd}
+use Rattle.tg_machine_state.specs.declared.ends.RunEnd.{RunEnd}
 
 match_unworked : (stack a r k : ℕ) (o : Source) (p : Ran) → Matches stack a r o (works k p) → Matches stack a r o p
 match_unworked stack a r k o p (same e i f q w) = same e i f q (omega arith)

@@ -1,11 +1,11 @@
 -- What the lemmas on places need, of names in sight, of the invariant and of the states of a
 -- translation.
 use Rattle.std.proofs.Common.{◌≡◌, ℕ, ◌≤◌, List, Some, refl, sym, ap, ◌∙◌, arith, subst}
-use Rattle.tg_types.specs.declared.notes.Means.TheVariants as means
-use Rattle.tg_types.specs.Types.{Ty}
+use Rattle.tg_typecheck.specs.declared.notes.Means.TheVariants as means
+use Rattle.tg_typecheck.specs.Types.{Ty}
 use Rattle.tg_semantics.specs.Environments.{name_of}
-use Rattle.tg_types.specs.Scopes.{variable_at, bound, at_of}
-use Rattle.tg_types.specs.Has.{Says}
+use Rattle.tg_typecheck.specs.Scopes.{variable_at, bound, at_of}
+use Rattle.tg_typecheck.specs.Has.{Says}
 use Rattle.tg_syntax.specs.declared.tokens.Ident.{Ident}
 use Rattle.tg_translate.specs.mirror.States.{TranslationState}
 use Rattle.tg_translate_proof.specs.glue.Covered.{CoversName, CoversUse}

@@ -12,9 +12,9 @@ use Rattle.tg_simulation.proofs.Following.{follows_paying, follows_with_credit}
 use Rattle.tg_semantics.specs.Values.{Value, SourceWorld, Env, Ending}
 use Rattle.tg_semantics.specs.Passing.{Rest, ends}
 use Rattle.tg_semantics.specs.MachineEnds.{rest_run, machine_end}
-use Rattle.tg_types.specs.Types.{Ty, int_type, none_type}
-use Rattle.tg_types.specs.Scopes.{Binding}
-use Rattle.tg_types.specs.Has.{Has}
+use Rattle.tg_typecheck.specs.Types.{Ty, int_type, none_type}
+use Rattle.tg_typecheck.specs.Scopes.{Binding}
+use Rattle.tg_typecheck.specs.Has.{Has}
 use Rattle.tg_tree.specs.Tree.{Tx, Cond, Ts}
 use Rattle.tg_tree.specs.Actions.{World, Temps, set_temp, Go, Next, over}
 use Rattle.tg_translate.specs.declared.homes.Within.{Within}
@@ -23,7 +23,7 @@ use Rattle.tg_translate.specs.declared.wants.Want.TheVariants as want
 use Rattle.tg_translate.specs.mirror.States.{TranslationState, drawn, Translates}
 use Rattle.tg_translate.specs.mirror.Wants.{Made, value_of, test_of, put_in, dropped, value_from, condition_from, arm_from, statement_from}
 use Rattle.tg_translate.specs.mirror.Translate.{expression}
-use Rattle.tg_correct.specs.laws.Laws.{tree_work}
+use Rattle.tg_correctness.specs.laws.Laws.{tree_work}
 use Rattle.tg_translate_proof.specs.glue.Tables.{Later, IsMoment}
 use Rattle.tg_translate_proof.specs.glue.Worlds.{Holdings, Stands, GrowsTo, Places, Scene, Key, IsOf}
 use Rattle.tg_translate_proof.specs.glue.Situations as situations

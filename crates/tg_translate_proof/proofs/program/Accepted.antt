@@ -17,10 +17,10 @@ use Rattle.tg_symbols.specs.Tables.{looked_up}
 use Rattle.tg_escape.specs.Uses.{Use, uses_of}
 use Rattle.tg_escape.specs.Escaping.{escapes_by, escapes_of}
 use Rattle.tg_escape.specs.Links.{links_by, links_of}
-use Rattle.tg_types.specs.Scopes.{outermost_scope}
-use Rattle.tg_types.specs.Programs.{CheckedProgram, IsAccepted}
-use Rattle.tg_types.proofs.Derivations.{checked_has_type}
-use Rattle.tg_types.proofs.NotesFound.{notes_are_found}
+use Rattle.tg_typecheck.specs.Scopes.{outermost_scope}
+use Rattle.tg_typecheck.specs.Programs.{CheckedProgram, IsAccepted}
+use Rattle.tg_typecheck.proofs.Derivations.{checked_has_type}
+use Rattle.tg_typecheck.proofs.NotesFound.{notes_are_found}
 use Rattle.tg_translate_laws.proofs.Counts.{same, times, times-append, same_self, same_not}
 use Rattle.tg_translate.specs.declared.wants.Want.TheVariants as want
 use Rattle.tg_translate.specs.mirror.States.{TranslationState, Translated}
@@ -35,8 +35,8 @@ use Rattle.tg_translate_proof.specs.laws.Laws.{findings_of}
 use Rattle.tg_translate_proof.proofs.state.TranslationStates.{state_in, behind_none}
 use Rattle.tg_translate_proof.proofs.program.Program.{first_state}
 use Rattle.tg_translate_proof.proofs.invariant.Covered.{Declares, HasVariable, IsWeighed, AllFound, covers, first_here, first_stands}
-use Rattle.tg_types.specs.Types.{Shape}
-use Rattle.tg_types.specs.declared.notes.Note.{Note}
+use Rattle.tg_typecheck.specs.Types.{Shape}
+use Rattle.tg_typecheck.specs.declared.notes.Note.{Note}
 use Rattle.tg_translate_proof.proofs.state.DeclaredBytes.{many, names_declare, declares, place_declares}
 use Rattle.tg_translate_proof.proofs.state.DeclaredBytes.{exps_declare, inits_declare, decs_declare, bodies_declare, begin_there}
 use Rattle.tg_translate_proof.proofs.state.Tables.{Once, Shows, InTable, AreWeighed, AreTied, found_times}

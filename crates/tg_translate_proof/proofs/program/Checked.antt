@@ -13,10 +13,10 @@ use Rattle.tg_syntax.specs.Functions.{Measures, measures, program_functions}
 use Rattle.tg_syntax.specs.Spans.{span_of}
 use Rattle.tg_symbols.specs.Tables.{looked_up}
 use Rattle.tg_escape.specs.Links.{links_of}
-use Rattle.tg_types.specs.Derivations.{Derivation}
-use Rattle.tg_types.specs.Programs.{CheckedProgram, IsAccepted}
-use Rattle.tg_types.proofs.Derivations.{checked_has_type}
-use Rattle.tg_types.proofs.NotesFound.{notes_are_found}
+use Rattle.tg_typecheck.specs.Derivations.{Derivation}
+use Rattle.tg_typecheck.specs.Programs.{CheckedProgram, IsAccepted}
+use Rattle.tg_typecheck.proofs.Derivations.{checked_has_type}
+use Rattle.tg_typecheck.proofs.NotesFound.{notes_are_found}
 use Rattle.tg_tree.specs.Tree.{Ts, Function}
 use Rattle.tg_tree.specs.FrameSizes.{innermost}
 use Rattle.tg_tree.specs.Running.{function_of}

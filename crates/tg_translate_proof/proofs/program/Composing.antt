@@ -1,6 +1,6 @@
 -- From the simulation of the run that looks at static links to the theorem.
 use Rattle.std.proofs.Common.{◌≡◌, ℕ, ◌-◌, List, refl, sym, ap, ◌∙◌}
-use Rattle.tg_state.specs.State.{stack_top}
+use Rattle.tg_machine_state.specs.State.{stack_top}
 use Rattle.tg_simulation.specs.Agreement.{Follows, Agrees}
 use Rattle.tg_simulation.specs.laws.Laws.{NeverEndsFull, NeverStuck}
 use Rattle.tg_simulation.proofs.Agreeing.{following_agrees, following_fills}
@@ -8,12 +8,12 @@ use Rattle.tg_simulation.proofs.Following.{follows_along}
 use Rattle.tg_semantics.specs.Passing.{evaluate_passing}
 use Rattle.tg_semantics.proofs.AsSource.{no_ending_is_full, only_stuck_is_stuck}
 use Rattle.tg_semantics.proofs.Twin.{twins}
-use Rattle.tg_types.specs.Programs.{CheckedProgram}
-use Rattle.tg_types.proofs.NeverStuck.{never_stuck}
+use Rattle.tg_typecheck.specs.Programs.{CheckedProgram}
+use Rattle.tg_typecheck.proofs.NeverStuck.{never_stuck}
 use Rattle.tg_tree.specs.Units.{Trees}
 use Rattle.tg_tree.proofs.TreeRuns.{trees_stay_over}
 use Rattle.tg_tree.proofs.Linked.{linked_stays_over, linked_is_trees}
-use Rattle.tg_correct.specs.laws.Laws.{tree_work, tree_besides}
+use Rattle.tg_correctness.specs.laws.Laws.{tree_work, tree_besides}
 use Rattle.tg_translate_proof.specs.laws.Laws.{LinkedTreesFollow, TranslateIsCorrect, MayRun, source_run, trees_run, with_links, trees_of, level_in}
 
 module _ (p : CheckedProgram) (size : ℕ → ℕ) (heap stack : ℕ) (input : List ℕ) (may : MayRun p size heap stack input) where

@@ -1,10 +1,10 @@
 -- What the theorem says of the static links of calls, and of runs with other sizes of frames.
 use Rattle.std.proofs.Common.{◌≡◌, ◌≢◌, ◌⊎◌, inl, inr, ℕ, List, sym, ap, ◌∙◌, subst}
-use Rattle.tg_state.specs.declared.ends.RunEnd.{RunEnd}
-use Rattle.tg_state.specs.declared.ends.RunEnd.TheVariants.{StackFull}
+use Rattle.tg_machine_state.specs.declared.ends.RunEnd.{RunEnd}
+use Rattle.tg_machine_state.specs.declared.ends.RunEnd.TheVariants.{StackFull}
 use Rattle.tg_simulation.specs.Bytes.{IsPrefix}
 use Rattle.tg_simulation.specs.Ran.{Ran, Ended}
-use Rattle.tg_types.specs.Programs.{CheckedProgram}
+use Rattle.tg_typecheck.specs.Programs.{CheckedProgram}
 use Rattle.tg_translate_proof.specs.laws.Laws.{MayRun, TranslateIsCorrect, trees_run, EndsAlike, IsFullBefore, LinksOfCallsAreRight, SizesTellNothing}
 
 pub links_are_right : TranslateIsCorrect → LinksOfCallsAreRight

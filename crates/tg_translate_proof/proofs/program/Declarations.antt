@@ -19,12 +19,12 @@ use Rattle.tg_semantics.specs.Evaluation.{function_count, with_variable}
 use Rattle.tg_semantics.specs.Passing.{Rest, Passing, passing}
 use Rattle.tg_semantics.specs.MachineEnds.{rest_run}
 use Rattle.tg_semantics.specs.laws.Laws.{behind}
-use Rattle.tg_types.specs.Types.{Ty}
+use Rattle.tg_typecheck.specs.Types.{Ty}
 use Rattle.tg_semantics.specs.Environments.{name_of}
-use Rattle.tg_types.specs.Scopes.{Scope, Signature, variable_at, binding, at_of, in_no_loop}
-use Rattle.tg_types.specs.Groups.{with_functions}
-use Rattle.tg_types.specs.Has as has
-use Rattle.tg_types.specs.Has.{Has, HasDecs, HasBodies, Apart}
+use Rattle.tg_typecheck.specs.Scopes.{Scope, Signature, variable_at, binding, at_of, in_no_loop}
+use Rattle.tg_typecheck.specs.Groups.{with_functions}
+use Rattle.tg_typecheck.specs.Has as has
+use Rattle.tg_typecheck.specs.Has.{Has, HasDecs, HasBodies, Apart}
 use Rattle.tg_tree.specs.Tree.{Ts, Stms, no_stms, stm}
 use Rattle.tg_tree.specs.glue.Lists.{join_stms}
 use Rattle.tg_tree.proofs.ListLaws.{join_stms-none, join_stms-assoc}
@@ -37,7 +37,7 @@ use Rattle.tg_translate.specs.mirror.States.{TranslationState, drawn, Translates
 use Rattle.tg_translate.specs.mirror.Wants.{Made, value_of, followed}
 use Rattle.tg_translate.specs.mirror.Functions.{declare_functions}
 use Rattle.tg_translate.specs.mirror.Translate.{expression, declarations, declaration_of, bodies}
-use Rattle.tg_correct.specs.laws.Laws.{tree_work}
+use Rattle.tg_correctness.specs.laws.Laws.{tree_work}
 use Rattle.tg_translate_proof.specs.glue.Covered.{CoversDecs, CoversFunctions}
 use Rattle.tg_translate_proof.specs.glue.Tables.{Later, HasFound}
 use Rattle.tg_translate_proof.specs.glue.Worlds.{Holdings, GrowsTo, Key, temporary, variable, kept, Places}

@@ -4,12 +4,12 @@ use Rattle.std.proofs.Common.{refl, sym, ap, ◌∙◌, arith, inl, inr, eqb-tru
 use Rattle.std.specs.Prelude.{if◌then◌else◌, ◌⊎◌, All}
 use Rattle.std.proofs.lemmas.Bool.{cases_lt}
 use Rattle.std.specs.Str.{bytes_eq}
-use Rattle.tg_state.specs.State.{stack_top, most_bytes, statics_base, heap_base, offset, word_at}
+use Rattle.tg_machine_state.specs.State.{stack_top, most_bytes, statics_base, heap_base, offset, word_at}
 use Rattle.tg_semantics.specs.declared.standards.Standard.{Standard}
 use Rattle.tg_semantics.specs.Values.{SourceWorld, initial_world, add_weight, Entry, standard}
 use Rattle.tg_semantics.specs.Environments.{outermost_entries, outermost_from, standards, standards_of, standard_text}
 use Rattle.tg_semantics.specs.Levels.{levels_of}
-use Rattle.tg_types.specs.Scopes.{Binding, standard_one, standard_of, standard_bindings, entry}
+use Rattle.tg_typecheck.specs.Scopes.{Binding, standard_one, standard_of, standard_bindings, entry}
 use Rattle.tg_tree.specs.Tree.{Literal}
 use Rattle.tg_tree.specs.Memory.{Memory, Closed, Unset, lay, slot, begin, statics_of, literal_address, string_text, string_block, cell_word, or_heap, word_in}
 use Rattle.tg_tree.specs.Actions.{World}

@@ -5,7 +5,7 @@ use Rattle.std.proofs.Common.{eq-eqb, ne_eqb, inl, inr}
 use Rattle.std.specs.Prelude.{if◌then◌else◌, ◌%◌, ◌-◌, ◌⊎◌, length, map}
 use Rattle.std.proofs.lemmas.Bool.{cases_lt}
 use Rattle.std.proofs.lemmas.List.{length-map}
-use Rattle.tg_state.specs.State.{stack_top}
+use Rattle.tg_machine_state.specs.State.{stack_top}
 use Rattle.tg_frame.specs.declared.accesses.Access.{Access}
 use Rattle.tg_frame.specs.Homes.{homes_of, homes_from, slots_of, temps_of}
 use Rattle.tg_simulation.specs.Runs.{Run}
@@ -21,9 +21,9 @@ use Rattle.tg_semantics.specs.MachineEnds.{rest_run, as_source}
 use Rattle.tg_semantics.specs.laws.Laws.{behind}
 use Rattle.tg_semantics.proofs.Unfolding.{fuel_unfolds}
 use Rattle.tg_simulation.specs.Outcomes.{stuck}
-use Rattle.tg_types.specs.Types.{Ty, none_type}
-use Rattle.tg_types.specs.Scopes.{Signature, at_of, in_no_loop}
-use Rattle.tg_types.specs.Groups.{with_params}
+use Rattle.tg_typecheck.specs.Types.{Ty, none_type}
+use Rattle.tg_typecheck.specs.Scopes.{Signature, at_of, in_no_loop}
+use Rattle.tg_typecheck.specs.Groups.{with_params}
 use Rattle.tg_tree.specs.Tree.{Ts, Function}
 use Rattle.tg_tree.specs.Units.{Trees}
 use Rattle.tg_tree.specs.FrameSizes.{IsSizeOf}
@@ -40,7 +40,7 @@ use Rattle.tg_translate.specs.mirror.States.{TranslationState, drawn}
 use Rattle.tg_translate.specs.mirror.Wants.{Made, done}
 use Rattle.tg_translate.specs.mirror.Functions.{asked, own_homes, frame_for, opened as opened_state, inside, closing, result_want, with_body, parameters}
 use Rattle.tg_translate.specs.mirror.Translate.{expression}
-use Rattle.tg_correct.specs.laws.Laws.{tree_work}
+use Rattle.tg_correctness.specs.laws.Laws.{tree_work}
 use Rattle.tg_translate_proof.specs.glue.Covered.{with_level, Covers}
 use Rattle.tg_translate_proof.specs.glue.Tables.{IsMoment, Later, HasFound}
 use Rattle.tg_translate_proof.specs.glue.Worlds.{Holdings, Stands, Places, Key, cell, temporary, nowhere, fixed}

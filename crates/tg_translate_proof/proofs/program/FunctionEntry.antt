@@ -4,7 +4,7 @@ use Rattle.std.proofs.Common.{refl, sym, ap, ◌∙◌, arith, subst}
 use Rattle.std.proofs.Common.{eq-eqb, eqb-true, inl, inr}
 use Rattle.std.specs.Prelude.{if◌then◌else◌, slice_get, ◌-◌, ◌⊎◌, length, map}
 use Rattle.std.proofs.lemmas.Bool.{cases_lt}
-use Rattle.tg_state.specs.State.{heap_base}
+use Rattle.tg_machine_state.specs.State.{heap_base}
 use Rattle.tg_frame.specs.declared.accesses.Access.{Access}
 use Rattle.tg_frame.specs.declared.accesses.Access.TheVariants.{InTemp, InFrame}
 use Rattle.tg_frame.specs.Homes.{homes_from, slots_of, temps_of}
@@ -20,11 +20,11 @@ use Rattle.tg_semantics.specs.Levels.{levels_of}
 use Rattle.tg_semantics.specs.Passing.{Rest, Passing, passing}
 use Rattle.tg_semantics.specs.MachineEnds.{rest_run}
 use Rattle.tg_semantics.specs.laws.Laws.{behind}
-use Rattle.tg_types.specs.Types.{Ty}
+use Rattle.tg_typecheck.specs.Types.{Ty}
 use Rattle.tg_semantics.specs.Environments.{name_of}
-use Rattle.tg_types.specs.Scopes.{Scope, Binding, variable_at, function_at, standard_one, at_of, binding}
-use Rattle.tg_types.specs.Groups.{with_params}
-use Rattle.tg_types.specs.Has.{HasValues, HaveValues}
+use Rattle.tg_typecheck.specs.Scopes.{Scope, Binding, variable_at, function_at, standard_one, at_of, binding}
+use Rattle.tg_typecheck.specs.Groups.{with_params}
+use Rattle.tg_typecheck.specs.Has.{HasValues, HaveValues}
 use Rattle.tg_tree.specs.Memory.{Memory, Closed, lay, slot}
 use Rattle.tg_tree.specs.Actions.{World, Temps, set_temp}
 use Rattle.tg_runtime_proof.proofs.Calling.{placed_world, placed_temps}

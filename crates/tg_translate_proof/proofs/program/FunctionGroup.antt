@@ -12,13 +12,13 @@ use Rattle.tg_symbols.specs.Tables.{looked_up}
 use Rattle.tg_semantics.specs.Values.{Entry, group}
 use Rattle.tg_semantics.specs.Levels.{levels_of}
 use Rattle.tg_semantics.specs.Evaluation.{function_count}
-use Rattle.tg_types.specs.Types.{none_type}
+use Rattle.tg_typecheck.specs.Types.{none_type}
 use Rattle.std.proofs.lemmas.List.Elements.{Contains-append_right}
 use Rattle.tg_semantics.specs.Environments.{name_of}
-use Rattle.tg_types.specs.Scopes.{Scope, Signature, function_at, binding, in_no_loop}
-use Rattle.tg_types.specs.Groups.{with_functions}
-use Rattle.tg_types.specs.Has as has
-use Rattle.tg_types.specs.Has.{HasBodies, Apart, GivesBack}
+use Rattle.tg_typecheck.specs.Scopes.{Scope, Signature, function_at, binding, in_no_loop}
+use Rattle.tg_typecheck.specs.Groups.{with_functions}
+use Rattle.tg_typecheck.specs.Has as has
+use Rattle.tg_typecheck.specs.Has.{HasBodies, Apart, GivesBack}
 use Rattle.tg_tree.specs.Tree.{Ts, Function}
 use Rattle.tg_tree.specs.Running.{function_of}
 use Rattle.tg_translate.specs.declared.homes.Callee.{Callee}

@@ -1,8 +1,8 @@
 -- Groups of functions that are declared are done.
 use Rattle.std.proofs.Common.{List, [], ◌∷◌}
 use Rattle.tg_syntax.specs.Tree.{FunDecs, no_functions, function}
-use Rattle.tg_types.specs.Scopes.{Scope, Signature}
-use Rattle.tg_types.specs.Has.{HasBodies, a_body, end_bodies}
+use Rattle.tg_typecheck.specs.Scopes.{Scope, Signature}
+use Rattle.tg_typecheck.specs.Has.{HasBodies, a_body, end_bodies}
 use Rattle.tg_translate_proof.specs.glue.Situations.{Program, Setting}
 use Rattle.tg_translate_proof.proofs.invariant.Parts.{StatesGrow}
 use Rattle.tg_translate_proof.proofs.program.Declarations.{Groups}

@@ -5,8 +5,8 @@ use Rattle.tg_simulation.specs.Agreement.{Source}
 use Rattle.tg_semantics.specs.Values.{Value, SourceWorld}
 use Rattle.tg_semantics.specs.Passing.{Rest}
 use Rattle.tg_semantics.specs.MachineEnds.{rest_run}
-use Rattle.tg_types.specs.Types.{Ty, none_type}
-use Rattle.tg_types.specs.Has.{Fits, GivesBack, the_same, nil_for}
+use Rattle.tg_typecheck.specs.Types.{Ty, none_type}
+use Rattle.tg_typecheck.specs.Has.{Fits, GivesBack, the_same, nil_for}
 use Rattle.tg_tree.specs.Tree.{Tx, Ts}
 use Rattle.tg_tree.specs.Actions.{World, Temps, Go, Next, charged}
 use Rattle.tg_translate.specs.declared.wants.Want.TheVariants as want
@@ -14,7 +14,7 @@ use Rattle.tg_translate.specs.mirror.States.{TranslationState, drawn}
 use Rattle.tg_translate.specs.mirror.Wants.{Made, value_of, dropped}
 use Rattle.tg_translate.specs.mirror.Functions.{closing, result_want}
 use Rattle.tg_translate.specs.mirror.Returning.{given_back}
-use Rattle.tg_correct.specs.laws.Laws.{tree_work}
+use Rattle.tg_correctness.specs.laws.Laws.{tree_work}
 use Rattle.tg_translate_proof.specs.glue.Tables.{Later}
 use Rattle.tg_translate_proof.specs.glue.Worlds.{Holdings, Stands, a_nil, a_nil_record, GrowsTo, temporary, nowhere}
 use Rattle.tg_translate_proof.specs.glue.Situations.{Program, Part, Holds, Extends, statement_runs}

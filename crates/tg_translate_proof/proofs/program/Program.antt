@@ -4,8 +4,8 @@ use Rattle.std.proofs.Common.{refl, sym, ap, ◌∙◌, arith, subst, inl, inr}
 use Rattle.std.specs.Prelude.{if◌then◌else◌, All, nat_lt, pos}
 use Rattle.std.specs.List.{Contains}
 use Rattle.std.proofs.lemmas.Bool.{ltb-true, lt-ltb, cases_lt}
-use Rattle.tg_state.specs.declared.ends.RunEnd.TheVariants.{Exit, StackFull}
-use Rattle.tg_state.specs.State.{stack_top}
+use Rattle.tg_machine_state.specs.declared.ends.RunEnd.TheVariants.{Exit, StackFull}
+use Rattle.tg_machine_state.specs.State.{stack_top}
 use Rattle.tg_syntax.specs.OfWords.{OfWords}
 use Rattle.tg_syntax.specs.Tree.{Exp}
 use Rattle.tg_simulation.specs.Runs.{Run}
@@ -19,9 +19,9 @@ use Rattle.tg_semantics.specs.Levels.{program_weight}
 use Rattle.tg_semantics.specs.Passing.{Rest, ends}
 use Rattle.tg_semantics.specs.MachineEnds.{program_run, rest_run, as_source}
 use Rattle.tg_semantics.proofs.Unfolding.{program_unfolds}
-use Rattle.tg_types.specs.Types.{Ty}
-use Rattle.tg_types.specs.Scopes as scopes
-use Rattle.tg_types.specs.Has.{Has}
+use Rattle.tg_typecheck.specs.Types.{Ty}
+use Rattle.tg_typecheck.specs.Scopes as scopes
+use Rattle.tg_typecheck.specs.Has.{Has}
 use Rattle.tg_tree.specs.Tree.{Ts, Const, Return, Function}
 use Rattle.tg_tree.specs.Units.{Trees}
 use Rattle.tg_tree.specs.Memory.{statics_of, string_text, slot, begin}
@@ -38,7 +38,7 @@ use Rattle.tg_translate.specs.mirror.Wants.{Made, dropped}
 use Rattle.tg_translate.specs.mirror.Functions as functions
 use Rattle.tg_translate.specs.mirror.Functions.{beginning, frame_for, with_body, gives_nothing}
 use Rattle.tg_translate.specs.mirror.Translate.{expression}
-use Rattle.tg_correct.specs.laws.Laws.{tree_work, tree_besides}
+use Rattle.tg_correctness.specs.laws.Laws.{tree_work, tree_besides}
 use Rattle.tg_translate_proof.specs.glue.Tables.{IsMoment}
 use Rattle.tg_translate_proof.specs.glue.Covered.{Covers}
 use Rattle.tg_translate_proof.specs.glue.Worlds.{cell, temporary, kept, free}

@@ -7,9 +7,9 @@ use Rattle.std.proofs.lemmas.List.Elements.{Contains-append_left}
 use Rattle.tg_syntax.specs.Functions.{measures, declared, program_functions}
 use Rattle.tg_syntax.specs.Spans.{span_of}
 use Rattle.tg_semantics.specs.Levels.{program_weight}
-use Rattle.tg_types.specs.Programs.{CheckedProgram}
-use Rattle.tg_types.specs.Derivations.{Derivation}
-use Rattle.tg_types.proofs.Derivations.{checked_has_type}
+use Rattle.tg_typecheck.specs.Programs.{CheckedProgram}
+use Rattle.tg_typecheck.specs.Derivations.{Derivation}
+use Rattle.tg_typecheck.proofs.Derivations.{checked_has_type}
 use Rattle.tg_tree.specs.Tree.{Ts, Function, Literal}
 use Rattle.tg_tree.specs.Running.{function_of}
 use Rattle.tg_runtime.specs.mirror.Routines.{runtime}

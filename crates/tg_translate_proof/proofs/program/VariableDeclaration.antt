@@ -3,7 +3,7 @@
 use Rattle.std.proofs.Common.{◌≡◌, ◌≢◌, ℕ, zero, suc, ◌+◌, ◌-◌, ◌*◌, ◌%◌, ◌<◌, ◌≤◌, ◌==◌, List, [], ◌∷◌, ◌++◌, Option, Some, None, Bool, true, false, refl, sym, ap, ◌∙◌}
 use Rattle.std.proofs.Common.{arith, subst, inl, inr, eq-eqb, append_assoc}
 use Rattle.std.specs.Prelude.{slice_get, length, ◌⊎◌, if◌then◌else◌}
-use Rattle.tg_state.specs.State.{stack_top, heap_base}
+use Rattle.tg_machine_state.specs.State.{stack_top, heap_base}
 use Rattle.tg_syntax.specs.declared.tokens.Ident.{Ident}
 use Rattle.tg_syntax.specs.OfWords.{OfWords}
 use Rattle.tg_syntax.specs.Tree.{Exp}
@@ -16,10 +16,10 @@ use Rattle.tg_semantics.specs.Values.{Value, SourceWorld, Env, add_variable}
 use Rattle.tg_semantics.specs.Evaluation.{with_variable}
 use Rattle.tg_semantics.specs.Passing.{Rest}
 use Rattle.tg_semantics.specs.MachineEnds.{rest_run}
-use Rattle.tg_types.specs.Types.{Ty, int_type, none_type}
+use Rattle.tg_typecheck.specs.Types.{Ty, int_type, none_type}
 use Rattle.tg_semantics.specs.Environments.{name_of}
-use Rattle.tg_types.specs.Scopes.{Scope, variable_at, binding, at_of}
-use Rattle.tg_types.specs.Has.{Has, HasValues, Fits}
+use Rattle.tg_typecheck.specs.Scopes.{Scope, variable_at, binding, at_of}
+use Rattle.tg_typecheck.specs.Has.{Has, HasValues, Fits}
 use Rattle.tg_frame.specs.declared.accesses.Access.{Access}
 use Rattle.tg_frame.specs.declared.accesses.Access.TheVariants.{InTemp, InFrame}
 use Rattle.tg_tree.specs.Tree.{Tx, Ts, FrameAddress, Store}

@@ -8,7 +8,7 @@ use Rattle.tg_syntax.specs.Tree.{When, While, For, Let, Seq, LValue, Simple, Fie
 use Rattle.tg_syntax.specs.Tree.{types, variable, functions, FunDecs, no_functions, function}
 use Rattle.tg_syntax.specs.Beginnings.{param_beginnings, form_beginnings, type_beginnings, kind_beginnings, beginnings, place_beginnings}
 use Rattle.tg_syntax.specs.Beginnings.{exps_beginnings, inits_beginnings, decs_beginnings, function_beginnings}
-use Rattle.tg_types.specs.Scopes.{at_of}
+use Rattle.tg_typecheck.specs.Scopes.{at_of}
 use Rattle.tg_translate_laws.proofs.Counts.{same, times}
 
 -- the bytes of a list

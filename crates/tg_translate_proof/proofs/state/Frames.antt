@@ -7,9 +7,9 @@ use Rattle.tg_frame.specs.declared.accesses.Access.TheVariants.{InTemp, InFrame}
 use Rattle.tg_frame.specs.Homes.{homes_of, homes_from, slots_of, temps_of}
 use Rattle.tg_syntax.specs.declared.trees.Param.{Param}
 use Rattle.tg_semantics.specs.Values.{Value}
-use Rattle.tg_types.specs.Types.{Ty}
-use Rattle.tg_types.specs.Scopes.{Scope}
-use Rattle.tg_types.specs.Groups.{with_params}
+use Rattle.tg_typecheck.specs.Types.{Ty}
+use Rattle.tg_typecheck.specs.Scopes.{Scope}
+use Rattle.tg_typecheck.specs.Groups.{with_params}
 use Rattle.tg_tree.specs.Tree.{Function}
 use Rattle.tg_tree.specs.Memory.{Memory, Has, lay, put, slot}
 use Rattle.tg_tree.specs.Actions.{World}

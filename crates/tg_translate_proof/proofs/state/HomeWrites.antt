@@ -3,9 +3,9 @@
 use Rattle.std.proofs.Common.{◌≡◌, ◌≢◌, ℕ, suc, ◌+◌, ◌-◌, ◌*◌, ◌%◌, ◌<◌, ◌≤◌, ◌==◌, List, [], ◌∷◌, ◌++◌, Option, Some, None, Bool, true, false, refl, sym, ap, ◌∙◌}
 use Rattle.std.proofs.Common.{arith, subst, inl, inr, eqb-true}
 use Rattle.std.specs.Prelude.{slice_get, length, ◌⊎◌}
-use Rattle.tg_state.specs.State.{stack_top, heap_base, most_room}
+use Rattle.tg_machine_state.specs.State.{stack_top, heap_base, most_room}
 use Rattle.tg_semantics.specs.Values.{Value, SourceWorld, add_variable, put_variable}
-use Rattle.tg_types.specs.Types.{Ty, Shape}
+use Rattle.tg_typecheck.specs.Types.{Ty, Shape}
 use Rattle.tg_tree.specs.Memory.{Memory, Cell, Closed, Unset, Has, Kept, elsewhere, cell_word, load, store, put, slot}
 use Rattle.tg_tree.specs.Actions.{World, Temps, set_temp}
 use Rattle.tg_runtime_proof.specs.Memories.{IsWhole}

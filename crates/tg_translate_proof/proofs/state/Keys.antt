@@ -4,10 +4,10 @@ use Rattle.std.proofs.Common.{◌≡◌, ◌≢◌, ℕ, zero, suc, ◌+◌, ◌
 use Rattle.std.proofs.Common.{arith, subst, inl, inr, eq-eqb, eqb-true, ne_eqb, length-append}
 use Rattle.std.specs.Prelude.{if◌then◌else◌, slice_get, slice_set, length, ◌&&◌, ◌⊎◌, All, ◌^◌}
 use Rattle.std.proofs.lemmas.Option.{slice_get_within}
-use Rattle.tg_state.specs.State.{stack_top, heap_base}
+use Rattle.tg_machine_state.specs.State.{stack_top, heap_base}
 use Rattle.tg_symbols.specs.Tables.{looked_up}
 use Rattle.tg_semantics.specs.Values.{Value, SourceWorld, add_variable, put_variable, Object}
-use Rattle.tg_types.specs.Types.{Ty, Shape}
+use Rattle.tg_typecheck.specs.Types.{Ty, Shape}
 use Rattle.tg_tree.specs.Memory.{Memory, Closed, load}
 use Rattle.tg_tree.specs.Actions.{World, Temps, set_temp}
 use Rattle.tg_runtime_proof.specs.Memories.{IsWhole, IsMemory}

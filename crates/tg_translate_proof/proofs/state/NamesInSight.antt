@@ -18,13 +18,13 @@ use Rattle.tg_semantics.specs.Values.{Entry, variable, group, standard}
 use Rattle.tg_semantics.specs.Levels.{levels_of, function_weight}
 use Rattle.tg_semantics.specs.Environments.{SourceFunction, to_variable, to_function, to_standard, function_named, or_beyond, find, standards, standards_of}
 use Rattle.tg_semantics.specs.Environments.{standard_text, outermost_from}
-use Rattle.tg_types.specs.declared.notes.Means.TheVariants as means
-use Rattle.tg_types.specs.Types.{Ty}
-use Rattle.tg_types.specs.Scopes.{Signature, Binding, variable_at, function_at, standard_one, Scope}
+use Rattle.tg_typecheck.specs.declared.notes.Means.TheVariants as means
+use Rattle.tg_typecheck.specs.Types.{Ty}
+use Rattle.tg_typecheck.specs.Scopes.{Signature, Binding, variable_at, function_at, standard_one, Scope}
 use Rattle.tg_semantics.specs.Environments.{name_of}
-use Rattle.tg_types.specs.Scopes.{at_of, binding, standard_of, entry, standard_bindings}
-use Rattle.tg_types.specs.Groups.{with_functions}
-use Rattle.tg_types.specs.Has.{Apart, HasValues}
+use Rattle.tg_typecheck.specs.Scopes.{at_of, binding, standard_of, entry, standard_bindings}
+use Rattle.tg_typecheck.specs.Groups.{with_functions}
+use Rattle.tg_typecheck.specs.Has.{Apart, HasValues}
 use Rattle.tg_translate.specs.declared.homes.Home.{Home}
 use Rattle.tg_translate.specs.mirror.States.{TranslationState}
 use Rattle.tg_translate_proof.specs.glue.Tables.{HasFound}

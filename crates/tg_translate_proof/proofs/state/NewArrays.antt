@@ -5,11 +5,11 @@ use Rattle.std.specs.Int.{to_le_bytes, w32}
 use Rattle.std.proofs.lemmas.Bool.{lt-ltb}
 use Rattle.std.proofs.lemmas.List.{length-replicate}
 use Rattle.std.proofs.lemmas.List.Elements.{All-append}
-use Rattle.tg_state.specs.State.{word_at, heap_base, stack_top, most_room}
+use Rattle.tg_machine_state.specs.State.{word_at, heap_base, stack_top, most_room}
 use Rattle.tg_simulation.specs.Bytes.{AreBytes}
 use Rattle.tg_symbols.specs.Tables.{looked_up}
 use Rattle.tg_semantics.specs.Values.{Value, Object, elements, SourceWorld, add_object, add_heap}
-use Rattle.tg_types.specs.Types.{Ty, array_shape, none_type}
+use Rattle.tg_typecheck.specs.Types.{Ty, array_shape, none_type}
 use Rattle.tg_tree.specs.Memory.{Memory, load, string_block}
 use Rattle.tg_tree.specs.Actions.{World, Temps}
 use Rattle.tg_runtime_proof.specs.Memories.{array_block, elements_block}

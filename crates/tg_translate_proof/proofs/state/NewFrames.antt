@@ -4,9 +4,9 @@ use Rattle.std.proofs.Common.{refl, sym, ap, ◌∙◌, arith, subst}
 use Rattle.std.proofs.Common.{eq-eqb, eqb-true, ne_eqb, inl, inr}
 use Rattle.std.specs.Prelude.{if◌then◌else◌, ◌%◌, ◌-◌, ◌⊎◌, length}
 use Rattle.std.proofs.lemmas.Bool.{cases_lt}
-use Rattle.tg_state.specs.State.{heap_base, stack_top}
+use Rattle.tg_machine_state.specs.State.{heap_base, stack_top}
 use Rattle.tg_semantics.specs.Values.{Value, SourceWorld, add_variable}
-use Rattle.tg_types.specs.Types.{Ty}
+use Rattle.tg_typecheck.specs.Types.{Ty}
 use Rattle.tg_tree.specs.Memory.{Memory, Cell, Closed, Unset, Has, load, put, slot, lay}
 use Rattle.tg_tree.specs.Actions.{World, Temps, set_temp}
 use Rattle.tg_runtime_proof.proofs.Memories.{put_apart, put_there, spot_above}

@@ -4,11 +4,11 @@ use Rattle.std.specs.Prelude.{if◌then◌else◌, nat_lt, ◌==◌, All, replic
 use Rattle.std.proofs.lemmas.Bool.{lt-ltb}
 use Rattle.std.proofs.lemmas.List.{length-append, length-replicate}
 use Rattle.std.proofs.lemmas.List.Elements.{All-append, All-replicate}
-use Rattle.tg_state.specs.State.{word_at, heap_base, stack_top, most_room}
+use Rattle.tg_machine_state.specs.State.{word_at, heap_base, stack_top, most_room}
 use Rattle.tg_simulation.specs.Bytes.{AreBytes}
 use Rattle.tg_symbols.specs.Tables.{looked_up}
 use Rattle.tg_semantics.specs.Values.{Value, Object, fields, SourceWorld, add_object, add_heap}
-use Rattle.tg_types.specs.Types.{Ty, record_shape}
+use Rattle.tg_typecheck.specs.Types.{Ty, record_shape}
 use Rattle.tg_tree.specs.Memory.{Memory, load}
 use Rattle.tg_tree.specs.Actions.{World, Temps}
 use Rattle.tg_runtime_proof.specs.laws.Serving.{with_block}

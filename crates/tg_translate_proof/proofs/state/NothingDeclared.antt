@@ -8,8 +8,8 @@ use Rattle.tg_frame.specs.declared.accesses.Access.{Access}
 use Rattle.tg_tree.specs.Tree as tree
 use Rattle.tg_tree.specs.Tree.{Tx, Const, Temp, FrameAddress, Txs, Ts, Stms, no_stms, stm}
 use Rattle.tg_tree.specs.declared.operators.Bin.TheVariants as bin
-use Rattle.tg_types.specs.declared.notes.Means.{Means}
-use Rattle.tg_types.specs.declared.notes.Means.TheVariants as means
+use Rattle.tg_typecheck.specs.declared.notes.Means.{Means}
+use Rattle.tg_typecheck.specs.declared.notes.Means.TheVariants as means
 use Rattle.tg_translate.specs.declared.homes.Within.{Within}
 use Rattle.tg_translate.specs.declared.operands.Operand.{Operand}
 use Rattle.tg_translate.specs.declared.held.HeldAddress.{HeldAddress}

@@ -2,12 +2,12 @@
 use Rattle.std.proofs.Common.{◌≡◌, ◌≢◌, ℕ, zero, suc, ◌+◌, ◌-◌, ◌*◌, ◌%◌, ◌^◌, ◌<◌, ◌≤◌, ◌==◌, List, [], ◌∷◌, Option, Some, None, Bool, true, false, refl, sym, ap, ◌∙◌}
 use Rattle.std.proofs.Common.{arith, subst, inl, inr, eqb-true, eq-eqb}
 use Rattle.std.specs.Prelude.{if◌then◌else◌, slice_get, slice_set, length, All, ◌⊎◌}
-use Rattle.tg_state.specs.State.{heap_base}
+use Rattle.tg_machine_state.specs.State.{heap_base}
 use Rattle.tg_symbols.specs.Tables.{looked_up}
 use Rattle.tg_semantics.specs.Values.{Value, SourceWorld, Object, fields, elements, put_object}
 use Rattle.tg_semantics.specs.Operators.{get_field, set_field, with_field, with_element}
-use Rattle.tg_types.specs.Types.{Ty, Shape, record_shape, array_shape}
-use Rattle.tg_types.specs.Typing.{placed}
+use Rattle.tg_typecheck.specs.Types.{Ty, Shape, record_shape, array_shape}
+use Rattle.tg_typecheck.specs.Typing.{placed}
 use Rattle.tg_tree.specs.Memory.{Memory, load, store}
 use Rattle.tg_tree.specs.Actions.{World}
 use Rattle.tg_runtime_proof.specs.Memories.{IsWhole}

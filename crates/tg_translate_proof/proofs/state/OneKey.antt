@@ -4,9 +4,9 @@ use Rattle.std.proofs.Common.{refl, sym, ap, ◌∙◌, arith, subst}
 use Rattle.std.proofs.Common.{eq-eqb, eqb-true, length-append}
 use Rattle.std.specs.Prelude.{if◌then◌else◌, slice_get, ◌&&◌, ◌%◌, ◌-◌, length, All}
 use Rattle.std.proofs.lemmas.Option.{slice_get_within}
-use Rattle.tg_state.specs.State.{heap_base, stack_top, most_bytes, most_room}
+use Rattle.tg_machine_state.specs.State.{heap_base, stack_top, most_bytes, most_room}
 use Rattle.tg_semantics.specs.Values.{Value, SourceWorld, Object, add_variable}
-use Rattle.tg_types.specs.Types.{Ty, Shape}
+use Rattle.tg_typecheck.specs.Types.{Ty, Shape}
 use Rattle.tg_tree.specs.Memory.{Memory, Cell, load, put}
 use Rattle.tg_tree.specs.Actions.{World}
 use Rattle.tg_runtime_proof.specs.Memories.{IsMemory}

@@ -16,8 +16,8 @@ use Rattle.tg_tree.specs.Tree.{Tx, Const, Temp, FrameAddress, Txs, no_txs, tx, C
 use Rattle.tg_tree.specs.glue.Lists.{join_txs}
 use Rattle.tg_tree.specs.declared.operators.Bin.TheVariants as bin
 use Rattle.tg_tree.specs.Memory.{string_text}
-use Rattle.tg_types.specs.declared.notes.Means.{Means}
-use Rattle.tg_types.specs.declared.notes.Means.TheVariants as means
+use Rattle.tg_typecheck.specs.declared.notes.Means.{Means}
+use Rattle.tg_typecheck.specs.declared.notes.Means.TheVariants as means
 use Rattle.tg_translate.specs.declared.homes.Home.{Home}
 use Rattle.tg_translate.specs.declared.homes.Callee.{Callee}
 use Rattle.tg_translate.specs.declared.homes.Within.{Within}

@@ -1,14 +1,14 @@
 -- The frame of a function around is found through static links: the frame address so many levels outwards.
 use Rattle.std.proofs.Common.{◌≡◌, ℕ, zero, suc, ◌+◌, ◌-◌, ◌*◌, ◌^◌, ◌<◌, ◌≤◌, List, Some, Bool, true, false, refl, sym, ap, ◌∙◌, arith, subst, eq-eqb}
 use Rattle.std.specs.Prelude.{if◌then◌else◌}
-use Rattle.tg_state.specs.State.{stack_top}
+use Rattle.tg_machine_state.specs.State.{stack_top}
 use Rattle.tg_base.specs.Words.{sub}
 use Rattle.tg_simulation.specs.Runs.{Run}
 use Rattle.tg_simulation.specs.Ran.{Ran, works}
 use Rattle.tg_simulation.specs.Agreement.{Source}
 use Rattle.tg_simulation.proofs.Following.{follows_along}
 use Rattle.tg_semantics.specs.Values.{SourceWorld}
-use Rattle.tg_types.specs.Types.{Ty}
+use Rattle.tg_typecheck.specs.Types.{Ty}
 use Rattle.tg_tree.specs.declared.operators.Bin.TheVariants.{Sub}
 use Rattle.tg_tree.specs.Tree.{Tx, Temp, FrameAddress, Const, Literal}
 use Rattle.tg_tree.specs.Units.{Trees}
@@ -20,7 +20,7 @@ use Rattle.tg_tree.specs.FlatValue.{flat_value, or_wrong, onward}
 use Rattle.tg_tree.specs.Actions.{World, Temps, Go, charged, with_given}
 use Rattle.tg_tree.proofs.FlatValues.{flat_runs, word_spends}
 use Rattle.tg_translate.specs.mirror.Constructs.{link_of, own_link, frame_out}
-use Rattle.tg_correct.specs.laws.Laws.{tree_work}
+use Rattle.tg_correctness.specs.laws.Laws.{tree_work}
 use Rattle.tg_translate_proof.specs.glue.Covered.{LinksLead}
 use Rattle.tg_translate_proof.specs.glue.Worlds.{Holdings, IsScene, HoldsAt, cell, temporary, fixed, AllTemps, word_of, Key}
 use Rattle.tg_translate_proof.specs.glue.Situations.{Program, Part, Holds, with_temps, floor, value_runs, calling, heads, frames_at}

@@ -20,7 +20,7 @@ use Rattle.tg_frame.specs.declared.accesses.Access.{Access}
 use Rattle.tg_frame.specs.Homes.{homes_from}
 use Rattle.tg_tree.specs.Tree.{Tx, Cond, Ts, Function}
 use Rattle.tg_semantics.specs.Levels.{activation}
-use Rattle.tg_types.specs.declared.notes.Means.{Means}
+use Rattle.tg_typecheck.specs.declared.notes.Means.{Means}
 use Rattle.tg_translate.specs.declared.homes.Home.{Home}
 use Rattle.tg_translate.specs.declared.homes.Callee.{Callee}
 use Rattle.tg_translate.specs.declared.wants.Want.{Want}

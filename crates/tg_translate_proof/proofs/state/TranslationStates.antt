@@ -7,7 +7,7 @@ use Rattle.std.proofs.lemmas.List.{append-nil}
 use Rattle.std.proofs.lemmas.List.Elements.{Contains-append_left}
 use Rattle.tg_simulation.specs.Bytes.{IsPrefix}
 use Rattle.tg_symbols.specs.Tables.{looked_up}
-use Rattle.tg_types.specs.Scopes.{Binding, variable_at, function_at, standard_one}
+use Rattle.tg_typecheck.specs.Scopes.{Binding, variable_at, function_at, standard_one}
 use Rattle.tg_tree.specs.Tree.{Tx, Ts, Function, Code}
 use Rattle.tg_translate.specs.declared.homes.Home.{Home}
 use Rattle.tg_translate.specs.declared.homes.Callee.{Callee}

@@ -2,12 +2,12 @@
 use Rattle.std.proofs.Common.{◌≡◌, ◌≢◌, ℕ, ◌+◌, ◌*◌, ◌^◌, ◌<◌, List, Some, Bool, true, false, refl, sym, ap, ◌∙◌, arith, subst}
 use Rattle.std.proofs.Math.Dec.{eqb-suc-zero}
 use Rattle.std.specs.Prelude.{if◌then◌else◌, not, suc, length}
-use Rattle.tg_state.specs.State.{word_at}
+use Rattle.tg_machine_state.specs.State.{word_at}
 use Rattle.tg_semantics.specs.Values.{Value, int, string, nil, reference, nothing}
 use Rattle.tg_semantics.specs.Operators.{truth}
-use Rattle.tg_types.specs.Types.{Ty, int_type, string_type, nil_type, none_type, record_type, array_type}
-use Rattle.tg_types.specs.Has as has
-use Rattle.tg_types.specs.Has.{Fits, HasValues}
+use Rattle.tg_typecheck.specs.Types.{Ty, int_type, string_type, nil_type, none_type, record_type, array_type}
+use Rattle.tg_typecheck.specs.Has as has
+use Rattle.tg_typecheck.specs.Has.{Fits, HasValues}
 use Rattle.tg_tree.specs.Memory.{string_block}
 use Rattle.tg_translate.specs.declared.wants.Want.{Want}
 use Rattle.tg_translate.specs.declared.wants.Want.TheVariants as want

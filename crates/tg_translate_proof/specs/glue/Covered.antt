@@ -12,9 +12,9 @@ use Rattle.tg_syntax.specs.Functions.{Levels, own, own_params, own_functions, ow
 use Rattle.tg_syntax.specs.Functions.{function_nodes, function_hops}
 use Rattle.tg_symbols.specs.Tables.{looked_up}
 use Rattle.tg_semantics.specs.Levels.{activation}
-use Rattle.tg_types.specs.declared.notes.Means.{Means}
-use Rattle.tg_types.specs.declared.notes.Means.TheVariants.{Variable, Function}
-use Rattle.tg_types.specs.Scopes.{at_of}
+use Rattle.tg_typecheck.specs.declared.notes.Means.{Means}
+use Rattle.tg_typecheck.specs.declared.notes.Means.TheVariants.{Variable, Function}
+use Rattle.tg_typecheck.specs.Scopes.{at_of}
 use Rattle.tg_translate.specs.declared.homes.Home.{Home}
 use Rattle.tg_translate.specs.declared.homes.Callee.{Callee}
 use Rattle.tg_translate.specs.mirror.Scopes.{Findings}

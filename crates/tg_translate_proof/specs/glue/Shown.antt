@@ -12,8 +12,8 @@ use Rattle.tg_semantics.specs.Evaluation.{eval}
 use Rattle.tg_semantics.specs.Passing.{Rest, Passing, passing}
 use Rattle.tg_semantics.specs.MachineEnds.{rest_run}
 use Rattle.tg_semantics.specs.laws.Laws.{behind}
-use Rattle.tg_types.specs.Types.{Ty, none_type, int_type}
-use Rattle.tg_types.specs.Has.{Has}
+use Rattle.tg_typecheck.specs.Types.{Ty, none_type, int_type}
+use Rattle.tg_typecheck.specs.Has.{Has}
 use Rattle.tg_tree.specs.Tree.{Temp}
 use Rattle.tg_tree.specs.Actions.{World, Temps, set_temp, Go, Next}
 use Rattle.tg_translate.specs.declared.wants.Want.{Want}
@@ -22,7 +22,7 @@ use Rattle.tg_translate.specs.declared.homes.Within.{Within}
 use Rattle.tg_translate.specs.mirror.States.{TranslationState, Translates, drawn}
 use Rattle.tg_translate.specs.mirror.Wants.{Made, value, done, test}
 use Rattle.tg_translate.specs.mirror.Translate.{expression}
-use Rattle.tg_correct.specs.laws.Laws.{tree_work}
+use Rattle.tg_correctness.specs.laws.Laws.{tree_work}
 use Rattle.tg_translate_proof.specs.glue.Worlds.{Holdings, Stands, temporary, IsOf, GrowsTo}
 use Rattle.tg_translate_proof.specs.glue.Situations.{Program, Part, Holds, IsReady, MayAssign}
 use Rattle.tg_translate_proof.specs.glue.Situations.{IsCovered, Extends, Setting, value_runs}

@@ -3,7 +3,7 @@ use Rattle.std.specs.Prelude.{ℕ, zero, suc, ◌+◌, ◌-◌, ◌==◌, ◌≡
 use Rattle.std.specs.Prelude.{Option, Some, None, Bool, true, false, slice_get, is_some, length}
 use Rattle.std.specs.Prelude.{if◌then◌else◌}
 use Rattle.std.specs.List.{Contains}
-use Rattle.tg_state.specs.State.{stack_top, most_room, most_bytes}
+use Rattle.tg_machine_state.specs.State.{stack_top, most_room, most_bytes}
 use Rattle.tg_frame.specs.declared.accesses.Access.{Access}
 use Rattle.tg_frame.specs.declared.accesses.Access.TheVariants.{InTemp, InFrame}
 use Rattle.tg_syntax.specs.declared.tokens.Ident.{Ident}
@@ -20,14 +20,15 @@ use Rattle.tg_semantics.specs.Values.{SourceWorld}
 use Rattle.tg_semantics.specs.Environments.{outermost_entries}
 use Rattle.tg_semantics.specs.Levels.{levels_of, function_weight}
 use Rattle.tg_semantics.specs.Evaluation.{function_count}
-use Rattle.tg_types.specs.declared.notes.Note.{Note}
-use Rattle.tg_types.specs.declared.notes.Means.{Means}
-use Rattle.tg_types.specs.Types.{Ty, Shape, int_type}
-use Rattle.tg_types.specs.Scopes.{Scope, Binding, variable_at, standard_bindings, Signature, at_of}
-use Rattle.tg_types.specs.Scopes.{in_no_loop}
-use Rattle.tg_types.specs.Groups.{with_functions, with_params}
-use Rattle.tg_types.specs.Has.{Has, HasValues, HaveValues, GivesBack, Fits, Says, Apart}
-use Rattle.tg_types.specs.Has.{ShapesHaveValues}
+use Rattle.tg_typecheck.specs.declared.notes.Note.{Note}
+use Rattle.tg_typecheck.specs.declared.notes.Means.{Means}
+use Rattle.tg_typecheck.specs.Types.{Ty, Shape, int_type}
+use Rattle.tg_typecheck.specs.Scopes.{Scope, Binding, variable_at, standard_bindings, Signature}
+use Rattle.tg_typecheck.specs.Scopes.{at_of}
+use Rattle.tg_typecheck.specs.Scopes.{in_no_loop}
+use Rattle.tg_typecheck.specs.Groups.{with_functions, with_params}
+use Rattle.tg_typecheck.specs.Has.{Has, HasValues, HaveValues, GivesBack, Fits, Says, Apart}
+use Rattle.tg_typecheck.specs.Has.{ShapesHaveValues}
 use Rattle.tg_tree.specs.Tree.{Tx, Txs, Cond, Ts, Stms, Temp, Literal, Function, Code}
 use Rattle.tg_tree.specs.Units.{Trees}
 use Rattle.tg_tree.specs.FrameSizes.{IsSizeOf}

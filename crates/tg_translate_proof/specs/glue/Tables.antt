@@ -4,7 +4,7 @@ use Rattle.std.specs.Prelude.{ℕ, ◌≡◌, ◌≤◌, List, [], ◌∷◌, �
 use Rattle.std.specs.List.{Contains}
 use Rattle.tg_simulation.specs.Bytes.{IsPrefix}
 use Rattle.tg_symbols.specs.Tables.{looked_up}
-use Rattle.tg_types.specs.Scopes.{Binding, variable_at, function_at}
+use Rattle.tg_typecheck.specs.Scopes.{Binding, variable_at, function_at}
 use Rattle.tg_tree.specs.Tree.{Ts, Function, Literal, Code}
 use Rattle.tg_tree.specs.Running.{function_of}
 use Rattle.tg_translate.specs.declared.homes.Home.{Home}

@@ -2,12 +2,12 @@
 -- objects by keys, so that no two stand in one place.
 use Rattle.std.specs.Prelude.{ℕ, zero, suc, ◌+◌, ◌-◌, ◌*◌, ◌%◌, ◌^◌, ◌≡◌, ◌≢◌, ◌≤◌, ◌<◌, List, [], ◌∷◌}
 use Rattle.std.specs.Prelude.{length, Option, Some, None, Bool, true, false, All, slice_get}
-use Rattle.tg_state.specs.State.{word_at, heap_base, most_room, stack_top}
+use Rattle.tg_machine_state.specs.State.{word_at, heap_base, most_room, stack_top}
 use Rattle.tg_semantics.specs.Values.{Value, int, string, nil, reference, nothing, SourceWorld}
 use Rattle.tg_semantics.specs.Values.{Object, fields, elements}
 use Rattle.tg_symbols.specs.Tables.{looked_up}
-use Rattle.tg_types.specs.Types.{Ty, int_type, string_type, nil_type, none_type, record_type}
-use Rattle.tg_types.specs.Types.{array_type, Shape, record_shape, array_shape}
+use Rattle.tg_typecheck.specs.Types.{Ty, int_type, string_type, nil_type, none_type, record_type}
+use Rattle.tg_typecheck.specs.Types.{array_type, Shape, record_shape, array_shape}
 use Rattle.tg_tree.specs.Memory.{Memory, Cell, Closed, Unset, Has, load, slot}
 use Rattle.tg_tree.specs.Actions.{World, Temps, Activation}
 use Rattle.tg_tree.specs.Memory.{string_block}

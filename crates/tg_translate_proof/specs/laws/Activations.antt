@@ -9,9 +9,9 @@ use Rattle.tg_semantics.specs.Environments.{find, to_variable}
 use Rattle.tg_semantics.specs.Evaluation.{in_variable, write_location}
 use Rattle.tg_semantics.specs.Passing.{Rest, Passing, passing}
 use Rattle.tg_semantics.specs.MachineEnds.{rest_run}
-use Rattle.tg_types.specs.Types.{Ty}
+use Rattle.tg_typecheck.specs.Types.{Ty}
 use Rattle.tg_semantics.specs.Environments.{name_of}
-use Rattle.tg_types.specs.Has.{HasPlace}
+use Rattle.tg_typecheck.specs.Has.{HasPlace}
 use Rattle.tg_tree.specs.Tree.{Tx, Stms}
 use Rattle.tg_tree.specs.Operators.{word}
 use Rattle.tg_tree.specs.FlatValue.{flat_value}

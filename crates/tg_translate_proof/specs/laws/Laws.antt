@@ -1,9 +1,9 @@
 -- The translation, with the runtime, keeps the meaning of the source.
 use Rattle.std.specs.Prelude.{ℕ, ◌-◌, ◌≡◌, ◌≢◌, ◌≤◌, ◌<◌, ◌⊎◌, List, length, All, Option}
 use Rattle.std.specs.FinSet.{from_list}
-use Rattle.tg_state.specs.declared.ends.RunEnd.{RunEnd}
-use Rattle.tg_state.specs.declared.ends.RunEnd.TheVariants.{StackFull}
-use Rattle.tg_state.specs.State.{stack_top, most_room, most_bytes}
+use Rattle.tg_machine_state.specs.declared.ends.RunEnd.{RunEnd}
+use Rattle.tg_machine_state.specs.declared.ends.RunEnd.TheVariants.{StackFull}
+use Rattle.tg_machine_state.specs.State.{stack_top, most_room, most_bytes}
 use Rattle.tg_syntax.specs.OfWords.{OfWords}
 use Rattle.tg_syntax.specs.Functions.{Measures, program_functions}
 use Rattle.tg_simulation.specs.Runs.{Run}
@@ -11,7 +11,7 @@ use Rattle.tg_simulation.specs.Bytes.{IsPrefix}
 use Rattle.tg_simulation.specs.Ran.{Ran, Ended}
 use Rattle.tg_simulation.specs.Agreement.{Source, Follows, Agrees, FillsStack}
 use Rattle.tg_semantics.specs.MachineEnds.{program_run}
-use Rattle.tg_types.specs.Programs.{CheckedProgram, IsAccepted}
+use Rattle.tg_typecheck.specs.Programs.{CheckedProgram, IsAccepted}
 use Rattle.tg_escape.specs.Escaping.{escapes_of}
 use Rattle.tg_escape.specs.Links.{links_of}
 use Rattle.tg_tree.specs.Tree.{Ts, Code}
@@ -24,7 +24,7 @@ use Rattle.tg_translate.specs.mirror.Scopes.{Findings, found}
 use Rattle.tg_translate.specs.mirror.Translate.{translated}
 use Rattle.tg_translate_laws.specs.Programs.{with_runtime}
 use Rattle.tg_translate_laws.specs.laws.Laws.{names}
-use Rattle.tg_correct.specs.laws.Laws.{tree_work, tree_besides}
+use Rattle.tg_correctness.specs.laws.Laws.{tree_work, tree_besides}
 use Rattle.tg_translate_proof.specs.Bounds.{measures_of, bound_by, level_by}
 
 -- a checked program, and what is found of it

@@ -1,6 +1,6 @@
 -- The laws of the meaning of trees and of flat code.
 use Rattle.std.specs.Prelude.{ℕ, ◌+◌, ◌<◌, ◌≡◌, List, Option, Some}
-use Rattle.tg_state.specs.declared.ends.RunEnd.TheVariants.{StackFull}
+use Rattle.tg_machine_state.specs.declared.ends.RunEnd.TheVariants.{StackFull}
 use Rattle.tg_simulation.specs.Ran.{Ended, stops, StaysOver, OnlyGoesOn}
 use Rattle.tg_tree.specs.Tree.{Ts, Linear, Function, Code}
 use Rattle.tg_tree.specs.Units.{Stage}

@@ -1,6 +1,6 @@
 use Rattle.tg_tree.specs.glue.Lists.{stms_of, code_of}
 use Rattle.tg_tree.specs.glue.Plain.{plain_ts}
-use Rattle.tg_trace.specs.glue.Plains.{plain_blocks}
+use Rattle.tg_trace_schedule.specs.glue.Plains.{plain_blocks}
 use Rattle.tg_compile.proofs.Chain.{flattens}
 use Rattle.tg_compile.proofs.bodies.flatten.Goals as goal
 

@@ -1,5 +1,5 @@
 use Rattle.std.proofs.Common.{subst}
-use Rattle.tg_types.specs.Programs.{plain_checked, IsAccepted}
+use Rattle.tg_typecheck.specs.Programs.{plain_checked, IsAccepted}
 use Rattle.tg_compile.proofs.Small.{code_is_small}
 use Rattle.tg_compile.proofs.laws.compiled_is_small.Goals as goal
 

@@ -1,5 +1,5 @@
 use Rattle.std.proofs.Common.{subst}
-use Rattle.tg_types.specs.Programs.{plain_checked, IsAccepted}
+use Rattle.tg_typecheck.specs.Programs.{plain_checked, IsAccepted}
 use Rattle.tg_compile.proofs.WellFormed.{functions_are}
 use Rattle.tg_compile.proofs.laws.functions_are_well_formed.Goals as goal
 

@@ -1,6 +1,6 @@
 use Rattle.std.proofs.Common.{◌≤◌, List, length, refl, sym, ap, subst}
 use Rattle.std.specs.List.{sum_by}
-use Rattle.tg_state.specs.State.{most_bytes, padded}
+use Rattle.tg_machine_state.specs.State.{most_bytes, padded}
 use Rattle.tg_syntax.specs.glue.Plain.{plain}
 use Rattle.tg_tree.specs.Tree.{Ts, Function, Code, Literal}
 use Rattle.tg_emit_laws.specs.Programs.{bytes_of}

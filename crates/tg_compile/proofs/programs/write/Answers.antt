@@ -1,7 +1,7 @@
 use Rattle.std.proofs.Common.{◌<◌, List, sym, ap, subst, ◌∙◌}
 use Rattle.std.specs.Prelude.{IsTrue}
 use Rattle.std.specs.List.{list_all}
-use Rattle.tg_state.specs.State.{most_words}
+use Rattle.tg_machine_state.specs.State.{most_words}
 use Rattle.tg_emit.specs.declared.assembly.Line.{Line}
 use Rattle.tg_emit.specs.Conditions.{has_labels}
 use Rattle.tg_emit.specs.mirror.Lines.{words}

@@ -1,6 +1,6 @@
 use Rattle.tg_compile_proof.specs.Builds.{Builds}
 use Rattle.tg_driver.specs.Calls.{stream_of}
-use Rattle.tg_correct.specs.Sources.{IsSource}
+use Rattle.tg_correctness.specs.Sources.{IsSource}
 use Rattle.tg_driver.proofs.AnswerLemmas.{in_number}
 use Rattle.tg_driver.proofs.generating.answer_gen.Goals as goal
 

@@ -1,4 +1,4 @@
-use Rattle.tg_watch.proofs.Pieces.{front_longer, front_later, all_later, all_failed}
+use Rattle.tg_profiler.proofs.Pieces.{front_longer, front_later, all_later, all_failed}
 use Rattle.tg_driver.proofs.generating.write_counts.Goals as goal
 
 pub returns-in_err-write_count-clause-line : goal.returns-in_err-write_count-clause-line

@@ -1,4 +1,4 @@
-use Rattle.tg_watch.proofs.Pieces.{front_longer, front_later, all_later, all_failed}
+use Rattle.tg_profiler.proofs.Pieces.{front_longer, front_later, all_later, all_failed}
 use Rattle.tg_driver.proofs.generating.write_summary.Goals as goal
 
 pub returns-in_err-write_counts-clause-line : goal.returns-in_err-write_counts-clause-line

@@ -4,8 +4,8 @@ use Rattle.std.specs.List.{sum_by}
 use Rattle.std.proofs.lemmas.List.FromFn.{length-map-range_with_len}
 use Rattle.std.proofs.lemmas.List.Sums.{sum-map}
 use Rattle.std.proofs.lemmas.Result.{IfOk-weaker}
-use Rattle.tg_irc.specs.declared.moves.Move.{Move}
-use Rattle.tg_irc.specs.declared.candidates.NodeFacts.{NodeFacts}
+use Rattle.tg_irc_definition.specs.declared.moves.Move.{Move}
+use Rattle.tg_irc_definition.specs.declared.candidates.NodeFacts.{NodeFacts}
 use Rattle.tg_interference.specs.Facts.{facts_of, facts_of_nodes}
 use Rattle.tg_interference.specs.Moves.{moves_of}
 use Rattle.tg_regalloc.proofs.Sizes.{AreEnds, uses_few, moves_few, moves_below}

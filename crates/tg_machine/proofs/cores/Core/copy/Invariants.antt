@@ -1,5 +1,5 @@
 use Rattle.std.proofs.Common.{◌≡◌, ℕ, ◌<◌, ◌+◌, Ok, slice_index}
-use Rattle.tg_state.specs.State.{load_byte}
+use Rattle.tg_machine_state.specs.State.{load_byte}
 use Rattle.tg_machine.proofs.cores.Core.copy.Given as goal
 
 abbrev pub invariant-loop-k : goal.invariant-loop-k

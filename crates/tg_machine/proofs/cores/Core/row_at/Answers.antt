@@ -1,7 +1,7 @@
 use Rattle.std.proofs.Common.{arith, ◌≡◌, ◌<◌, ◌+◌, ◌*◌, ◌/◌, ◌%◌, ap, ◌∙◌, length, get_or}
 use Rattle.std.specs.Prelude.{Some, slice_index}
 use Rattle.std.proofs.lemmas.List.{get_or-map, length-map}
-use Rattle.tg_state.specs.State.{MachineState}
+use Rattle.tg_machine_state.specs.State.{MachineState}
 use Rattle.tg_base.specs.Words.{sub}
 use Rattle.tg_machine.specs.mirror.Rows.{row_at, row_of}
 use Rattle.tg_machine.proofs.RowEffects.{row_found}

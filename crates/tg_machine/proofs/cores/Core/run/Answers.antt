@@ -1,5 +1,5 @@
 use Rattle.std.proofs.Common.{arith, ◌≡◌, ◌+◌, ◌-◌, ◌<◌, ◌≤◌}
-use Rattle.tg_state.specs.declared.ends.RunEnd.TheVariants.{StepLimit}
+use Rattle.tg_machine_state.specs.declared.ends.RunEnd.TheVariants.{StepLimit}
 use Rattle.tg_machine.proofs.Reached.{reached_none, reached_more, ran_all, ran_out, ran_ended, moved_apart, own_limit}
 use Rattle.tg_machine.proofs.Pausing.{reached_runs}
 use Rattle.tg_machine.proofs.cores.Core.run.Goals as goal

@@ -1,6 +1,6 @@
 use Rattle.std.proofs.Common.{arith, ◌≡◌, ap, sym, ◌∙◌, subst}
-use Rattle.tg_state.specs.State.{MachineState, go}
-use Rattle.tg_state.specs.Services.{service}
+use Rattle.tg_machine_state.specs.State.{MachineState, go}
+use Rattle.tg_machine_state.specs.Services.{service}
 use Rattle.tg_base.specs.Words.{add}
 use Rattle.tg_isa.specs.Effects.{performed}
 use Rattle.tg_machine.specs.declared.rows.Row.{Row}

@@ -1,4 +1,4 @@
-use Rattle.tg_state.specs.State.{go}
+use Rattle.tg_machine_state.specs.State.{go}
 use Rattle.tg_machine.specs.glue.Pauses.{RunsTo}
 use Rattle.tg_machine.proofs.cores.Core.run_alone.Given as goal
 

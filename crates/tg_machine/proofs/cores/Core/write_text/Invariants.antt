@@ -1,6 +1,6 @@
 use Rattle.std.proofs.Common.{◌-◌, ◌≤◌, take, IfOk}
 use Rattle.std.specs.Io.KnownBytes.{Appends}
-use Rattle.tg_state.specs.Services.{text_at}
+use Rattle.tg_machine_state.specs.Services.{text_at}
 use Rattle.tg_machine.proofs.cores.Core.write_text.Given as goal
 
 -- the sink took the bytes of the text that are done

@@ -1,6 +1,0 @@
-use Rattle.std.proofs.Common.{◌≡◌, map, take}
-use Rattle.tg_coalesce.specs.mirror.Selecting.{colour_at}
-use Rattle.tg_coalesce.proofs.selection.colours_of.Given as goal
-
-abbrev pub invariant-loop-alias : goal.invariant-loop-alias
-invariant-loop-alias l = l.list.items ≡ map (colour_at l.colours) (take l.alias-index l.aliases)

@@ -1,5 +1,0 @@
-use Rattle.std.proofs.Common.{refl}
-use Rattle.tg_example.proofs.flat_code_ends.Goals as goal
-
-pub returns : goal.returns
-returns c = (refl, refl)

@@ -1,5 +1,0 @@
-use Rattle.tg_example.proofs.Chosen.{image_ends}
-use Rattle.tg_example.proofs.image_ends.Goals as goal
-
-pub returns : goal.returns
-returns c = image_ends

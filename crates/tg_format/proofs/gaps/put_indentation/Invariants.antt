@@ -1,6 +1,0 @@
-use Rattle.std.proofs.Common.{◌≡◌, ◌++◌}
-use Rattle.tg_format.specs.Canonical.{indentation}
-use Rattle.tg_format.proofs.gaps.put_indentation.Given as goal
-
-abbrev pub invariant-loop : goal.invariant-loop
-invariant-loop l = l.text.items ≡ l.initial.text.items ++ indentation l.counter

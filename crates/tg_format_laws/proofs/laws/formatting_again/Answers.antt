@@ -1,5 +1,0 @@
-use Rattle.tg_format_laws.proofs.Written.{formatting_again}
-use Rattle.tg_format_laws.proofs.laws.formatting_again.Goals as goal
-
-pub returns : goal.returns
-returns c = formatting_again

@@ -1,5 +1,0 @@
-use Rattle.tg_format_laws.proofs.Lexed.{lexed_are_writable}
-use Rattle.tg_format_laws.proofs.laws.lexed_are_writable.Goals as goal
-
-pub returns : goal.returns
-returns c = lexed_are_writable

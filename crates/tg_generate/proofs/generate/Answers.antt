@@ -1,6 +1,0 @@
-use Rattle.std.proofs.Common.{◌∙◌}
-use Rattle.tg_generate.proofs.Lines.{one_more}
-use Rattle.tg_generate.proofs.generate.Goals as goal
-
-pub loop-i-preserved : goal.loop-i-preserved
-loop-i-preserved c = c.in_ok-push_function.ensures ∙ one_more _ _ c.loop-i.invariant

@@ -1,6 +1,0 @@
-use Rattle.std.proofs.Common.{◌≡◌, ◌++◌}
-use Rattle.tg_generate.specs.Generated.{head_lines, function_lines}
-use Rattle.tg_generate.proofs.generate.Given as goal
-
-abbrev pub invariant-loop-i : goal.invariant-loop-i
-invariant-loop-i l = l.text.items ≡ head_lines ++ function_lines l.i

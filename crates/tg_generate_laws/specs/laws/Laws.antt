@@ -1,8 +1,0 @@
--- Generated programs are sources.
-use Rattle.std.specs.Prelude.{ℕ, ◌≤◌}
-use Rattle.tg_generate.specs.Generated.{generated}
-use Rattle.tg_correct.specs.Sources.{IsSource}
-
--- the generated program of 1 to 1000 functions is a program that typing accepts
-abbrev pub GeneratedIsAccepted : Type 0
-GeneratedIsAccepted = (n : ℕ) → 1 ≤ n → n ≤ 1000 → IsSource (generated n)

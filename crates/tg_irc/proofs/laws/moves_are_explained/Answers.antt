@@ -1,5 +1,0 @@
-use Rattle.tg_irc.proofs.Explaining.{moves_are_explained}
-use Rattle.tg_irc.proofs.laws.moves_are_explained.Goals as goal
-
-pub returns : goal.returns
-returns c = moves_are_explained

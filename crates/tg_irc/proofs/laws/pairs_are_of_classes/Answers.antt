@@ -1,5 +1,0 @@
-use Rattle.tg_irc.proofs.Classes.{pairs_are_of_classes}
-use Rattle.tg_irc.proofs.laws.pairs_are_of_classes.Goals as goal
-
-pub returns : goal.returns
-returns c = pairs_are_of_classes

@@ -1,5 +1,0 @@
-use Rattle.tg_known.proofs.Words.{known_is_short}
-use Rattle.tg_known.proofs.laws.known_is_bounded.Goals as goal
-
-pub returns : goal.returns
-returns c = known_is_short

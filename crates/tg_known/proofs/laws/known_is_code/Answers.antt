@@ -1,5 +1,0 @@
-use Rattle.tg_known.proofs.Below.{known_is_code}
-use Rattle.tg_known.proofs.laws.known_is_code.Goals as goal
-
-pub returns : goal.returns
-returns c = known_is_code

@@ -1,5 +1,0 @@
-use Rattle.tg_known.proofs.Shaped.{passes_tests}
-use Rattle.tg_known.proofs.laws.known_names_its_own.Goals as goal
-
-pub returns : goal.returns
-returns c = passes_tests

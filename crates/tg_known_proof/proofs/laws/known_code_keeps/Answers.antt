@@ -1,5 +1,0 @@
-use Rattle.tg_known_proof.proofs.Kept.{known_code_keeps}
-use Rattle.tg_known_proof.proofs.laws.known_code_keeps.Goals as goal
-
-pub returns : goal.returns
-returns c = known_code_keeps

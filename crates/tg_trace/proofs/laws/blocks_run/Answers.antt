@@ -1,5 +1,0 @@
-use Rattle.tg_trace.proofs.BlocksRuns.{blocks_step, blocks_stay_over, blocks_only_go_on}
-use Rattle.tg_trace.proofs.laws.blocks_run.Goals as goal
-
-pub returns : goal.returns
-returns c = record { step = blocks_step; over = blocks_stay_over; on = blocks_only_go_on }

@@ -1,5 +1,0 @@
-use Rattle.tg_trace.proofs.Measures.{length_stays, needs_stay}
-use Rattle.tg_trace.proofs.laws.trace_is_bounded.Goals as goal
-
-pub returns : goal.returns
-returns c = record { length = length_stays; needs = needs_stay }

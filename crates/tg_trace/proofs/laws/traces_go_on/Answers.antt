@@ -1,6 +1,0 @@
-use Rattle.tg_trace.proofs.TracesShapes.{false_side_follows}
-use Rattle.tg_trace.proofs.TracesLed.{jumps_are_back}
-use Rattle.tg_trace.proofs.laws.traces_go_on.Goals as goal
-
-pub returns : goal.returns
-returns c = record { branches = false_side_follows; jumps = jumps_are_back }

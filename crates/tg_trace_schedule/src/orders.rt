@@ -1,0 +1,111 @@
+ghost use Rattle.std.specs.Prelude.{◌≡◌, true, length, slice_set, IfOk, OnOk};
+ghost use Rattle.tg_trace_schedule.specs.glue.Plains.{plain_end, plain_blocks, plain_order};
+ghost use Rattle.tg_trace_schedule.specs.mirror.Laying as laying;
+
+use crate::flows::{Block, End};
+use std::alloc::Global;
+use tg_base::Memory;
+
+/// The places of blocks in the order in which they are laid, and of each place whether its block
+/// is.
+#[derive(Drop)]
+pub(crate) struct Order {
+    pub(crate) places: Vec<u32>,
+    pub(crate) laid: Vec<bool>,
+}
+
+/// The order of blocks, in traces from the first places on.
+pub(crate) fn arrange(alloc: Global, blocks: &[Block]) -> Result<Order, Memory>
+    ensures { IfOk result (λ order.
+        plain_order order ≡ laying.traces (length blocks.now) (plain_blocks blocks.now)) }
+{
+    let count = match u32::try_from(blocks.len()) {
+        Ok(count) => count,
+        Err(_) => return Err(Memory),
+    };
+    let mut order = nothing_laid(alloc, blocks)?;
+    for place in 0..count {
+        let first = unless_laid(&order.laid, place, None);
+        follow(&mut order, blocks, first)?;
+    }
+    Ok(order)
+}
+
+fn nothing_laid(alloc: Global, blocks: &[Block]) -> Result<Order, Memory>
+    ensures { IfOk result (λ order. plain_order order ≡ laying.traces 0 (plain_blocks blocks.now)) }
+{
+    let laid = vec![in alloc; false; blocks.len()]?;
+    Ok(Order {
+        places: Vec::new(alloc),
+        laid,
+    })
+}
+
+/// Lays a trace from a block on.
+fn follow(order: &mut Order, blocks: &[Block], first: Option<u32>) -> Result<(), Memory>
+    ensures { OnOk result (plain_order order.new ≡
+        laying.follow (length blocks.now) (plain_blocks blocks.now) first (plain_order order.old)) }
+{
+    let mut next = first;
+    for step in 0..blocks.len() {
+        let place = match next {
+            Some(place) => place,
+            None => return Ok(()),
+        };
+        put(order, place)?;
+        next = onward_at(&order.laid, blocks, place);
+    }
+    Ok(())
+}
+
+/// Puts a place at the end of the order.
+fn put(order: &mut Order, place: u32) -> Result<(), Memory>
+    ensures { OnOk result (plain_order order.new ≡ laying.put place (plain_order order.old)) }
+{
+    order.places.push(place)?;
+    lay(&mut order.laid, place);
+    Ok(())
+}
+
+fn lay(laid: &mut [bool], place: u32)
+    ensures { laid.new ≡ slice_set laid.old place true }
+{
+    let at = place as usize;
+    if at < laid.len() {
+        laid[at] = true;
+    }
+}
+
+/// What comes after the block at a place.
+fn onward_at(laid: &[bool], blocks: &[Block], place: u32) -> Option<u32>
+    ensures { result ≡
+        laying.onward laid.now (laying.block_at (plain_blocks blocks.now) place).end }
+{
+    let at = place as usize;
+    if at < blocks.len() {
+        onward(laid, &blocks[at].end)
+    } else {
+        None
+    }
+}
+
+/// What comes after a block: where it leads that isn't laid, the true side of a branch first.
+fn onward(laid: &[bool], end: &End) -> Option<u32>
+    ensures { result ≡ laying.onward laid.now (plain_end end.now) }
+{
+    match end {
+        End::Jump(place) => unless_laid(laid, *place, None),
+        End::Branch(_, _, _, yes, no) => unless_laid(laid, *yes, unless_laid(laid, *no, None)),
+        End::Fault(_) | End::Return(_) => None,
+    }
+}
+
+/// A place that isn't laid, else another.
+fn unless_laid(laid: &[bool], place: u32, other: Option<u32>) -> Option<u32>
+    ensures { result ≡ laying.unless_laid laid.now place other }
+{
+    match laid.get(place as usize).copied() {
+        Some(false) => Some(place),
+        _ => other,
+    }
+}

@@ -1,5 +1,0 @@
-use Rattle.tg_types.proofs.HeaderChecks.{TypesOn}
-use Rattle.tg_types.proofs.headers.param_types.Given as goal
-
-abbrev pub invariant-loop-param : goal.invariant-loop-param
-invariant-loop-param l = TypesOn l.names l.state l.earlier l.params l.types.items l.param-index

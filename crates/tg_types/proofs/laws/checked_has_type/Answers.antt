@@ -1,5 +1,0 @@
-use Rattle.tg_types.proofs.Derivations.{checked_has_type}
-use Rattle.tg_types.proofs.laws.checked_has_type.Goals as goal
-
-pub returns : goal.returns
-returns c = checked_has_type

@@ -1,5 +1,0 @@
-use Rattle.tg_types.proofs.FaultBytes.{faults_stand_within}
-use Rattle.tg_types.proofs.laws.faults_stand_within.Goals as goal
-
-pub returns : goal.returns
-returns c = faults_stand_within

@@ -1,5 +1,0 @@
-use Rattle.tg_types.proofs.NeverStuck.{never_stuck}
-use Rattle.tg_types.proofs.laws.never_stuck.Goals as goal
-
-pub returns : goal.returns
-returns c = never_stuck

@@ -1,5 +1,0 @@
-use Rattle.tg_types.proofs.NotesFound.{notes_are_found}
-use Rattle.tg_types.proofs.laws.notes_are_found.Goals as goal
-
-pub returns : goal.returns
-returns c = notes_are_found

@@ -1,5 +1,0 @@
-use Rattle.tg_watch.proofs.RowCounts.{counts_none, no_counts}
-use Rattle.tg_watch.proofs.profiling.ProfileWatcher.begin.Goals as goal
-
-pub returns-clause-begun : goal.returns-clause-begun
-returns-clause-begun c = counts_none _ _ no_counts

@@ -1,5 +1,0 @@
-use Rattle.tg_watch.proofs.RowCounts.{Passed}
-use Rattle.tg_watch.proofs.profiling.counted.Given as goal
-
-abbrev pub invariant-loop-number : goal.invariant-loop-number
-invariant-loop-number l = Passed l.counts l.before l.left l.number

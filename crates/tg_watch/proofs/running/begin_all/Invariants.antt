@@ -1,7 +1,0 @@
-use Rattle.tg_watch.proofs.Seeing.{BegunFirst}
-use Rattle.tg_watch.proofs.running.begin_all.Given as goal
-
-abbrev pub invariant-loop-watcher : goal.invariant-loop-watcher
-invariant-loop-watcher g l =
-    BegunFirst (λ b. (goal.Watcher-dyn g (b.vtable, b.value)).stands b.value) (λ b. (goal.Watcher-dyn g (b.vtable, b.value)).report b.value)
-    l.fn.watchers.items l.watcher-items l.code l.watcher-index

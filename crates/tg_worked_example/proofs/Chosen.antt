@@ -1,0 +1,17 @@
+-- What the instructions of the program do, and its image, computed.
+use Rattle.std.proofs.Common.{refl}
+use Rattle.std.specs.Fmt.{digits}
+use Rattle.tg_munch.specs.mirror.Choosing.{◌>>=◌}
+use Rattle.tg_worked_example.specs.laws.Laws.{InstructionsEnd, FramesEnd, ImageEnds}
+
+pub instructions_end : InstructionsEnd
+unfolding ◌>>=◌
+instructions_end = (refl, refl)
+
+pub frames_end : FramesEnd
+unfolding ◌>>=◌
+frames_end = (refl, refl)
+
+pub image_ends : ImageEnds
+unfolding ◌>>=◌ digits
+image_ends = (refl, refl)

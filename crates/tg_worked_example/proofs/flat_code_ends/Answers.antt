@@ -1,0 +1,5 @@
+use Rattle.std.proofs.Common.{refl}
+use Rattle.tg_worked_example.proofs.flat_code_ends.Goals as goal
+
+pub returns : goal.returns
+returns c = (refl, refl)
