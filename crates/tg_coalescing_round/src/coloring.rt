@@ -29,7 +29,9 @@ use crate::states::Coalescer;
 use std::alloc::Global;
 use tg_base::Memory;
 use tg_graph::{Graph, Worklist};
-use tg_irc_definition::{Colours, Move, Moves, NodeFacts, Nodes, Round, SpillPolicy, States, Steps};
+use tg_irc_definition::{
+    Colours, Move, Moves, NodeFacts, Nodes, Round, SpillPolicy, States, Steps,
+};
 
 /// A round of the allocator over a graph and its moves (George and Appel 1996, section 4). `facts`
 /// has the facts of each node, the registers first. After `Memory` the policy may have been asked.

@@ -22,11 +22,11 @@ ghost use Rattle.tg_compile_proof.specs.laws.TextLaws.{
   RunningIsMeant,
 };
 
+use tg_canon_trace_proof::flatten_is_correct;
 use tg_code_bounds::functions_are_bounded;
 use tg_correctness::{ends_tell, image_agrees, passes_agree};
 use tg_emit_laws::program_has_image;
 use tg_emit_proof::emit_is_correct;
-use tg_canon_trace_proof::flatten_is_correct;
 use tg_isa::machine_runs_by_fuel;
 use tg_literal_bounds::{strings_fit_text, trees_are_of_words};
 use tg_munch::code_names_its_own;

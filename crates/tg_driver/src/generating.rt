@@ -28,12 +28,12 @@ use crate::images::image_of;
 use std::alloc::Global;
 use tg_base::{Failed, PlainSource, Sink, write_all};
 use tg_command::Command;
-use tg_program_generator::generate;
-use tg_program_generator_laws::generated_is_accepted;
 use tg_irc_definition::SpillPolicy;
 use tg_isa::Image;
 use tg_machine::{Machine, load};
 use tg_machine_state::RunEnd;
+use tg_program_generator::generate;
+use tg_program_generator_laws::generated_is_accepted;
 
 /// The answer of the mode `gen`: generates a source, compiles it, runs it on an empty input, and
 /// writes the summary line.

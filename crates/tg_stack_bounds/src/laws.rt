@@ -4,8 +4,8 @@ ghost use Rattle.tg_stack_bounds.specs.laws.Weights.{
   ProgramFramesAreLight,
 };
 
-use tg_code_bounds::functions_are_bounded;
 use tg_canon_trace_proof::flatten_is_bounded;
+use tg_code_bounds::functions_are_bounded;
 use tg_munch::temporaries_are_few;
 use tg_regalloc::allocations_are_short;
 use tg_runtime::routines_are_closed;
