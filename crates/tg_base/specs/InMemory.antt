@@ -1,6 +1,6 @@
 -- What sources, sinks and shelves in memory hold whose calls may fail.
-use Rattle.std.specs.Prelude.{ℕ, ◌-◌, ◌==◌, [], length, Some, Bool, if◌then◌else◌, List, Option}
-use Rattle.std.specs.Prelude.{String, Vec, map, string_bytes}
+use Rattle.std.specs.Prelude.{ℕ, ◌-◌, ◌==◌, [], length, Some, Bool, if◌then◌else◌, ◌||◌, List}
+use Rattle.std.specs.Prelude.{Option, String, Vec, map, string_bytes}
 use Rattle.std.specs.BTreeMap.{BTreeMap}
 use Rattle.std.specs.Option.{is_none}
 use Rattle.std.specs.Map.{lookup}
