@@ -16,7 +16,7 @@ use Rattle.tg_asm_text.specs.declared.keywords.Slot.TheVariants.{Rd, Rs, Rt, Num
 use Rattle.tg_asm_text.specs.declared.keywords.Segment.TheVariants.{Code}
 use Rattle.tg_asm_text.specs.declared.keywords.AsmRule.{AsmRule}
 use Rattle.tg_isa.specs.Names.{register_name}
-use Rattle.tg_isa.specs.Table.{IsRow}
+use Rattle.tg_isa.specs.Rows.{IsRow}
 use Rattle.tg_asm_text.specs.Lines.{lines, begins_label, is_past_label, is_end, Operand, Plain}
 use Rattle.tg_asm_text.specs.Operands.{Signed, nothing, number, is_within, register_operand, is_label, based, Fields, unfilled, fill, fill_all, fill_rd}
 use Rattle.tg_asm_text.specs.Operands.{fill_rs, fill_rt, fill_number, fill_based}

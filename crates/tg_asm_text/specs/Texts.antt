@@ -8,7 +8,7 @@ use Rattle.tg_isa.specs.declared.mips.Mips.{Mips}
 use Rattle.tg_asm_text.specs.declared.keywords.Segment.{Segment}
 use Rattle.tg_asm_text.specs.declared.keywords.Segment.TheVariants.{Code, Statics}
 use Rattle.tg_isa.specs.Names.{register_name}
-use Rattle.tg_isa.specs.Table.{IsRow}
+use Rattle.tg_isa.specs.Rows.{IsRow}
 use Rattle.tg_asm_text.specs.Lines.{is_in_range}
 use Rattle.tg_asm_text.specs.Operands.{Signed, is_label}
 use Rattle.tg_asm_text.specs.Items as items

@@ -12,7 +12,7 @@ ghost use Rattle.tg_asm_text.specs.Writing.{
   unlabelled_row,
 };
 ghost use Rattle.tg_isa.specs.Names.{register_name};
-ghost use Rattle.tg_isa.specs.Table.{IsRow};
+ghost use Rattle.tg_isa.specs.Rows.{IsRow};
 
 use std::alloc::Global;
 use tg_base::Memory;

@@ -1,4 +1,4 @@
--- What the sources, the sink and the shelves in memory hold.
+-- What sources, sinks and shelves in memory hold whose calls may fail.
 use Rattle.std.specs.Prelude.{ℕ, ◌-◌, ◌==◌, [], length, Some, Bool, if◌then◌else◌, ◌||◌, List}
 use Rattle.std.specs.Prelude.{Option, String, Vec, map, string_bytes}
 use Rattle.std.specs.BTreeMap.{BTreeMap}
@@ -8,11 +8,6 @@ use Rattle.std.specs.Str.{bytes_eq}
 use Rattle.std.specs.declared.alloc.Global.{Global}
 use Rattle.tg_base.specs.Counts.{Counts, counted, none_so_far, next_fails}
 use Rattle.tg_base.specs.Files.{Files}
-
--- bytes that never fail to be read: those left, and the calls so far
-pub record PlainBytes : Type 0 where
-  pub left : List ℕ
-  pub calls : ℕ
 
 -- bytes whose reads may fail
 pub record ListedBytes : Type 0 where

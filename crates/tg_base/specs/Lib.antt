@@ -5,6 +5,7 @@ pub mod Files
 pub mod Lines
 pub mod Writes
 pub mod Counts
+pub mod PlainBytes
 pub mod InMemory
 pub mod Interned
 pub mod laws

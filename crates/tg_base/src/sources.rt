@@ -54,7 +54,7 @@ pub struct PlainSource {
 }
 
 impl Model for PlainSource {
-    ghost use Rattle.tg_base.specs.InMemory.{PlainBytes};
+    ghost use Rattle.tg_base.specs.PlainBytes.{PlainBytes};
 
     ghost Value = { PlainBytes };
 

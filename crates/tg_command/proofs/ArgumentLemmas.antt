@@ -10,7 +10,8 @@ use Rattle.clap.specs.declared.builder.command.Command.{Command}
 use Rattle.clap.specs.declared.builder.command.Command.TheViews.{out-Command as fields_of}
 use Rattle.clap.specs.declared.parser.matches.ArgMatches.{ArgMatches}
 use Rattle.clap.proofs.CallerLemmas.{required_in_chain}
-use Rattle.tg_command.specs.Simple.{IsArgument, IsGiven, IsValued, flag_rule, option, positional}
+use Rattle.tg_command.specs.Simple.{flag_rule, option, positional}
+use Rattle.tg_command.specs.Arguments.{IsArgument, IsGiven, IsValued}
 
 -- the names of the arguments
 abbrev names : List Text

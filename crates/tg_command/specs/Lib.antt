@@ -1,5 +1,6 @@
 pub mod Counts
 pub mod Modes
+pub mod Arguments
 pub mod Simple
 pub mod Flagged
 pub mod Commands

@@ -4,8 +4,8 @@ ghost use Rattle.std.specs.Str.{bytes_eq};
 ghost use Rattle.clap.specs.Words.{app_of, first_value, found_of, kind_of};
 ghost use Rattle.tg_command.specs.Simple as specs;
 ghost use Rattle.tg_command.specs.glue.Values.{AreValuesOf};
-ghost use Rattle.tg_command.specs.Simple.{GivesRequired, IsArgument, IsTaken, IsValued};
-ghost use Rattle.tg_command.specs.Simple.{simple_command};
+ghost use Rattle.tg_command.specs.Simple.{IsTaken, simple_command};
+ghost use Rattle.tg_command.specs.Arguments.{GivesRequired, IsArgument, IsValued};
 
 use crate::CommandFault;
 use crate::flags::Flags;

@@ -5,7 +5,7 @@ use Rattle.std.proofs.lemmas.List.Elements.{All-contains}
 use Rattle.tg_machine_state.specs.State.{initial_machine, stack_top}
 use Rattle.tg_semantics.specs.laws.Laws.{FormsAgree}
 use Rattle.tg_semantics.specs.Passing.{evaluate_passing}
-use Rattle.tg_semantics.specs.MachineEnds.{program_run, NoEndingIsFull, OnlyStuckIsStuck}
+use Rattle.tg_semantics.specs.MachineRuns.{program_run, NoEndingIsFull, OnlyStuckIsStuck}
 use Rattle.tg_typecheck.specs.Programs.{CheckedProgram, IsAccepted}
 use Rattle.tg_typecheck.specs.laws.Laws.{IsNeverStuck}
 use Rattle.tg_asm_text.specs.Assembly.{Assembled, assembled}

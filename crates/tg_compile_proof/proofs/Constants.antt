@@ -3,7 +3,8 @@ use Rattle.std.proofs.Common.{◌≤◌, ◌+◌, zero, suc, ◌<◌, ◌^◌, L
 use Rattle.std.specs.List.{Contains}
 use Rattle.std.specs.FinSet.{from_list}
 use Rattle.tg_syntax.specs.Functions.{program_functions, program_size}
-use Rattle.tg_syntax.specs.Measures.{size, inner}
+use Rattle.tg_syntax.specs.Measures.{size}
+use Rattle.tg_syntax.specs.InnerMeasures.{inner}
 use Rattle.tg_syntax.specs.Spans.{span_of}
 use Rattle.tg_syntax.proofs.FunctionLaws.{program_size_is}
 use Rattle.tg_typecheck.specs.declared.faults.TypeRule.TheVariants.{T22}

@@ -15,8 +15,9 @@ use Rattle.tg_syntax.specs.declared.trees.Param.{Param}
 use Rattle.tg_syntax.specs.Tree.{Form, TypeDec, Alias, Fields, Array, Exp, Nil, Break, Int, Text, Read, Call, Neg, Binary, Make, Fill}
 use Rattle.tg_syntax.specs.Tree.{Assign, If, When, While, For, Let, Seq, LValue, Simple, Field, Index, Exps, no_exps, exp, Inits, no_inits}
 use Rattle.tg_syntax.specs.Tree.{init, Decs, no_decs, types, variable, functions, FunDecs, no_functions, function}
-use Rattle.tg_syntax.specs.Measures.{form_size, type_size, size, place_size, exps_size, inits_size, decs_size, functions_size, inner}
-use Rattle.tg_syntax.specs.Measures.{inner_place, inner_exps, inner_inits, inner_decs, inner_functions}
+use Rattle.tg_syntax.specs.Measures.{form_size, type_size, size, place_size, exps_size, inits_size, decs_size, functions_size}
+use Rattle.tg_syntax.specs.InnerMeasures.{inner}
+use Rattle.tg_syntax.specs.InnerMeasures.{inner_place, inner_exps, inner_inits, inner_decs, inner_functions}
 use Rattle.tg_symbols.specs.Tables.{looked_up}
 use Rattle.tg_typecheck.specs.declared.faults.TypeRule.{TypeRule}
 use Rattle.tg_typecheck.specs.declared.notes.Means.{Means}

@@ -6,12 +6,14 @@ use Rattle.tg_machine_state.specs.declared.ends.RunEnd.TheVariants.{StackFull}
 use Rattle.tg_machine_state.specs.State.{MachineState, initial_machine}
 use Rattle.tg_simulation.specs.Ran as ran
 use Rattle.tg_simulation.specs.Ran.{Ran, Stop, WantsFuel, stops, writes, works}
-use Rattle.tg_simulation.specs.Outcomes.{End, ended, out_of_fuel, stuck, Outcome, map_end}
+use Rattle.tg_simulation.specs.Outcomes.{End, ended, out_of_fuel, stuck, Outcome}
+use Rattle.tg_simulation.specs.Changes.{map_end}
 use Rattle.tg_simulation.specs.Agreement as by_fuel
 use Rattle.tg_simulation.specs.Bytes.{IsPrefix}
 use Rattle.tg_simulation.specs.Agreement.{Source, IsCut, IsSame}
 use Rattle.tg_semantics.specs.Values.{Ending}
-use Rattle.tg_semantics.specs.MachineEnds.{machine_end, as_source}
+use Rattle.tg_semantics.specs.MachineEnds.{machine_end}
+use Rattle.tg_semantics.specs.MachineRuns.{as_source}
 use Rattle.tg_semantics.specs.Direct.{evaluate}
 use Rattle.tg_semantics.specs.Passing.{evaluate_passing}
 use Rattle.tg_semantics.specs.laws.Laws.{FormsAgree}

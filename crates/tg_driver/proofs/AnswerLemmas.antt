@@ -5,7 +5,7 @@ use Rattle.std.proofs.Common.{ℕ, ◌≡◌, ◌<◌, List, [], ◌∷◌, Opti
 use Rattle.tg_machine_state.specs.declared.ends.RunEnd.{RunEnd}
 use Rattle.tg_machine_state.specs.declared.ends.RunEnd.TheVariants.{Exit, Break, Overflow, HeapFull, StackFull, StepLimit, BadAddress, Unaligned, BadWord}
 use Rattle.tg_machine_state.specs.declared.ends.RunEnd.TheVariants.{BadService, ReadFault, WriteFault}
-use Rattle.tg_base.specs.InMemory.{PlainBytes}
+use Rattle.tg_base.specs.PlainBytes.{PlainBytes}
 use Rattle.tg_machine.specs.Machines.{Simulated, loaded}
 use Rattle.tg_machine.specs.Ran.{IsSimulation}
 use Rattle.tg_base.specs.declared.outside.ShelfFault.{ShelfFault}
@@ -21,19 +21,24 @@ use Rattle.tg_command.proofs.CommandLemmas.{asked_once}
 use Rattle.tg_driver.specs.declared.answers.Answer.{Answer}
 use Rattle.tg_driver.specs.declared.answers.Answer.TheVariants.{Faulty, Written, Unwritten, OutOfMemory, Finished}
 use Rattle.tg_driver.specs.Calls.{Stream, stream_of, Streams, Stays, Untouched, Shelved, IsUnread, Call, Takes, nothing, all, part}
-use Rattle.tg_driver.specs.OfFiles.{OfFile, unreadable, read, OrMemory, unread_answer, HasStarted, StaysBeforeStart, UntouchedBeforeStart}
+use Rattle.tg_driver.specs.OfFiles.{OfFile, unreadable, read, UntouchedBeforeStart}
+use Rattle.tg_driver.specs.glue.PrivateCalls.{OrMemory, unread_answer, HasStarted, StaysBeforeStart}
 use Rattle.tg_driver.specs.glue.Found.{IsRefused}
-use Rattle.tg_driver.specs.Runs.{RunRelation, IsRunOrMemory}
+use Rattle.tg_driver.specs.Runs.{RunRelation}
+use Rattle.tg_driver.specs.glue.PrivateCalls.{IsRunOrMemory}
 use Rattle.tg_driver.specs.CheckMode.{IsChecked, ByCheck}
 use Rattle.tg_driver.specs.Writing.{TakesText, TextRelation, Texts, IsWritten, ByWriting}
-use Rattle.tg_driver.specs.RunMode.{EndsAssembled, IsRunBy, ByRun}
-use Rattle.tg_driver.specs.GenMode.{summary, TakesSummary, SumsUpRun, SumsUpBy, IsGeneratedBy, ByGen}
+use Rattle.tg_driver.specs.RunMode.{IsRunBy, ByRun}
+use Rattle.tg_driver.specs.glue.PrivateCalls.{EndsAssembled}
+use Rattle.tg_driver.specs.GenMode.{summary, TakesSummary, SumsUpBy, IsGeneratedBy, ByGen}
+use Rattle.tg_driver.specs.glue.PrivateCalls.{SumsUpRun}
 use Rattle.tg_driver.specs.Endings.{end_status}
 use Rattle.tg_driver.specs.ExecMode.{IsExecuted, ByExec}
-use Rattle.tg_driver.specs.Modes.{InModeBy, LeavesAlone}
+use Rattle.tg_driver.specs.Modes.{InModeBy}
+use Rattle.tg_driver.specs.glue.PrivateCalls.{LeavesAlone}
 use Rattle.tg_driver.specs.FormatMode.{IsFormatted, ByFormat}
 use Rattle.tg_driver.specs.laws.Laws.{ReadsFile}
-use Rattle.tg_driver.specs.Telling.{IsBeforeStart, IsReported, itself, no_memory}
+use Rattle.tg_driver.specs.glue.PrivateCalls.{IsBeforeStart, IsReported, itself, no_memory}
 use Rattle.tg_driver.specs.Answered.{IsDueBy, StaysInGen, NoneUnasked, told_runs, usage, asked, AnswersBy}
 use Rattle.tg_driver.specs.Watching.{NoneBeforeEnd}
 use Rattle.tg_driver.specs.Answered as answered

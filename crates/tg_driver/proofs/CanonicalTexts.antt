@@ -19,10 +19,12 @@ use Rattle.tg_driver.specs.declared.faults.Fault.{Fault}
 use Rattle.tg_driver.specs.Calls.{Stream, Stays, HasFailed, Takes, nothing, all, part}
 use Rattle.tg_driver.specs.Faults.{HasFault, IsUntyped, lexical, syntactic, ill_typed}
 use Rattle.tg_driver.specs.glue.Found.{IsRefused}
-use Rattle.tg_driver.specs.OfFiles.{OrMemory, HasStarted, StaysBeforeStart}
+use Rattle.tg_driver.specs.glue.PrivateCalls.{OrMemory, HasStarted, StaysBeforeStart}
 use Rattle.tg_driver.specs.glue.Readings.{IsSyntaxFaultOf, IsUntypedRefusalOf}
 use Rattle.tg_driver.specs.Writing.{TakesText}
-use Rattle.tg_driver.specs.FormatMode.{Formats, IsUntypedFault, IsRefusedUntyped, IsFormatted, IsFormattable, IsFaultyOrFormatted, IsTree, TakeOneText}
+use Rattle.tg_driver.specs.FormatMode.{Formats, IsUntypedFault, IsFormatted}
+use Rattle.tg_driver.specs.glue.PrivateCalls.{IsRefusedUntyped}
+use Rattle.tg_driver.specs.laws.OfTexts.{IsFormattable, IsFaultyOrFormatted, IsTree, TakeOneText}
 use Rattle.tg_driver.proofs.TokensOnce.{tokens_once}
 use Rattle.tg_driver.proofs.FaultsOnce.{one_fault, fault_once_told, no_tree}
 

@@ -19,12 +19,16 @@ use Rattle.tg_driver.specs.OfFiles.{OfFile, unreadable, read}
 use Rattle.tg_correctness.specs.Sources.{IsSource}
 use Rattle.tg_correctness.specs.Assemblies.{IsAsMeant}
 use Rattle.tg_driver.specs.Writing.{TextRelation, IsWritten}
-use Rattle.tg_driver.specs.GenMode.{no_input, summary, TakesSummary, IsGenerated}
+use Rattle.tg_driver.specs.GenMode.{no_input, summary, TakesSummary}
+use Rattle.tg_driver.specs.laws.AsMeant.{IsGenerated}
 use Rattle.tg_driver.specs.Endings.{end_status}
-use Rattle.tg_driver.specs.Modes.{InMode, most_of}
+use Rattle.tg_driver.specs.laws.OfTexts.{most_of}
+use Rattle.tg_driver.specs.laws.AsMeant.{InMode}
 use Rattle.tg_driver.specs.Statuses.{status_of, line_of}
-use Rattle.tg_driver.specs.Watching.{HasToldRun, if_watched, run_in}
-use Rattle.tg_driver.specs.Answered.{IsDue, told_runs, usage, no_memory, asked, Answers}
+use Rattle.tg_driver.specs.Watching.{HasToldRun, if_watched}
+use Rattle.tg_driver.specs.glue.Watched.{run_in}
+use Rattle.tg_driver.specs.Answered.{told_runs, usage, no_memory, asked, Answers}
+use Rattle.tg_driver.specs.laws.AsMeant.{IsDue}
 use Rattle.tg_driver.specs.laws.Laws.{HoldsFile, ReadsFile, IsGood, Gives, EndsAndTells, IsFaultyOrWritten, EndsGenerated, Settles, settled_runs}
 use Rattle.tg_driver.specs.laws.Laws.{IsSettled}
 use Rattle.tg_driver.proofs.ExactRuns.{ends_as_told, ends_faultless, exact_reports}

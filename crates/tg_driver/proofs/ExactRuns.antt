@@ -12,8 +12,10 @@ use Rattle.tg_machine.proofs.Fetching.{may_rest}
 use Rattle.tg_profiler.specs.Told.{reports_text}
 use Rattle.tg_profiler.specs.Watching.{Report}
 use Rattle.tg_driver.specs.Calls.{Streams, HasFailed}
-use Rattle.tg_driver.specs.Runs.{RunRelation, HasRun, end_in, world_in, IsExact}
-use Rattle.tg_driver.specs.Watching.{HasToldRun, reports_on}
+use Rattle.tg_driver.specs.Runs.{RunRelation, HasRun}
+use Rattle.tg_driver.specs.laws.Settled.{end_in, world_in, IsExact}
+use Rattle.tg_driver.specs.Watching.{HasToldRun}
+use Rattle.tg_driver.specs.laws.Settled.{reports_on}
 use Rattle.tg_driver.specs.laws.Laws.{IsFaultless, EndsAsTold}
 use Rattle.tg_driver.specs.declared.answers.Answer.TheVariants.{Finished}
 use Rattle.tg_driver.proofs.ToldInputs.{lost}

@@ -13,11 +13,14 @@ use Rattle.tg_driver.specs.declared.answers.Answer.{Answer}
 use Rattle.tg_driver.specs.declared.answers.Answer.TheVariants.{Faulty, Written, Unwritten, Finished, OutOfMemory}
 use Rattle.tg_driver.specs.Calls.{Stream, stream_of, HasFailed, Streams, Call, Takes, nothing, all, part}
 use Rattle.tg_driver.specs.Runs.{HasRun}
-use Rattle.tg_driver.specs.Watching.{if_watched, run_in}
+use Rattle.tg_driver.specs.Watching.{if_watched}
+use Rattle.tg_driver.specs.glue.Watched.{run_in}
 use Rattle.tg_driver.specs.Writing.{IsWritten}
-use Rattle.tg_driver.specs.RunMode.{IsRun}
-use Rattle.tg_driver.specs.GenMode.{IsGenerated}
-use Rattle.tg_driver.specs.Modes.{InMode, texts_meant, most_of}
+use Rattle.tg_driver.specs.laws.AsMeant.{IsRun}
+use Rattle.tg_driver.specs.laws.AsMeant.{IsGenerated}
+use Rattle.tg_driver.specs.Modes.{texts_meant}
+use Rattle.tg_driver.specs.laws.OfTexts.{most_of}
+use Rattle.tg_driver.specs.laws.AsMeant.{InMode}
 use Rattle.tg_driver.specs.Answered.{told_runs, Answers}
 use Rattle.tg_driver.specs.laws.Laws.{ReadsFile, IsGood, Gives}
 use Rattle.tg_driver.specs.laws.MeantCommands.{BuildsByMeaning, RunsByMeaning, GeneratesByMeaning, ByMeaning, DoesAsMeant}

@@ -11,17 +11,18 @@ use Rattle.tg_command.specs.declared.modes.Mode.TheVariants.{Check, Build, Run, 
 use Rattle.tg_command.specs.Commands.{Asked}
 use Rattle.tg_driver.specs.declared.answers.Answer.{Answer}
 use Rattle.tg_driver.specs.declared.answers.Answer.TheVariants.{Faulty, BadLine, TooLong, Accepted, Written, Unwritten, Finished}
-use Rattle.tg_driver.specs.OfFiles.{HasStarted}
+use Rattle.tg_driver.specs.glue.PrivateCalls.{HasStarted}
 use Rattle.tg_driver.specs.Calls.{Streams}
 use Rattle.tg_driver.specs.Runs.{RunRelation}
-use Rattle.tg_driver.specs.Watching.{HasToldRun, run_in}
+use Rattle.tg_driver.specs.Watching.{HasToldRun}
+use Rattle.tg_driver.specs.glue.Watched.{run_in}
 use Rattle.tg_driver.specs.laws.Laws.{IsFaultless}
 use Rattle.tg_driver.specs.CheckMode.{IsChecked}
-use Rattle.tg_driver.specs.Writing.{IsWritable}
-use Rattle.tg_driver.specs.RunMode.{IsRun}
-use Rattle.tg_driver.specs.GenMode.{IsGenerable}
+use Rattle.tg_driver.specs.laws.OfTexts.{IsWritable}
+use Rattle.tg_driver.specs.laws.AsMeant.{IsRun}
+use Rattle.tg_driver.specs.laws.OfTexts.{IsGenerable}
 use Rattle.tg_driver.specs.ExecMode.{EndsImage, IsExecuted}
-use Rattle.tg_driver.specs.Modes.{IsDueOfText}
+use Rattle.tg_driver.specs.laws.OfTexts.{IsDueOfText}
 use Rattle.tg_driver.proofs.ExactRuns.{FaultlessRun}
 use Rattle.tg_driver.proofs.FaultsOnce.{fault_once_told}
 use Rattle.tg_driver.proofs.SourcesOnce.{no_fault, no_fault_of_meant}

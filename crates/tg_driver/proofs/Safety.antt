@@ -24,21 +24,29 @@ use Rattle.tg_driver.specs.declared.answers.Answer.{Answer}
 use Rattle.tg_driver.specs.declared.answers.Answer.TheVariants.{Usage, Faulty, BadLine, TooLong, Unreadable, OutOfMemory}
 use Rattle.tg_driver.specs.declared.answers.Answer.TheVariants.{Accepted, Written, Unwritten, Finished}
 use Rattle.tg_driver.specs.Calls.{Stream, stream_of, Streams, streams_of, Stays, HasFailed, Shelved, IsUnread, Call, Takes, nothing, all, part}
-use Rattle.tg_driver.specs.OfFiles.{OfFile, unreadable, read, HasStarted}
+use Rattle.tg_driver.specs.OfFiles.{OfFile, unreadable, read}
+use Rattle.tg_driver.specs.glue.PrivateCalls.{HasStarted}
 use Rattle.tg_driver.specs.Statuses.{status_of}
 use Rattle.tg_driver.specs.Endings.{end_status, break_status}
-use Rattle.tg_driver.specs.Runs.{HasRun, world_in}
-use Rattle.tg_driver.specs.Watching.{if_watched, run_in}
+use Rattle.tg_driver.specs.Runs.{HasRun}
+use Rattle.tg_driver.specs.laws.Settled.{world_in}
+use Rattle.tg_driver.specs.Watching.{if_watched}
+use Rattle.tg_driver.specs.glue.Watched.{run_in}
 use Rattle.tg_driver.specs.CheckMode.{IsChecked}
 use Rattle.tg_driver.specs.Writing.{TextRelation, IsWritten}
-use Rattle.tg_driver.specs.RunMode.{IsRun}
+use Rattle.tg_driver.specs.laws.AsMeant.{IsRun}
 use Rattle.tg_driver.specs.ExecMode.{IsExecuted}
-use Rattle.tg_driver.specs.GenMode.{no_input, summary, IsGenerated}
+use Rattle.tg_driver.specs.GenMode.{no_input, summary}
+use Rattle.tg_driver.specs.laws.AsMeant.{IsGenerated}
 use Rattle.tg_driver.specs.FormatMode.{Formats, IsFormatted}
-use Rattle.tg_driver.specs.Modes.{InMode, texts_meant, ReadsNoInput, most_of}
+use Rattle.tg_driver.specs.Modes.{texts_meant}
+use Rattle.tg_driver.specs.glue.PrivateCalls.{ReadsNoInput}
+use Rattle.tg_driver.specs.laws.OfTexts.{most_of}
+use Rattle.tg_driver.specs.laws.AsMeant.{InMode}
 use Rattle.tg_driver.specs.laws.Laws.{ReadsFile}
 use Rattle.tg_driver.specs.Telling.{IsTold}
-use Rattle.tg_driver.specs.Answered.{IsDue, told_runs, usage, no_memory, asked, Answers}
+use Rattle.tg_driver.specs.Answered.{told_runs, usage, no_memory, asked, Answers}
+use Rattle.tg_driver.specs.laws.AsMeant.{IsDue}
 use Rattle.tg_driver.specs.laws.Safe.{LeavesUnread, IsFileUnread, IsImageOf, IsOutput, HasToWrite, WritesPrefix}
 use Rattle.tg_driver.specs.laws.Safe.{IsCausedEnd, IsCaused, IsExit, SomeFailed, IsSafe}
 use Rattle.tg_driver.proofs.AnswerLemmas.{left_alone, stays_in_gen}

@@ -8,7 +8,7 @@ use Rattle.tg_correctness.specs.Sources.{IsSource}
 use Rattle.tg_driver.specs.Faults.{IsFaultOf}
 use Rattle.tg_correctness.specs.Assemblies.{IsAsMeant}
 use Rattle.tg_compile_proof.specs.Builds.{CompilesTo}
-use Rattle.tg_driver.specs.MeantRuns.{EndsAsMeant}
+use Rattle.tg_driver.specs.laws.AsMeant.{EndsAsMeant}
 use Rattle.tg_driver.specs.Runs.{RunRelation}
 use Rattle.tg_driver.specs.AllocMode.{Lists}
 use Rattle.tg_driver.proofs.FaultsOnce.{source_excludes}

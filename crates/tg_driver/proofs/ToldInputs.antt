@@ -8,7 +8,7 @@ use Rattle.tg_machine.specs.Ran.{Stops, MayFollow, MeetsEnd, begun_on, standing}
 use Rattle.tg_machine.specs.Fetches.{rest_after}
 use Rattle.tg_machine.proofs.Fetching.{may_rest}
 use Rattle.tg_machine.proofs.Reached.{none_follows}
-use Rattle.tg_driver.specs.Runs.{Tells}
+use Rattle.tg_driver.specs.laws.Settled.{Tells}
 
 at_end : {I : Type 0} (told : I → Option (List ℕ)) (ended : Bool) (read : List ℕ) (input input' : I) → MeetsEnd told false ended read input input' →
     ended ≡ true → IsAtEnd (told input')

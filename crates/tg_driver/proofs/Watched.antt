@@ -9,8 +9,10 @@ use Rattle.tg_machine.proofs.Fetching.{may_rest}
 use Rattle.tg_machine.specs.Machines.{Simulated, loaded}
 use Rattle.tg_machine.specs.Ran.{IsSimulation}
 use Rattle.tg_irc_definition.specs.Policies.{Rule as SpillRule}
-use Rattle.tg_profiler.specs.Told.{HasTold, reports_text}
-use Rattle.tg_profiler.specs.Watching.{HaveSeen, Report}
+use Rattle.tg_profiler.specs.Told.{reports_text}
+use Rattle.tg_profiler.specs.Telling.{HasTold}
+use Rattle.tg_profiler.specs.Watching.{Report}
+use Rattle.tg_profiler.specs.Watchers.{HaveSeen}
 use Rattle.tg_command.specs.declared.flags.Flags.{Flags}
 use Rattle.tg_command.specs.declared.modes.Mode.{Mode}
 use Rattle.tg_command.specs.declared.modes.Mode.TheVariants.{Check, Build, Run, Exec, Alloc, Gen, Format}
@@ -19,7 +21,8 @@ use Rattle.tg_command.proofs.CommandLemmas.{asked_once}
 use Rattle.tg_driver.specs.declared.answers.Answer.{Answer}
 use Rattle.tg_driver.specs.declared.answers.Answer.TheVariants.{Usage, Faulty, BadLine, TooLong, Written, Unwritten, OutOfMemory, Finished}
 use Rattle.tg_driver.specs.Calls.{Stream, stream_of, Streams, streams_of, Shelved, Call, Takes, part}
-use Rattle.tg_driver.specs.OfFiles.{OfFile, unreadable, read, HasStarted}
+use Rattle.tg_driver.specs.OfFiles.{OfFile, unreadable, read}
+use Rattle.tg_driver.specs.glue.PrivateCalls.{HasStarted}
 use Rattle.tg_driver.specs.Runs.{RunRelation}
 use Rattle.tg_driver.specs.RunMode.{IsRunBy}
 use Rattle.tg_driver.specs.GenMode.{IsGeneratedBy}
@@ -27,10 +30,12 @@ use Rattle.tg_driver.specs.Writing.{TextRelation, Texts, IsWritten}
 use Rattle.tg_driver.specs.Compiled.{texts_compiled}
 use Rattle.tg_compile_proof.specs.laws.TextLaws.{BuildIsCorrect}
 use Rattle.tg_driver.specs.ExecMode.{IsExecuted}
-use Rattle.tg_driver.specs.Modes.{InModeBy, texts_meant, ReadsNoInput}
+use Rattle.tg_driver.specs.Modes.{InModeBy, texts_meant}
+use Rattle.tg_driver.specs.glue.PrivateCalls.{ReadsNoInput}
 use Rattle.tg_driver.specs.Answered.{IsDueBy, NoneUnasked, told_runs, usage, no_memory, asked, AnswersBy}
-use Rattle.tg_driver.specs.Telling.{IsReported}
-use Rattle.tg_driver.specs.Watching.{HasToldRun, HasWatchedRun, NoneBeforeEnd, Tell, TellAfter, if_watched}
+use Rattle.tg_driver.specs.glue.PrivateCalls.{IsReported}
+use Rattle.tg_driver.specs.Watching.{HasToldRun, NoneBeforeEnd, if_watched}
+use Rattle.tg_driver.specs.glue.Watched.{HasWatchedRun, Tell, TellAfter}
 use Rattle.tg_driver.proofs.AnswerLemmas.{answers_of, took_all}
 
 -- what is said of the run of an answer

@@ -1,6 +1,5 @@
 -- What the program answers to a call.
 use Rattle.std.specs.Prelude.{ℕ, ◌≡◌, List, [], false}
-use Rattle.tg_irc_definition.specs.Policies.{Rule as SpillRule}
 use Rattle.tg_command.specs.declared.modes.Mode.TheVariants.{Gen}
 use Rattle.tg_command.specs.Commands.{Asked, Ask, IsUsageFault}
 use Rattle.tg_driver.specs.declared.answers.Answer.{Answer}
@@ -38,11 +37,6 @@ pub data IsDueBy {H I O : Type 0} (texts : Texts) (runs : Asked → RunRelation)
       Ask words a →
       InModeBy texts (runs a) a.mode shelf s a answer →
       IsDueBy texts runs words shelf s answer
-
--- the answer is due by assembly texts that do what the source means
-abbrev pub IsDue : {H I O : Type 0} → SpillRule → (runs : Asked → RunRelation) →
-    (words : List (List ℕ)) → Shelved H → Streams I O → Answer → Type 0
-IsDue rule runs words shelf s answer = IsDueBy (texts_meant rule) runs words shelf s answer
 
 -- without the flag no reports are told
 abbrev pub NoneUnasked : (words : List (List ℕ)) → (reports : List ℕ) → Type 0

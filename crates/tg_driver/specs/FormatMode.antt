@@ -7,13 +7,12 @@ use Rattle.tg_formatter.specs.Canonical.{canonical, tokens_of}
 use Rattle.tg_command.specs.Commands.{Asked}
 use Rattle.tg_correctness.specs.Sources.{HasTree}
 use Rattle.tg_driver.specs.declared.answers.Answer.{Answer}
-use Rattle.tg_driver.specs.declared.answers.Answer.TheVariants.{Faulty, OutOfMemory, Written}
-use Rattle.tg_driver.specs.declared.answers.Answer.TheVariants.{Unwritten}
+use Rattle.tg_driver.specs.declared.answers.Answer.TheVariants.{Faulty, Written, Unwritten}
 use Rattle.tg_driver.specs.declared.faults.Fault.{Fault}
 use Rattle.tg_driver.specs.Calls.{Shelved, Stream, Streams, Stays}
 use Rattle.tg_driver.specs.Faults.{IsFaultOf, IsUntyped}
 use Rattle.tg_driver.specs.OfFiles.{OfFile, UntouchedBeforeStart}
-use Rattle.tg_driver.specs.Writing.{WritesText, TakesText}
+use Rattle.tg_driver.specs.Writing.{WritesText}
 
 -- the text is a tree of some tokens, of which this is the canonical text
 pub record Formats (text written : List ℕ) : Type 0 where
@@ -28,12 +27,6 @@ pub record IsUntypedFault (text : List ℕ) (fault : Fault) : Type 0 where
   pub is_fault : IsFaultOf text fault
   pub is_untyped : IsUntyped fault.rule
 
--- a source that is refused, but for no fault of types: that fault, or out of memory
-abbrev pub IsRefusedUntyped : List ℕ → Answer → Type 0
-IsRefusedUntyped text (Faulty fault) = IsUntypedFault text fault
-IsRefusedUntyped text OutOfMemory = Unit {0}
-IsRefusedUntyped text _ = ⊥
-
 -- to a source: its first fault but of types, or what came of writing its canonical text
 abbrev pub IsFormatted : {O : Type 0} → Stream O → List ℕ → Answer → Type 0
 IsFormatted out source (Faulty fault) = IsUntypedFault source fault
@@ -45,29 +38,3 @@ abbrev pub ByFormat : {H I O : Type 0} → Shelved H → Streams I O → Asked �
 ByFormat shelf s asked answer =
     Stays s.input × UntouchedBeforeStart s answer
     × OfFile shelf asked.file 262145 (IsFormatted s.out) answer
-
--- the text is a tree
-pub record IsTree (text : List ℕ) : Type 0 where
-  pub names : List (List ℕ)
-  pub tokens : List Spanned
-  pub program : Exp
-  pub tree : HasTree text names tokens program
-
--- whatever the sink takes: the source's first fault but of types, or that it is a tree
-abbrev pub IsFormattable : List ℕ → Answer → Type 0
-IsFormattable source (Faulty fault) = IsUntypedFault source fault
-IsFormattable source Written = IsTree source
-IsFormattable source Unwritten = IsTree source
-IsFormattable source _ = ⊥
-
--- to a source: its first fault but of types, or that its canonical text was written
-abbrev pub IsFaultyOrFormatted : List ℕ → Answer → Type 0
-IsFaultyOrFormatted source (Faulty fault) = IsUntypedFault source fault
-IsFaultyOrFormatted source Written = IsTree source
-IsFaultyOrFormatted source _ = ⊥
-
--- two sinks took one text, whole
-pub record TakeOneText {O P : Type 0} (out : Stream O) (other : Stream P) : Type 0 where
-  pub written : List ℕ
-  pub takes : TakesText out written Written
-  pub takes_too : TakesText other written Written

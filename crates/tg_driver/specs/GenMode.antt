@@ -3,7 +3,7 @@
 -- file and no input.
 use Rattle.std.specs.Prelude.{◌≡◌, ℕ, List, [], ◌∷◌, ◌++◌, length, codes, Some}
 use Rattle.std.specs.Fmt.{decimal}
-use Rattle.tg_base.specs.InMemory.{PlainBytes}
+use Rattle.tg_base.specs.PlainBytes.{PlainBytes}
 use Rattle.tg_machine_state.specs.declared.ends.RunEnd.{RunEnd}
 use Rattle.tg_machine_state.specs.declared.ends.RunEnd.TheVariants.{WriteFault}
 use Rattle.tg_isa.specs.declared.images.Image.{Image}
@@ -13,7 +13,6 @@ use Rattle.tg_driver.specs.declared.answers.Answer.{Answer}
 use Rattle.tg_driver.specs.declared.answers.Answer.TheVariants.{Unwritten, Finished}
 use Rattle.tg_driver.specs.Calls.{Shelved, Stream, Streams, stream_of, streams_of, Stays, Takes}
 use Rattle.tg_driver.specs.OfFiles.{UntouchedBeforeStart}
-use Rattle.tg_correctness.specs.Assemblies.{IsAsMeant}
 use Rattle.tg_driver.specs.MeantRuns.{EndsBy}
 use Rattle.tg_driver.specs.Endings.{end_status}
 use Rattle.tg_driver.specs.Runs.{HasRun}
@@ -56,23 +55,11 @@ pub record SumsUp {O : Type 0} (out : Stream O) (functions source : ℕ) (answer
       TakesSummary (stream_of out.told out.faults between out.after)
       functions source run.after.written end answer
 
--- so the image ran, and ended in some way
-pub record SumsUpRun {O : Type 0} (out : Stream O) (functions source : ℕ)
-    (image : Image) (heap stack steps : ℕ) (answer : Answer) : Type 0 where
-  pub end : RunEnd
-  pub sums_up : SumsUp out functions source answer image heap stack steps end
-
 -- and so did that of an assembly text that a source of so many functions may have
 pub record SumsUpBy {O : Type 0} (texts : TextRelation) (out : Stream O)
     (functions : ℕ) (text : List ℕ) (heap stack steps : ℕ) (answer : Answer) : Type 0 where
   pub end : RunEnd
   pub ends : EndsBy texts (SumsUp out functions (length text) answer) text heap stack steps end
-
--- of one that does what the source means
-abbrev pub SumsUpMeant : {O : Type 0} → Stream O →
-    (functions : ℕ) (text : List ℕ) (heap stack steps : ℕ) (answer : Answer) → Type 0
-SumsUpMeant out functions text heap stack steps answer =
-    SumsUpBy IsAsMeant out functions text heap stack steps answer
 
 -- what comes of a generated source
 abbrev pub IsGeneratedBy : {O : Type 0} → TextRelation → Stream O → Asked → Answer → Type 0
@@ -80,17 +67,8 @@ IsGeneratedBy texts out asked answer =
     SumsUpBy texts out asked.number (generated asked.number)
     asked.heap asked.stack asked.steps answer
 
-abbrev pub IsGenerated : {O : Type 0} → Stream O → Asked → Answer → Type 0
-IsGenerated out asked answer = IsGeneratedBy IsAsMeant out asked answer
-
 abbrev pub ByGen :
     {H I O : Type 0} → TextRelation → Shelved H → Streams I O → Asked → Answer → Type 0
 ByGen texts shelf s asked answer =
     (shelf.after ≡ shelf.before) × Stays s.input × UntouchedBeforeStart s answer
     × IsGeneratedBy texts s.out asked answer
-
--- whatever the sink takes: an end of the run, or that the summary failed
-abbrev pub IsGenerable : Answer → Type 0
-IsGenerable (Finished end) = Unit {0}
-IsGenerable Unwritten = Unit {0}
-IsGenerable _ = ⊥

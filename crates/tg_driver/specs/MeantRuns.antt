@@ -4,7 +4,6 @@ use Rattle.tg_machine_state.specs.declared.ends.RunEnd.{RunEnd}
 use Rattle.tg_isa.specs.declared.images.Image.{Image}
 use Rattle.tg_asm_text.specs.Assembly.{assembled}
 use Rattle.tg_asm.specs.Images.{image_of}
-use Rattle.tg_correctness.specs.Assemblies.{IsAsMeant}
 use Rattle.tg_driver.specs.Runs.{RunRelation}
 use Rattle.tg_driver.specs.Writing.{TextRelation}
 
@@ -21,8 +20,3 @@ pub record EndsBy (texts : TextRelation) (runs : RunRelation)
   pub assembly : List ℕ
   pub meant : texts text assembly
   pub ran : RunsAssembled runs assembly heap stack steps end
-
--- of one that does what the source means
-abbrev pub EndsAsMeant :
-    RunRelation → (text : List ℕ) (heap stack steps : ℕ) (end : RunEnd) → Type 0
-EndsAsMeant runs text heap stack steps end = EndsBy IsAsMeant runs text heap stack steps end

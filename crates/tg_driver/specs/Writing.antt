@@ -5,7 +5,6 @@ use Rattle.tg_driver.specs.declared.answers.Answer.{Answer}
 use Rattle.tg_driver.specs.declared.answers.Answer.TheVariants.{Faulty, Written, Unwritten}
 use Rattle.tg_driver.specs.Calls.{Shelved, Stream, Streams, Stays, Takes}
 use Rattle.tg_driver.specs.OfFiles.{OfFile, UntouchedBeforeStart}
-use Rattle.tg_correctness.specs.Sources.{IsSource}
 use Rattle.tg_driver.specs.Faults.{IsFaultOf}
 
 -- the sink took a text, whole, or a write of it failed
@@ -41,10 +40,3 @@ abbrev pub ByWriting :
 ByWriting shelf s writes asked answer =
     Stays s.input × UntouchedBeforeStart s answer
     × OfFile shelf asked.file 262145 (IsWritten s.out writes) answer
-
--- whatever the sink takes: the source's first fault, or that it is a source
-abbrev pub IsWritable : List ℕ → Answer → Type 0
-IsWritable source (Faulty fault) = IsFaultOf source fault
-IsWritable source Written = IsSource source
-IsWritable source Unwritten = IsSource source
-IsWritable source _ = ⊥

@@ -2,3 +2,5 @@ pub mod Texts
 pub mod Readings
 pub mod Plainly
 pub mod Found
+pub mod Watched
+pub mod PrivateCalls

@@ -3,3 +3,6 @@ pub mod Laws
 pub mod Safe
 pub mod MeantCommands
 pub mod Meanings
+pub mod AsMeant
+pub mod OfTexts
+pub mod Settled

@@ -1,7 +1,6 @@
 ghost use Rattle.std.specs.Prelude.{◌≡◌};
 ghost use Rattle.tg_driver.specs.Statuses.{line_of, status_of};
-ghost use Rattle.tg_driver.specs.OfFiles.{unread_answer};
-ghost use Rattle.tg_driver.specs.Telling.{IsFixed};
+ghost use Rattle.tg_driver.specs.glue.PrivateCalls.{unread_answer, IsFixed};
 
 use crate::endings::end_status;
 use crate::faults::Fault;

@@ -3,7 +3,8 @@ ghost use Rattle.tg_syntax.specs.glue.Plain.{plain};
 ghost use Rattle.tg_command.specs.Commands.{asked_of};
 ghost use Rattle.tg_driver.specs.Calls.{shelf_of};
 ghost use Rattle.tg_driver.specs.CheckMode.{IsChecked};
-ghost use Rattle.tg_driver.specs.OfFiles.{OfFile, OrMemory};
+ghost use Rattle.tg_driver.specs.OfFiles.{OfFile};
+ghost use Rattle.tg_driver.specs.glue.PrivateCalls.{OrMemory};
 ghost use Rattle.tg_driver.specs.glue.Found.{IsRefused};
 ghost use Rattle.tg_driver.specs.glue.Readings.{HasNamedTree, IsRefusalOf};
 

@@ -5,9 +5,9 @@ ghost use Rattle.tg_machine.specs.Machines.{loaded};
 ghost use Rattle.tg_command.specs.Commands.{KeepsLimits, asked_of};
 ghost use Rattle.tg_driver.specs.Calls.{shelf_of, stream_of, streams_of};
 ghost use Rattle.tg_driver.specs.ExecMode.{IsExecuted};
-ghost use Rattle.tg_driver.specs.OfFiles.{OfFile, OrMemory, UntouchedBeforeStart};
-ghost use Rattle.tg_driver.specs.Runs.{IsRunOrMemory};
-ghost use Rattle.tg_driver.specs.Watching.{HasWatchedRun};
+ghost use Rattle.tg_driver.specs.OfFiles.{OfFile, UntouchedBeforeStart};
+ghost use Rattle.tg_driver.specs.glue.PrivateCalls.{OrMemory, IsRunOrMemory};
+ghost use Rattle.tg_driver.specs.glue.Watched.{HasWatchedRun};
 
 use crate::answers::{Answer, unread};
 use crate::streams::Streams;

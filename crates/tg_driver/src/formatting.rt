@@ -1,8 +1,9 @@
 ghost use Rattle.std.specs.Prelude.{◌≡◌, ⊤, MatchResult};
 ghost use Rattle.tg_command.specs.Commands.{asked_of};
 ghost use Rattle.tg_driver.specs.Calls.{shelf_of, stream_of};
-ghost use Rattle.tg_driver.specs.FormatMode.{Formats, IsFormatted, IsRefusedUntyped};
-ghost use Rattle.tg_driver.specs.OfFiles.{OfFile, OrMemory, StaysBeforeStart};
+ghost use Rattle.tg_driver.specs.FormatMode.{Formats, IsFormatted};
+ghost use Rattle.tg_driver.specs.glue.PrivateCalls.{IsRefusedUntyped, OrMemory, StaysBeforeStart};
+ghost use Rattle.tg_driver.specs.OfFiles.{OfFile};
 ghost use Rattle.tg_driver.specs.glue.Readings.{IsUntypedRefusalOf};
 
 use crate::answers::{Answer, unread};

@@ -11,15 +11,13 @@ ghost use Rattle.tg_compile_proof.specs.Builds.{Builds};
 ghost use Rattle.tg_correctness.specs.Sources.{IsSource};
 ghost use Rattle.tg_driver.specs.Calls.{stream_of};
 ghost use Rattle.tg_driver.specs.Endings.{end_status};
-ghost use Rattle.tg_driver.specs.GenMode.{
-  IsGeneratedBy,
-  SumsUpBy,
+ghost use Rattle.tg_driver.specs.GenMode.{IsGeneratedBy, SumsUpBy, TakesSummary, counts, summary};
+ghost use Rattle.tg_driver.specs.glue.PrivateCalls.{
   SumsUpRun,
-  TakesSummary,
-  counts,
-  summary,
+  HasStarted,
+  OrMemory,
+  StaysBeforeStart,
 };
-ghost use Rattle.tg_driver.specs.OfFiles.{HasStarted, OrMemory, StaysBeforeStart};
 
 use crate::answers::Answer;
 use crate::compiling::compile_accepted;

@@ -4,15 +4,20 @@ ghost use Rattle.tg_isa.specs.declared.images.Image.{Image};
 ghost use Rattle.tg_profiler.specs.Watching.{Report};
 ghost use Rattle.tg_command.specs.Commands.{Asked};
 ghost use Rattle.tg_driver.specs.declared.answers.Answer.{Answer};
-ghost use Rattle.tg_driver.specs.declared.answers.Answer.TheVariants.{Finished, OutOfMemory, Written};
+ghost use Rattle.tg_driver.specs.declared.answers.Answer.TheVariants.{
+  Finished,
+  OutOfMemory,
+  Written,
+};
 ghost use Rattle.tg_driver.specs.Answered.{Answers};
 ghost use Rattle.tg_driver.specs.Calls.{Call, Stream, Streams};
 ghost use Rattle.tg_driver.specs.ExecMode.{IsExecuted};
-ghost use Rattle.tg_driver.specs.FormatMode.{Formats, IsFormatted, TakeOneText};
-ghost use Rattle.tg_driver.specs.Modes.{IsDueOfText, most_of};
-ghost use Rattle.tg_driver.specs.OfFiles.{HasStarted};
-ghost use Rattle.tg_driver.specs.Runs.{HasRun, IsExact};
-ghost use Rattle.tg_driver.specs.Watching.{HasToldRun, reports_on};
+ghost use Rattle.tg_driver.specs.FormatMode.{Formats, IsFormatted};
+ghost use Rattle.tg_driver.specs.laws.OfTexts.{TakeOneText, IsDueOfText, most_of};
+ghost use Rattle.tg_driver.specs.glue.PrivateCalls.{HasStarted};
+ghost use Rattle.tg_driver.specs.Runs.{HasRun};
+ghost use Rattle.tg_driver.specs.laws.Settled.{IsExact, reports_on};
+ghost use Rattle.tg_driver.specs.Watching.{HasToldRun};
 ghost use Rattle.tg_driver.specs.laws.Laws.{Gives, IsFaultless, IsGood, IsSettled};
 ghost use Rattle.tg_driver.specs.laws.Meanings.{SourcesAreNeverStuck};
 ghost use Rattle.tg_driver.specs.laws.MeantCommands.{DoesAsMeant};

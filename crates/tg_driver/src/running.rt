@@ -3,9 +3,10 @@ ghost use Rattle.tg_command.specs.Commands.{KeepsLimits, asked_of};
 ghost use Rattle.tg_compile.specs.Compiling.{HasImage};
 ghost use Rattle.tg_compile_proof.specs.Builds.{Builds};
 ghost use Rattle.tg_driver.specs.Calls.{shelf_of, stream_of, streams_of};
-ghost use Rattle.tg_driver.specs.OfFiles.{OfFile, OrMemory, UntouchedBeforeStart};
-ghost use Rattle.tg_driver.specs.RunMode.{EndsAssembled, IsRunBy};
-ghost use Rattle.tg_driver.specs.Watching.{HasWatchedRun};
+ghost use Rattle.tg_driver.specs.OfFiles.{OfFile, UntouchedBeforeStart};
+ghost use Rattle.tg_driver.specs.glue.PrivateCalls.{OrMemory, EndsAssembled};
+ghost use Rattle.tg_driver.specs.RunMode.{IsRunBy};
+ghost use Rattle.tg_driver.specs.glue.Watched.{HasWatchedRun};
 
 use crate::answers::{Answer, unread};
 use crate::checking::refused;

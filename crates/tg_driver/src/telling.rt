@@ -1,10 +1,11 @@
 ghost use Rattle.std.specs.Prelude.{◌≡◌, ◌≤◌, ◌++◌, [], ℕ, List};
-ghost use Rattle.tg_profiler.specs.Told.{HasTold, StandForOne};
+ghost use Rattle.tg_profiler.specs.Telling.{HasTold, StandForOne};
 ghost use Rattle.tg_driver.specs.Calls.{stream_of};
 ghost use Rattle.tg_driver.specs.Endings.{end_line};
 ghost use Rattle.tg_driver.specs.Statuses.{line_of};
-ghost use Rattle.tg_driver.specs.Telling.{IsReported, IsTold};
-ghost use Rattle.tg_driver.specs.Watching.{Tell, TellAfter};
+ghost use Rattle.tg_driver.specs.Telling.{IsTold};
+ghost use Rattle.tg_driver.specs.glue.PrivateCalls.{IsReported};
+ghost use Rattle.tg_driver.specs.glue.Watched.{Tell, TellAfter};
 
 use crate::answers::{Answer, line, status};
 use crate::endings::{end_status, write_end};

@@ -5,9 +5,17 @@ ghost use Rattle.tg_driver.specs.Answered.{Answers, IsDueBy};
 ghost use Rattle.tg_driver.specs.Calls.{call_of, shelf_of, stream_of, streams_of};
 ghost use Rattle.tg_driver.specs.Compiled.{AnswersCompiled, texts_compiled};
 ghost use Rattle.tg_driver.specs.GenMode.{IsGeneratedBy};
-ghost use Rattle.tg_driver.specs.Modes.{InModeBy, LeavesAlone, ReadsNoInput};
-ghost use Rattle.tg_driver.specs.OfFiles.{HasStarted, OfFile, OrMemory, StaysBeforeStart};
-ghost use Rattle.tg_driver.specs.Watching.{HasWatchedRun, if_watched};
+ghost use Rattle.tg_driver.specs.Modes.{InModeBy};
+ghost use Rattle.tg_driver.specs.glue.PrivateCalls.{
+  LeavesAlone,
+  ReadsNoInput,
+  HasStarted,
+  OrMemory,
+  StaysBeforeStart,
+};
+ghost use Rattle.tg_driver.specs.OfFiles.{OfFile};
+ghost use Rattle.tg_driver.specs.Watching.{if_watched};
+ghost use Rattle.tg_driver.specs.glue.Watched.{HasWatchedRun};
 
 use crate::answers::Answer;
 use crate::checking::answer_check;

@@ -1,7 +1,8 @@
 ghost use Rattle.std.specs.Prelude.{◌≡◌, ⊤, IfOk};
 ghost use Rattle.tg_command.specs.Commands.{asked_of};
 ghost use Rattle.tg_driver.specs.Calls.{shelf_of, stream_of};
-ghost use Rattle.tg_driver.specs.OfFiles.{HasStarted, OfFile, OrMemory, StaysBeforeStart};
+ghost use Rattle.tg_driver.specs.OfFiles.{OfFile};
+ghost use Rattle.tg_driver.specs.glue.PrivateCalls.{HasStarted, OrMemory, StaysBeforeStart};
 ghost use Rattle.tg_driver.specs.Writing.{IsWritten, TakesText};
 ghost use Rattle.tg_driver.specs.glue.Texts.{wanted_text, writes_of};
 

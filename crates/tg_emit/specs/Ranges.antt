@@ -1,6 +1,6 @@
 -- What the types of functions and literals say of their numbers: each fits the bits that hold it.
 use Rattle.std.specs.Prelude.{◌<◌, ◌^◌, length, All, IfSome}
-use Rattle.tg_isa.specs.Table.{IsRow}
+use Rattle.tg_isa.specs.Rows.{IsRow}
 use Rattle.tg_tree.specs.declared.fragments.Literal.{Literal}
 use Rattle.tg_instr.specs.declared.instr.Instr.{Instr}
 use Rattle.tg_instr.specs.declared.instr.Instr.TheVariants.{FrameLoad, FrameStore, FrameAddress}

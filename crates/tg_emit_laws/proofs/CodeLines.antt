@@ -5,7 +5,7 @@ use Rattle.std.specs.List.{AllByRecursion}
 use Rattle.tg_isa.specs.declared.mips.Mips.{Mips}
 use Rattle.tg_isa.specs.declared.mips.Mips.TheVariants as row
 use Rattle.tg_asm_text.specs.declared.keywords.Segment.TheVariants.{Code}
-use Rattle.tg_isa.specs.Table.{IsRow}
+use Rattle.tg_isa.specs.Rows.{IsRow}
 use Rattle.tg_asm_text.specs.Operands.{is_label}
 use Rattle.tg_asm_text.specs.Writing.{takes_label, unlabelled_row, coded_row}
 use Rattle.tg_asm_text.specs.Items.{Coded, Upper, Lower}

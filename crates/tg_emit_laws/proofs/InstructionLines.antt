@@ -4,7 +4,7 @@ use Rattle.std.specs.Prelude.{IsTrue, Some, IsSome}
 use Rattle.std.specs.List.{list_any}
 use Rattle.std.specs.Fmt.{decimal}
 use Rattle.tg_isa.specs.declared.mips.Mips.TheVariants as row
-use Rattle.tg_isa.specs.Table.{IsRow}
+use Rattle.tg_isa.specs.Rows.{IsRow}
 use Rattle.tg_asm_text.specs.Writing.{coded_row}
 use Rattle.tg_asm_text.specs.Items.{Branch as BranchTo}
 use Rattle.tg_asm_text.specs.Placement.{Position, AtWord, Positions, position_of, BranchReaches, JumpReaches, WordsReach, WordReaches}

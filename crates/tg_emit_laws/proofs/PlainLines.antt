@@ -5,7 +5,7 @@ use Rattle.std.specs.List.{AllByRecursion}
 use Rattle.std.proofs.lemmas.Bool.Decides.{nat_tests}
 use Rattle.tg_isa.specs.declared.mips.Mips.{Mips}
 use Rattle.tg_isa.specs.declared.mips.Mips.TheVariants as row
-use Rattle.tg_isa.specs.Table.{IsRow}
+use Rattle.tg_isa.specs.Rows.{IsRow}
 use Rattle.tg_asm_text.specs.Writing.{takes_label, coded_row}
 use Rattle.tg_asm_text.specs.Items.{Fixed}
 use Rattle.tg_asm_text.specs.Placement.{Positions, WordsReach, WordReaches}

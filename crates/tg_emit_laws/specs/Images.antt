@@ -4,7 +4,7 @@ use Rattle.std.specs.Prelude.{Ok, IsTrue, if◌then◌else◌}
 use Rattle.std.specs.List.{list_all, AllByRecursion}
 use Rattle.tg_machine_state.specs.State.{padded, code_base}
 use Rattle.tg_asm_text.specs.declared.keywords.Segment.TheVariants.{Code, Statics as InStatics}
-use Rattle.tg_isa.specs.Table.{IsRow}
+use Rattle.tg_isa.specs.Rows.{IsRow}
 use Rattle.tg_asm_text.specs.Operands.{is_label}
 use Rattle.tg_asm_text.specs.Writing.{takes_label}
 use Rattle.tg_asm_text.specs.Assembly.{assembled}

@@ -6,7 +6,8 @@ use Rattle.std.proofs.lemmas.Bool.Decides.{nat_tests}
 use Rattle.tg_base.specs.Words.{add, extended}
 use Rattle.tg_machine_state.specs.State.{MachineState, code_base, offset}
 use Rattle.tg_isa.specs.declared.mips.Mips.{Mips}
-use Rattle.tg_isa.specs.Table.{word_of, IsRow}
+use Rattle.tg_isa.specs.Table.{word_of}
+use Rattle.tg_isa.specs.Rows.{IsRow}
 use Rattle.tg_isa.specs.Effects.{fetch}
 use Rattle.tg_asm_text.specs.Placement.{offset_to}
 use Rattle.tg_isa.proofs.Inverse.{decode_of-word_of}

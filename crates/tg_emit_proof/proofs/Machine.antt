@@ -11,7 +11,8 @@ use Rattle.tg_simulation.specs.Ran as ran
 use Rattle.tg_simulation.specs.Ran.{Ran, Wrong, stops, works, writes}
 use Rattle.tg_isa.specs.declared.mips.Mips.{Mips}
 use Rattle.tg_isa.specs.declared.mips.Mips.TheVariants as row
-use Rattle.tg_isa.specs.Table.{word_of, IsRow}
+use Rattle.tg_isa.specs.Table.{word_of}
+use Rattle.tg_isa.specs.Rows.{IsRow}
 use Rattle.tg_isa.specs.Effects.{effect, step, performed, branch_if, branch_unless}
 use Rattle.tg_isa.specs.ImageRuns.{machine_run, first_byte, later_bytes}
 use Rattle.tg_asm_text.specs.Items.{Coded, Upper, Lower}

@@ -4,7 +4,8 @@ use Rattle.tg_isa.specs.declared.mips.Mips.{Mips}
 use Rattle.tg_isa.specs.declared.mips.Mips.TheVariants.{Sll, Srl, Sra, Jr, Jalr, Syscall, Break, Mfhi, Mflo, Mult, Div, Add, Sub, Addu, Subu, And, Or}
 use Rattle.tg_isa.specs.declared.mips.Mips.TheVariants.{Xor, Nor, Slt, Sltu, J, Jal, Beq, Bne, Blez, Bgtz, Bltz, Bgez, Addi, Addiu, Slti, Sltiu, Andi}
 use Rattle.tg_isa.specs.declared.mips.Mips.TheVariants.{Ori, Xori, Lui, Lb, Lbu, Lw, Sb, Sw}
-use Rattle.tg_isa.specs.Table.{register_form, immediate_form, jump_form, code_form, word_of, IsRow, decode_of}
+use Rattle.tg_isa.specs.Table.{register_form, immediate_form, jump_form, code_form, word_of, decode_of}
+use Rattle.tg_isa.specs.Rows.{IsRow}
 
 -- the fields of a word, by name
 record Fields (w opcode rs rt rd shamt funct : ℕ) : Type 0 where

@@ -1,4 +1,5 @@
 pub mod Names
+pub mod Rows
 pub mod Table
 pub mod Effects
 pub mod Runs

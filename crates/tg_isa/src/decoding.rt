@@ -1,11 +1,11 @@
 ghost use Rattle.std.specs.Prelude.{◌≡◌, ◌≢◌, ◌/◌, ◌^◌, IfSome, IfNone};
 ghost use Rattle.tg_isa.specs.Table.{
-  IsRow,
   decode_compared_form,
   decode_of,
   decode_register_form,
   word_of,
 };
+ghost use Rattle.tg_isa.specs.Rows.{IsRow};
 ghost use Rattle.tg_isa.specs.declared.mips.Mips.{Mips};
 
 use crate::bits::Bits;

@@ -1,6 +1,5 @@
 ghost use Rattle.std.specs.Prelude.{◌≡◌, Some, ◌<◌, ◌^◌};
 ghost use Rattle.tg_isa.specs.Table.{
-  IsRow,
   code_form,
   decode_of,
   immediate_form,
@@ -8,6 +7,7 @@ ghost use Rattle.tg_isa.specs.Table.{
   register_form,
   word_of,
 };
+ghost use Rattle.tg_isa.specs.Rows.{IsRow};
 
 use crate::bits::Bits;
 use crate::mips::Mips;

@@ -10,7 +10,7 @@ use Rattle.std.proofs.lemmas.Option.{slice_get-get_or, get_or_from_slice_get}
 use Rattle.tg_machine_state.specs.State.{code_base}
 use Rattle.tg_machine.specs.declared.fetches.Seen.{Seen}
 use Rattle.tg_profiler.specs.Reports.{is_seen, covered}
-use Rattle.tg_profiler.specs.Watching.{IsInCode}
+use Rattle.tg_profiler.specs.Watchers.{IsInCode}
 use Rattle.tg_profiler.specs.glue.Standing.{Covers}
 
 -- a place that was seen, with a fetch more

@@ -5,7 +5,8 @@ use Rattle.std.specs.Prelude.{slice_index_or, slice_set, All}
 use Rattle.std.proofs.lemmas.Bool.{cases_eq}
 use Rattle.std.proofs.lemmas.List.{get_or-set_same, get_or-set_other, get_or_default, length-set}
 use Rattle.tg_machine.specs.declared.fetches.Seen.{Seen}
-use Rattle.tg_profiler.specs.Watching.{Report, CanSee, Sees, CanAllSee, AllSee}
+use Rattle.tg_profiler.specs.Watching.{Report}
+use Rattle.tg_profiler.specs.Watchers.{CanSee, Sees, CanAllSee, AllSee}
 
 pub record SeenFirst {W : Type 0} (stands : W → List Seen → ℕ → Type 0) (report : W → Report) (old now : List W) (x : Seen) (i : ℕ) : Type 0 where
   pub size : length now ≡ length old

@@ -8,8 +8,10 @@ use Rattle.std.specs.Io.KnownBytes.{Appends}
 use Rattle.tg_base.specs.Causes.{HasCause}
 use Rattle.tg_base.specs.Writes.{TakesAll}
 use Rattle.tg_machine.specs.declared.fetches.Seen.{Seen}
-use Rattle.tg_profiler.specs.Told.{HasTold, report_text, reports_text}
-use Rattle.tg_profiler.specs.Watching.{HasLine, Report}
+use Rattle.tg_profiler.specs.Told.{report_text, reports_text}
+use Rattle.tg_profiler.specs.Telling.{HasTold}
+use Rattle.tg_profiler.specs.Watching.{Report}
+use Rattle.tg_profiler.specs.Watchers.{HasLine}
 use Rattle.tg_profiler.proofs.Pieces.{front_longer, all_later, all_failed, cause_later, cause_failed}
 
 no_truth : IsTrue false → ⊥

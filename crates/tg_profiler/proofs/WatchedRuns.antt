@@ -16,7 +16,8 @@ use Rattle.tg_machine.proofs.Chaining.{watched_calls_chain}
 use Rattle.tg_machine.proofs.CodeStays.{code_stays}
 use Rattle.tg_machine.proofs.Fetching.{watched_step}
 use Rattle.tg_machine.proofs.Lasting.{watched_longer}
-use Rattle.tg_profiler.specs.Watching.{Report, IsInCode, CanAllSee, HaveAllSeen, HaveSeen}
+use Rattle.tg_profiler.specs.Watching.{Report}
+use Rattle.tg_profiler.specs.Watchers.{IsInCode, CanAllSee, HaveAllSeen, HaveSeen}
 
 -- a fetch that is seen is of the code
 there_place : (s : MachineState) (o : Option ℕ) (x : Seen) → seen_there s o ≡ Some x → x.place ≡ s.place

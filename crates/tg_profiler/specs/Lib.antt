@@ -1,5 +1,7 @@
 pub mod Watching
+pub mod Watchers
 pub mod Words
+pub mod Telling
 pub mod Told
 pub mod Reports
 pub mod glue

@@ -1,7 +1,8 @@
 ghost use Rattle.std.specs.Prelude.{◌++◌, ◌∷◌, ◌<◌, ◌^◌, [], ℕ, List, All, length, map};
 ghost use Rattle.tg_machine.specs.declared.fetches.Seen.{Seen};
-ghost use Rattle.tg_profiler.specs.Told.{HasTold, StandForOne, report_text, reports_text};
-ghost use Rattle.tg_profiler.specs.Watching.{HasLine, StandsForSome};
+ghost use Rattle.tg_profiler.specs.Told.{report_text, reports_text};
+ghost use Rattle.tg_profiler.specs.Telling.{HasTold, StandForOne};
+ghost use Rattle.tg_profiler.specs.Watchers.{HasLine, StandsForSome};
 
 use crate::watchers::Watcher;
 use tg_base::{Failed, Sink, write_all};

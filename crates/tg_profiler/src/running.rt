@@ -1,9 +1,28 @@
-ghost use Rattle.std.specs.Prelude.{◌≡◌, ◌<◌, ◌≤◌, ◌^◌, [], List, All, length, map, None};
-ghost use Rattle.std.specs.Prelude.{IfSome, OnOk};
+ghost use Rattle.std.specs.Prelude.{
+  ◌≡◌,
+  ◌<◌,
+  ◌≤◌,
+  ◌^◌,
+  [],
+  List,
+  All,
+  length,
+  map,
+  None,
+  IfSome,
+  OnOk,
+};
 ghost use Rattle.tg_machine.specs.declared.fetches.Seen.{Seen};
 ghost use Rattle.tg_machine.specs.Fetches.{IsWatched, seen_next};
 ghost use Rattle.tg_machine.specs.Machines.{HasEnded};
-ghost use Rattle.tg_profiler.specs.Watching.{AllSee, CanAllSee, CanSee, HaveAllSeen, HaveSeen, Sees};
+ghost use Rattle.tg_profiler.specs.Watchers.{
+  AllSee,
+  CanAllSee,
+  CanSee,
+  HaveAllSeen,
+  HaveSeen,
+  Sees,
+};
 
 use crate::watchers::Watcher;
 use tg_base::{Memory, Sink, Source};

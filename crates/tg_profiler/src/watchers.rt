@@ -1,6 +1,7 @@
 ghost use Rattle.std.specs.Prelude.{◌≡◌, ◌<◌, ◌^◌, [], ℕ, List, length, OnOk};
 ghost use Rattle.tg_machine.specs.declared.fetches.Seen.{Seen};
-ghost use Rattle.tg_profiler.specs.Watching.{CanSee, HasLine, Report, Sees, StandsForSome};
+ghost use Rattle.tg_profiler.specs.Watching.{Report};
+ghost use Rattle.tg_profiler.specs.Watchers.{CanSee, HasLine, Sees, StandsForSome};
 
 use tg_base::Memory;
 use tg_machine::Seen;

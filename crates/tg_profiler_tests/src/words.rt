@@ -1,5 +1,5 @@
 ghost use Rattle.std.specs.Prelude.{◌≡◌, [], All, None, length};
-ghost use Rattle.tg_profiler.specs.Told.{StandForOne};
+ghost use Rattle.tg_profiler.specs.Telling.{StandForOne};
 
 use std::alloc::{AllocError, Global};
 use std::process::Abort;

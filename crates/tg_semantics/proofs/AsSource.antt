@@ -2,9 +2,11 @@
 use Rattle.std.proofs.Common.{◌≡◌, zero, suc, refl}
 use Rattle.std.specs.Prelude.{◌≢◌}
 use Rattle.tg_machine_state.specs.declared.ends.RunEnd.TheVariants.{StackFull}
-use Rattle.tg_simulation.specs.Outcomes.{End, ended, out_of_fuel, stuck, map_end}
+use Rattle.tg_simulation.specs.Outcomes.{End, ended, out_of_fuel, stuck}
+use Rattle.tg_simulation.specs.Changes.{map_end}
 use Rattle.tg_semantics.specs.Values.{Ending, normal, by_nil, by_index, by_division, by_chr, by_substring, by_size, by_heap, by_overflow, by_exit}
-use Rattle.tg_semantics.specs.MachineEnds.{machine_end, TurnsAsSource}
+use Rattle.tg_semantics.specs.MachineEnds.{machine_end}
+use Rattle.tg_semantics.specs.MachineRuns.{TurnsAsSource}
 
 pub turns_as_source : TurnsAsSource
 turns_as_source rest w zero = refl

@@ -6,7 +6,7 @@ use Rattle.tg_syntax.specs.declared.tokens.Ident.{Ident}
 use Rattle.tg_syntax.specs.declared.trees.Op.{Op}
 use Rattle.tg_syntax.specs.Tree.{Exp, Break, Int, Call, Neg, Binary, If, While, Let, LValue, Exps, Decs, Assign}
 use Rattle.tg_syntax.specs.declared.trees.Op.TheVariants.{Minus}
-use Rattle.tg_simulation.specs.Outcomes.{costs}
+use Rattle.tg_simulation.specs.Changes.{costs}
 use Rattle.tg_semantics.specs.Values.{Value, int, nothing, Env, SourceWorld}
 use Rattle.tg_semantics.specs.Environments.{name_of, find, levels_out}
 use Rattle.tg_semantics.specs.Passing.{Rest, Passing, with_turn, with_found, passing}

@@ -4,7 +4,8 @@ use Rattle.std.proofs.Common.{arith}
 use Rattle.std.specs.Prelude.{if◌then◌else◌}
 use Rattle.std.proofs.lemmas.List.{append-nil}
 use Rattle.tg_syntax.specs.Tree.{Exp}
-use Rattle.tg_simulation.specs.Outcomes.{End, ended, stuck, Outcome, first_written, writes_first, costs, passes_limit, reaches}
+use Rattle.tg_simulation.specs.Outcomes.{End, ended, stuck, Outcome}
+use Rattle.tg_simulation.specs.Changes.{first_written, writes_first, costs, passes_limit, reaches}
 use Rattle.tg_semantics.specs.Values.{Value, normal, by_heap, add_heap, Ending}
 use Rattle.tg_semantics.specs.Environments.{outermost_entries}
 use Rattle.tg_semantics.specs.Evaluation.{program}

@@ -1,7 +1,8 @@
 -- What stands after a unit of fuel, without a bound, and its equation.
 use Rattle.std.proofs.Common.{◌≡◌, ℕ, zero, suc, ◌+◌, ◌≤◌, Option, Some, None, Bool, true, false, nat_lt, refl, ap, arith, le_trans}
 use Rattle.std.specs.Prelude.{if◌then◌else◌}
-use Rattle.tg_simulation.specs.Outcomes.{ended, stuck, writes_first, costs, passes_limit, reaches}
+use Rattle.tg_simulation.specs.Outcomes.{ended, stuck}
+use Rattle.tg_simulation.specs.Changes.{writes_first, costs, passes_limit, reaches}
 use Rattle.tg_semantics.specs.Values.{Value, normal, by_heap, SourceWorld, initial_world, add_heap}
 use Rattle.tg_semantics.specs.Environments.{outermost_entries}
 use Rattle.tg_semantics.specs.Evaluation.{meaning, Job}

@@ -7,4 +7,5 @@ pub mod Evaluation
 pub mod Direct
 pub mod Passing
 pub mod MachineEnds
+pub mod MachineRuns
 pub mod laws

@@ -5,8 +5,9 @@ use Rattle.std.specs.Prelude.{ℕ, ◌+◌, List, [], length, take, Option, Some
 use Rattle.std.specs.Prelude.{if◌then◌else◌}
 use Rattle.tg_syntax.specs.Tree.{Exp}
 use Rattle.tg_simulation.specs.Runs.{Run, turn}
-use Rattle.tg_simulation.specs.Outcomes.{End, ended, out_of_fuel, stuck, Outcome, writes_first}
-use Rattle.tg_simulation.specs.Outcomes.{costs, passes_limit, reaches}
+use Rattle.tg_simulation.specs.Outcomes.{End, ended, out_of_fuel, stuck, Outcome}
+use Rattle.tg_simulation.specs.Changes.{writes_first}
+use Rattle.tg_simulation.specs.Changes.{costs, passes_limit, reaches}
 use Rattle.tg_semantics.specs.Values.{Value, normal, by_heap, SourceWorld, initial_world}
 use Rattle.tg_semantics.specs.Values.{add_variable, put_variable, add_object, put_object, add_heap}
 use Rattle.tg_semantics.specs.Values.{drop_byte, add_weight, drop_weight, go_deeper, go_back}

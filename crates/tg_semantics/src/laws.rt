@@ -1,4 +1,4 @@
-ghost use Rattle.tg_semantics.specs.MachineEnds.{TurnsAsSource, NoEndingIsFull, OnlyStuckIsStuck};
+ghost use Rattle.tg_semantics.specs.MachineRuns.{TurnsAsSource, NoEndingIsFull, OnlyStuckIsStuck};
 ghost use Rattle.tg_semantics.specs.laws.Laws.{
   FormsAgree,
   NothingIsTakenBack,

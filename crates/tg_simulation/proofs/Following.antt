@@ -4,8 +4,9 @@ use Rattle.std.proofs.Math.Nat.{mul-add}
 use Rattle.tg_machine_state.specs.declared.ends.RunEnd.TheVariants.{StackFull}
 use Rattle.tg_simulation.specs.Runs.{Run, turn}
 use Rattle.tg_simulation.specs.Ran.{Ran, Ended, WantsFuel, stops, writes, works}
-use Rattle.tg_simulation.specs.Outcomes as outcome
-use Rattle.tg_simulation.specs.Outcomes.{out_of_fuel, stuck, first_written, costs, passes_limit, reaches}
+use Rattle.tg_simulation.specs.Changes as change
+use Rattle.tg_simulation.specs.Outcomes.{out_of_fuel, stuck}
+use Rattle.tg_simulation.specs.Changes.{first_written, costs, passes_limit, reaches}
 use Rattle.tg_simulation.specs.Bytes.{IsPrefix, least_frame}
 use Rattle.tg_simulation.specs.Agreement.{Source, Fits, Matches, same, cut, unsaid, Follows}
 
@@ -16,7 +17,7 @@ module _ (stack a : ℕ) where
   empty_front : (ys : List ℕ) → IsPrefix [] ys
   empty_front ys = record { more = ys; whole = refl }
 
-  match_writes : (r : ℕ) (bytes : List ℕ) (o : Source) (p : Ran) → Matches stack a r o p → Matches stack a r (outcome.writes_first bytes o) (writes bytes p)
+  match_writes : (r : ℕ) (bytes : List ℕ) (o : Source) (p : Ran) → Matches stack a r o p → Matches stack a r (change.writes_first bytes o) (writes bytes p)
   match_writes r bytes o p (same e i f q w) = same (ap (λ l. bytes ++ l) e) i f q w
   match_writes r bytes o p (cut past e f g h w) =
       cut (bytes ++ past) (ap (first_written bytes) e) (longer_front bytes past p.output f) (longer_front bytes p.output o.output g) h w
@@ -54,7 +55,7 @@ module _ (stack a : ℕ) where
   match_credit r s o p le (unsaid e) = unsaid e
 
   pub follows_writing : (r n : ℕ) (bytes : List ℕ) (c : Run Source) (d : Run Ran) →
-      Follows stack a r n c d → Follows stack a r n (λ i. outcome.writes_first bytes (c i)) (λ j. writes bytes (d j))
+      Follows stack a r n c d → Follows stack a r n (λ i. change.writes_first bytes (c i)) (λ j. writes bytes (d j))
   follows_writing r n bytes c d h i le = let x = h i le in (x.0, x.1, match_writes r bytes (c i) (d x.0) x.2)
 
   pub follows_paying : (r n k : ℕ) (c : Run Source) (d : Run Ran) → Follows stack a (r + a * k) n c d → Follows stack a r n (λ i. costs k (c i)) d

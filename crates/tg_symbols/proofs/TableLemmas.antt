@@ -5,7 +5,7 @@ use Rattle.std.proofs.Common.{refl, sym, ap, ◌∙◌, arith, length-drop, leng
 use Rattle.std.proofs.lemmas.List.{length-reverse, get_or-reverse, reverse-append}
 use Rattle.tg_symbols.specs.declared.tables.Entry.{Entry}
 use Rattle.tg_symbols.specs.Tables.{looked_up}
-use Rattle.tg_symbols.specs.Tables.{top_of, placed_at, entries_of}
+use Rattle.tg_symbols.specs.Links.{top_of, placed_at, entries_of}
 
 abbrev pub pair : {V : Type 0} → Entry V → ℕ × V
 pair e = (e.name, e.value)

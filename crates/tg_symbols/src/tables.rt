@@ -1,7 +1,7 @@
-ghost use Rattle.std.specs.Prelude.{◌≡◌, ◌≤◌, [], ◌∷◌, ◌++◌, drop, length, List};
-ghost use Rattle.std.specs.Prelude.{OnOk, OnErr, IfOk};
+ghost use Rattle.std.specs.Prelude.{◌≡◌, ◌≤◌, [], ◌∷◌, ◌++◌, drop, length, List, OnOk, OnErr, IfOk};
 ghost use Rattle.std.specs.Option.{option_copied};
-ghost use Rattle.tg_symbols.specs.Tables.{looked_up, placed_at};
+ghost use Rattle.tg_symbols.specs.Tables.{looked_up};
+ghost use Rattle.tg_symbols.specs.Links.{placed_at};
 
 use std::alloc::Global;
 use std::collections::HashMap;
@@ -31,7 +31,7 @@ impl<V> Model for Table<V> {
 
     ghost Value = { List (ℕ × V) };
 
-    ghost use Rattle.tg_symbols.specs.Tables.{entries_of, IsLinked};
+    ghost use Rattle.tg_symbols.specs.Links.{entries_of, IsLinked};
 
     ghost view = { λ t. entries_of t.entries.items };
 

@@ -3,7 +3,8 @@
 use Rattle.std.proofs.Common.{◌≡◌, ℕ, suc, ◌+◌, List, [], ◌∷◌, ◌++◌, map, sum_by, refl, sym, ap, ◌∙◌, arith}
 use Rattle.std.proofs.lemmas.List.{map-append}
 use Rattle.std.proofs.lemmas.List.Sums.{sum_by-append, sum_by-cons}
-use Rattle.tg_syntax.specs.Measures.{size, inner, inner_place, inner_exps, inner_inits, inner_decs, inner_functions}
+use Rattle.tg_syntax.specs.Measures.{size}
+use Rattle.tg_syntax.specs.InnerMeasures.{inner, inner_place, inner_exps, inner_inits, inner_decs, inner_functions}
 use Rattle.tg_syntax.specs.Functions.{Measures, Levels, measures, own, own_params, own_functions, own_decs, declared, declared_place, declared_exps}
 use Rattle.tg_syntax.specs.Functions.{declared_inits, declared_decs, declared_functions, program_size}
 use Rattle.tg_syntax.specs.Tree.{Exp, Nil, Break, Int, Text, Read, Call, Neg, Binary, Make, Fill, Assign, If, When, While, For, Let, Seq, LValue}

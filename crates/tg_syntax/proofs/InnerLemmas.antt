@@ -13,7 +13,8 @@ use Rattle.tg_syntax.specs.declared.trees.FunDecs.{FunDecs, out-FunDecs}
 use Rattle.tg_syntax.specs.Tree.{Decs as PlainDecs, no_decs}
 use Rattle.tg_syntax.specs.glue.Plain.{plain, plain_kind, plain_exps, plain_inits, plain_functions, plain_dec}
 use Rattle.tg_syntax.specs.glue.Lists.{exps_of, inits_of, decs_of, functions_of}
-use Rattle.tg_syntax.specs.Measures.{size, inner, inner_exps, inner_inits, inner_functions, inner_decs}
+use Rattle.tg_syntax.specs.Measures.{size}
+use Rattle.tg_syntax.specs.InnerMeasures.{inner, inner_exps, inner_inits, inner_functions, inner_decs}
 use Rattle.tg_syntax.proofs.ListLaws.{plain_exps-items, plain_inits-items, plain_functions-items, plain_kind-Let}
 use Rattle.tg_syntax.proofs.SizeLemmas.{sum_of_items}
 

@@ -9,6 +9,7 @@ pub mod Grammar
 pub mod Nesting
 pub mod SyntaxFaults
 pub mod Measures
+pub mod InnerMeasures
 pub mod Functions
 pub mod Beginnings
 pub mod Throughout

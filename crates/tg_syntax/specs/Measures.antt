@@ -58,50 +58,6 @@ abbrev mutual
   decs_size (variable _ _ e rest) = 1 + size e + decs_size rest
   decs_size (functions fs rest) = functions_size fs + decs_size rest
 
--- the nodes of the bodies of the functions that a text declares, at any depth
-abbrev mutual
-  pub inner : Exp → ℕ
-  inner (Nil _) = 0
-  inner (Break _) = 0
-  inner (Int _ _) = 0
-  inner (Text _ _) = 0
-  inner (Read _ v) = inner_place v
-  inner (Call _ _ args) = inner_exps args
-  inner (Neg _ a) = inner a
-  inner (Binary _ _ _ a b) = inner a + inner b
-  inner (Make _ _ inits) = inner_inits inits
-  inner (Fill _ _ a b) = inner a + inner b
-  inner (Assign _ v a) = inner_place v + inner a
-  inner (If _ c a b) = inner c + inner a + inner b
-  inner (When _ c a) = inner c + inner a
-  inner (While _ c a) = inner c + inner a
-  inner (For _ _ l h a) = inner l + inner h + inner a
-  inner (Let _ ds es) = inner_decs ds + inner_exps es
-  inner (Seq _ es) = inner_exps es
-
-  pub inner_place : LValue → ℕ
-  inner_place (Simple _) = 0
-  inner_place (Field v _) = inner_place v
-  inner_place (Index v e) = inner_place v + inner e
-
-  pub inner_exps : Exps → ℕ
-  inner_exps no_exps = 0
-  inner_exps (exp e rest) = inner e + inner_exps rest
-
-  pub inner_inits : Inits → ℕ
-  inner_inits no_inits = 0
-  inner_inits (init _ e rest) = inner e + inner_inits rest
-
-  pub inner_decs : Decs → ℕ
-  inner_decs no_decs = 0
-  inner_decs (types _ rest) = inner_decs rest
-  inner_decs (variable _ _ e rest) = inner e + inner_decs rest
-  inner_decs (functions fs rest) = inner_functions fs + inner_decs rest
-
-  pub inner_functions : FunDecs → ℕ
-  inner_functions no_functions = 0
-  inner_functions (function _ _ _ body rest) = size body + inner body + inner_functions rest
-
 -- a number, or the greatest of 32 bits where it is as large or larger
 abbrev pub saturated : ℕ → ℕ
 saturated n = min n 4294967295

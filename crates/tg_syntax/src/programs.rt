@@ -1,6 +1,6 @@
 ghost use Rattle.std.specs.Prelude.{◌≡◌};
-ghost use Rattle.tg_syntax.specs.Measures.{
-  saturated,
+ghost use Rattle.tg_syntax.specs.Measures.{saturated};
+ghost use Rattle.tg_syntax.specs.InnerMeasures.{
   inner,
   inner_place,
   inner_exps,

@@ -7,8 +7,9 @@ use Rattle.tg_syntax.specs.Tree as source
 use Rattle.tg_syntax.specs.Tree.{Exp, Nil, Break, Int, Text, Read, Call, Neg, Binary, Make, Fill, Assign, If, When, While, For, Let, Seq, Simple}
 use Rattle.tg_syntax.specs.Tree.{Field, Index, Exps, no_exps, exp, Inits, no_inits, init, Decs, no_decs, types, variable, functions, FunDecs}
 use Rattle.tg_syntax.specs.Tree.{no_functions, function}
-use Rattle.tg_syntax.specs.Measures.{size, place_size, exps_size, inits_size, decs_size, functions_size, inner, inner_place, inner_exps, inner_inits}
-use Rattle.tg_syntax.specs.Measures.{inner_decs, inner_functions}
+use Rattle.tg_syntax.specs.Measures.{size, place_size, exps_size, inits_size, decs_size, functions_size}
+use Rattle.tg_syntax.specs.InnerMeasures.{inner, inner_place, inner_exps, inner_inits}
+use Rattle.tg_syntax.specs.InnerMeasures.{inner_decs, inner_functions}
 use Rattle.tg_syntax.specs.Functions.{Measures, Levels, own, own_params, own_functions, own_decs, declared, declared_place, declared_exps}
 use Rattle.tg_syntax.specs.Functions.{declared_inits, declared_decs, declared_functions, program_functions, program_size}
 use Rattle.tg_syntax.specs.Spans.{span_of}

@@ -8,8 +8,9 @@ use Rattle.tg_frame.specs.Homes.{homes_from, slots_of}
 use Rattle.tg_syntax.specs.declared.trees.Op.{Op}
 use Rattle.tg_syntax.specs.declared.trees.Op.TheVariants as op
 use Rattle.tg_syntax.specs.declared.trees.Param.{Param}
-use Rattle.tg_syntax.specs.Measures.{size, place_size, exps_size, inits_size, decs_size, functions_size, inner, inner_place, inner_exps, inner_inits}
-use Rattle.tg_syntax.specs.Measures.{inner_decs, inner_functions}
+use Rattle.tg_syntax.specs.Measures.{size, place_size, exps_size, inits_size, decs_size, functions_size}
+use Rattle.tg_syntax.specs.InnerMeasures.{inner, inner_place, inner_exps, inner_inits}
+use Rattle.tg_syntax.specs.InnerMeasures.{inner_decs, inner_functions}
 use Rattle.tg_syntax.specs.OfWords.{OfWords, PlaceOfWords, ExpsOfWords, InitsOfWords, DecsOfWords, BodiesOfWords}
 use Rattle.tg_syntax.specs.Tree as source
 use Rattle.tg_syntax.specs.Tree.{Exp, Nil, Break, Int, Text, Read, Call, Neg, Binary, Make, Fill, Assign, If, When, While, For, Let, Seq, Simple}

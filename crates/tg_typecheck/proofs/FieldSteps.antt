@@ -15,7 +15,7 @@ use Rattle.tg_typecheck.specs.Typing.{fields_in, fields_of, element_type_in, ele
 use Rattle.tg_typecheck.specs.glue.Kinds.{record_byte, array_byte}
 use Rattle.tg_typecheck.specs.glue.Shapes.{fields_in_shape, element_in_shape}
 use Rattle.tg_typecheck.specs.glue.Selections.{init_count}
-use Rattle.tg_symbols.specs.Tables.{placed_at}
+use Rattle.tg_symbols.specs.Links.{placed_at}
 
 -- what isn't a record
 pub not_record : (t : Ty) (at : ℕ) (n : Noted) → None ≡ record_byte t → fields_of t at n ≡ fault T7 at

@@ -8,7 +8,7 @@ use Rattle.tg_simulation.specs.Runs.{Run}
 use Rattle.tg_simulation.specs.Preserving.{Preserves}
 use Rattle.tg_simulation.specs.Agreement.{Source, Follows, Agrees, FillsStack}
 use Rattle.tg_simulation.specs.laws.Laws.{NeverEndsFull, NeverStuck}
-use Rattle.tg_semantics.specs.MachineEnds.{program_run}
+use Rattle.tg_semantics.specs.MachineRuns.{program_run}
 use Rattle.tg_typecheck.specs.Programs.{CheckedProgram, IsAccepted}
 use Rattle.tg_asm_text.specs.Assembly.{Assembled, assembled}
 use Rattle.tg_tree.specs.declared.fragments.Literal.{Literal}

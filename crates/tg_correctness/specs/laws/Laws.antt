@@ -8,7 +8,7 @@ use Rattle.tg_simulation.specs.Preserving.{Preserves}
 use Rattle.tg_simulation.specs.Agreement as by_fuel
 use Rattle.tg_simulation.specs.Agreement.{Source, Follows, FillsStack}
 use Rattle.tg_simulation.specs.laws.Laws.{NeverEndsFull, NeverStuck}
-use Rattle.tg_semantics.specs.MachineEnds.{program_run}
+use Rattle.tg_semantics.specs.MachineRuns.{program_run}
 use Rattle.tg_asm_text.specs.Assembly.{Assembled}
 use Rattle.tg_isa.specs.ImageRuns.{machine_run}
 use Rattle.tg_semantics.specs.Direct.{evaluate}

@@ -15,14 +15,16 @@ use Rattle.tg_driver.specs.declared.answers.Answer.TheVariants.{Faulty, Written,
 use Rattle.tg_driver.specs.Calls.{HasFailed, Shelved, IsUnread, Call}
 use Rattle.tg_correctness.specs.Sources.{IsSource}
 use Rattle.tg_driver.specs.Faults.{IsFaultOf}
-use Rattle.tg_driver.specs.MeantRuns.{EndsAsMeant}
-use Rattle.tg_driver.specs.Runs.{RunRelation, end_in, outcome_on}
+use Rattle.tg_driver.specs.laws.AsMeant.{EndsAsMeant}
+use Rattle.tg_driver.specs.Runs.{RunRelation}
+use Rattle.tg_driver.specs.laws.Settled.{end_in, outcome_on}
 use Rattle.tg_driver.specs.CheckMode.{IsChecked}
-use Rattle.tg_driver.specs.RunMode.{IsRun}
+use Rattle.tg_driver.specs.laws.AsMeant.{IsRun}
 use Rattle.tg_driver.specs.ExecMode.{IsExecuted}
-use Rattle.tg_driver.specs.FormatMode.{IsFaultyOrFormatted}
+use Rattle.tg_driver.specs.laws.OfTexts.{IsFaultyOrFormatted}
 use Rattle.tg_driver.specs.Statuses.{status_of, line_of}
-use Rattle.tg_driver.specs.Watching.{NoneBeforeEnd, if_watched, reports_on}
+use Rattle.tg_driver.specs.Watching.{NoneBeforeEnd, if_watched}
+use Rattle.tg_driver.specs.laws.Settled.{reports_on}
 use Rattle.tg_driver.specs.Answered.{NoneUnasked}
 
 -- no read and no write ended the run of the answer

@@ -2,7 +2,7 @@
 use Rattle.std.specs.Prelude.{ℕ, List, []}
 use Rattle.std.specs.Io.KnownBytes.{Appends}
 use Rattle.tg_machine_state.specs.declared.ends.RunEnd.{RunEnd}
-use Rattle.tg_base.specs.InMemory.{PlainBytes}
+use Rattle.tg_base.specs.PlainBytes.{PlainBytes}
 use Rattle.tg_program_generator.specs.Generated.{generated}
 use Rattle.tg_command.specs.declared.modes.Mode.{Mode}
 use Rattle.tg_command.specs.declared.modes.Mode.TheVariants.{Build, Run, Gen}

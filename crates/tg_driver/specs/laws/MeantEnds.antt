@@ -3,7 +3,7 @@ use Rattle.std.specs.Prelude.{ℕ, ◌≡◌, ◌≢◌, ◌%◌, List, [], ◌+
 use Rattle.std.specs.Io.KnownBytes.{Appends, Consumes}
 use Rattle.tg_machine_state.specs.declared.ends.RunEnd.{RunEnd}
 use Rattle.tg_machine_state.specs.declared.ends.RunEnd.TheVariants.{ReadFault, WriteFault}
-use Rattle.tg_base.specs.InMemory.{PlainBytes}
+use Rattle.tg_base.specs.PlainBytes.{PlainBytes}
 use Rattle.tg_syntax.specs.declared.tokens.Spanned.{Spanned}
 use Rattle.tg_syntax.specs.Tree.{Exp}
 use Rattle.tg_simulation.specs.Bytes.{AreBytes}
@@ -19,9 +19,11 @@ use Rattle.tg_correctness.specs.Ends.{EndIsMeant}
 use Rattle.tg_driver.specs.declared.answers.Answer.{Answer}
 use Rattle.tg_driver.specs.Calls.{Stream, stream_of, Streams, streams_of}
 use Rattle.tg_driver.specs.Endings.{end_status}
-use Rattle.tg_driver.specs.GenMode.{no_input, SumsUpMeant}
-use Rattle.tg_driver.specs.MeantRuns.{EndsAsMeant}
-use Rattle.tg_driver.specs.Runs.{Tells, HasRun}
+use Rattle.tg_driver.specs.GenMode.{no_input}
+use Rattle.tg_driver.specs.laws.AsMeant.{SumsUpMeant}
+use Rattle.tg_driver.specs.laws.AsMeant.{EndsAsMeant}
+use Rattle.tg_driver.specs.Runs.{HasRun}
+use Rattle.tg_driver.specs.laws.Settled.{Tells}
 
 -- The text is a source of a program. What was written to the sink, what is left of these bytes, and
 -- the end, are what so many steps for the program on these bytes may come to by its meaning. The

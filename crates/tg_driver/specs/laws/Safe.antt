@@ -20,14 +20,16 @@ use Rattle.tg_correctness.specs.Assemblies.{IsAsMeant}
 use Rattle.tg_driver.specs.declared.answers.Answer.{Answer}
 use Rattle.tg_driver.specs.declared.answers.Answer.TheVariants.{Unreadable, Unwritten, Finished}
 use Rattle.tg_driver.specs.Calls.{Stays, HasFailed, Streams, Untouched, IsUnread, Call}
-use Rattle.tg_driver.specs.OfFiles.{HasStarted}
+use Rattle.tg_driver.specs.glue.PrivateCalls.{HasStarted}
 use Rattle.tg_driver.specs.AllocMode.{Lists}
 use Rattle.tg_driver.specs.FormatMode.{Formats}
 use Rattle.tg_driver.specs.GenMode.{summary}
-use Rattle.tg_driver.specs.Modes.{ReadsNoInput, most_of}
-use Rattle.tg_driver.specs.Runs.{Tells, world_in}
+use Rattle.tg_driver.specs.glue.PrivateCalls.{ReadsNoInput}
+use Rattle.tg_driver.specs.laws.OfTexts.{most_of}
+use Rattle.tg_driver.specs.laws.Settled.{Tells, world_in}
 use Rattle.tg_driver.specs.laws.Laws.{ReadsFile}
-use Rattle.tg_driver.specs.Telling.{IsBeforeStart, IsTold}
+use Rattle.tg_driver.specs.Telling.{IsTold}
+use Rattle.tg_driver.specs.glue.PrivateCalls.{IsBeforeStart}
 
 -- what the mode doesn't read is as it was: the input, and in `gen` the shelf
 pub record LeavesUnread {H I O E : Type 0} (c : Call H I O E) (asked : Asked) : Type 0 where

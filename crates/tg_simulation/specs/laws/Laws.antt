@@ -4,8 +4,9 @@ use Rattle.tg_machine_state.specs.declared.ends.RunEnd.TheVariants.{StackFull}
 use Rattle.tg_simulation.specs.Runs.{Run, turn}
 use Rattle.tg_simulation.specs.Ran.{Ran, Ended, WantsFuel, stops, writes, works, StaysOver}
 use Rattle.tg_simulation.specs.Preserving.{Preserves}
-use Rattle.tg_simulation.specs.Outcomes as outcome
-use Rattle.tg_simulation.specs.Outcomes.{ended, out_of_fuel, stuck, costs, passes_limit, reaches}
+use Rattle.tg_simulation.specs.Changes as change
+use Rattle.tg_simulation.specs.Outcomes.{ended, out_of_fuel, stuck}
+use Rattle.tg_simulation.specs.Changes.{costs, passes_limit, reaches}
 use Rattle.tg_simulation.specs.Bytes.{least_frame}
 use Rattle.tg_simulation.specs.Agreement.{Source, Follows, Agrees, FillsStack}
 
@@ -65,7 +66,7 @@ abbrev pub FollowsWriting : Type 0
 FollowsWriting =
     (stack a r n : ℕ) (bytes : List ℕ) (c : Run Source) (d : Run Ran) →
     Follows stack a r n c d →
-    Follows stack a r n (λ i. outcome.writes_first bytes (c i)) (λ j. writes bytes (d j))
+    Follows stack a r n (λ i. change.writes_first bytes (c i)) (λ j. writes bytes (d j))
 
 -- the program pays for what the code may do
 abbrev pub FollowsPaying : Type 0

@@ -6,7 +6,8 @@ use Rattle.std.specs.Ordering.{nat_cmp}
 use Rattle.std.specs.FinSet.{FinSet, from_list}
 use Rattle.tg_syntax.specs.Tree.{Exp}
 use Rattle.tg_syntax.specs.Functions.{Measures, program_functions}
-use Rattle.tg_syntax.specs.Measures.{size, inner}
+use Rattle.tg_syntax.specs.Measures.{size}
+use Rattle.tg_syntax.specs.InnerMeasures.{inner}
 use Rattle.tg_syntax.specs.OfWords.{OfWords}
 use Rattle.tg_escape.specs.Escaping.{escapes_of}
 use Rattle.tg_typecheck.specs.Programs.{CheckedProgram, IsAccepted}

@@ -10,7 +10,7 @@ use Rattle.tg_simulation.proofs.Following.{follows_along}
 use Rattle.tg_semantics.specs.Values.{Value, nothing, SourceWorld}
 use Rattle.tg_semantics.specs.Evaluation.{Location}
 use Rattle.tg_semantics.specs.Passing.{Rest}
-use Rattle.tg_semantics.specs.MachineEnds.{rest_run, as_source}
+use Rattle.tg_semantics.specs.MachineRuns.{rest_run, as_source}
 use Rattle.tg_typecheck.specs.Types.{Ty, int_type, none_type}
 use Rattle.tg_typecheck.specs.Scopes.{at_of}
 use Rattle.tg_typecheck.specs.Has as has

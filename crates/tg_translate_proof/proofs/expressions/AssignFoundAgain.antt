@@ -8,7 +8,8 @@ use Rattle.tg_syntax.specs.declared.trees.Op.{Op}
 use Rattle.tg_syntax.specs.declared.trees.Op.TheVariants.{Plus, Minus, Times, Divide, Equal, NotEqual, Less, LessEqual, Greater, GreaterEqual, And, Or}
 use Rattle.tg_syntax.specs.Tree.{Exp, Nil, Break, Int, Text, Read, Call, Neg, Binary, Make, Fill, Assign, If, When, While, For, Let, Seq, LValue, Simple, Field, Index}
 use Rattle.tg_symbols.specs.Tables.{looked_up}
-use Rattle.tg_simulation.specs.Outcomes.{ended, stuck, costs}
+use Rattle.tg_simulation.specs.Outcomes.{ended, stuck}
+use Rattle.tg_simulation.specs.Changes.{costs}
 use Rattle.tg_semantics.specs.Values.{Value, int, string, nil, reference, nothing, SourceWorld, Env, Object, fields, elements, by_nil, by_index, by_overflow}
 use Rattle.tg_semantics.specs.Actions.{Actions}
 use Rattle.tg_semantics.specs.Environments.{find, Bound, to_variable, to_function, to_standard, levels_out}

@@ -10,7 +10,7 @@ use Rattle.tg_simulation.proofs.Following.{follows_along}
 use Rattle.tg_semantics.specs.Values.{Value, nothing, SourceWorld, put_variable}
 use Rattle.tg_semantics.specs.Evaluation.{Location, in_variable}
 use Rattle.tg_semantics.specs.Passing.{Rest, with_found}
-use Rattle.tg_semantics.specs.MachineEnds.{rest_run}
+use Rattle.tg_semantics.specs.MachineRuns.{rest_run}
 use Rattle.tg_typecheck.specs.Types.{Ty, none_type}
 use Rattle.tg_typecheck.specs.Has as has
 use Rattle.tg_typecheck.specs.Has.{Has, HasPlace, HasValues, Fits}

@@ -8,13 +8,14 @@ use Rattle.tg_syntax.specs.declared.tokens.Ident.{Ident}
 use Rattle.tg_syntax.specs.Tree.{Exp, Nil, Break, Int, Text, Read, Call, Neg, Binary, Make, Fill, Assign, If, When, While, For, Let, Seq, LValue, Simple, Field, Index}
 use Rattle.tg_simulation.specs.Runs.{Run}
 use Rattle.tg_simulation.specs.Ran.{Ran}
-use Rattle.tg_simulation.specs.Outcomes.{stuck, costs}
+use Rattle.tg_simulation.specs.Outcomes.{stuck}
+use Rattle.tg_simulation.specs.Changes.{costs}
 use Rattle.tg_simulation.specs.Agreement.{Source}
 use Rattle.tg_simulation.proofs.Following.{follows_along, follows_stuck, follows_paying}
 use Rattle.tg_semantics.specs.Values.{Value, SourceWorld, Env}
 use Rattle.tg_semantics.specs.Evaluation.{Location, in_variable, in_field, in_element}
 use Rattle.tg_semantics.specs.Passing.{Rest, Passing, ends}
-use Rattle.tg_semantics.specs.MachineEnds.{rest_run, as_source}
+use Rattle.tg_semantics.specs.MachineRuns.{rest_run, as_source}
 use Rattle.tg_typecheck.specs.declared.notes.Means.{Means}
 use Rattle.tg_typecheck.specs.declared.notes.Means.TheVariants as means
 use Rattle.tg_typecheck.specs.Types.{Ty}

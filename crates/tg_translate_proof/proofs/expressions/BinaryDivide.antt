@@ -18,7 +18,7 @@ use Rattle.tg_semantics.specs.Values.{Value, int, SourceWorld, by_overflow, by_d
 use Rattle.tg_semantics.specs.Operators.{exact_quotient}
 use Rattle.tg_semantics.specs.Passing.{Rest, Passing, passing, ends}
 use Rattle.tg_semantics.specs.Evaluation as evaluation
-use Rattle.tg_semantics.specs.MachineEnds.{rest_run}
+use Rattle.tg_semantics.specs.MachineRuns.{rest_run}
 use Rattle.tg_typecheck.specs.Types.{Ty, int_type}
 use Rattle.tg_typecheck.specs.Has.{Has}
 use Rattle.tg_tree.specs.declared.operators.Bin.TheVariants as bin

@@ -11,13 +11,13 @@ use Rattle.tg_syntax.specs.Tree.{Exp, Binary}
 use Rattle.tg_symbols.specs.Tables.{looked_up}
 use Rattle.tg_simulation.specs.Runs.{Run}
 use Rattle.tg_simulation.specs.Ran.{Ran}
-use Rattle.tg_simulation.specs.Outcomes.{costs}
+use Rattle.tg_simulation.specs.Changes.{costs}
 use Rattle.tg_simulation.specs.Agreement.{Source}
 use Rattle.tg_simulation.proofs.Following.{follows_along}
 use Rattle.tg_semantics.specs.Values.{Value, nil, reference, SourceWorld}
 use Rattle.tg_semantics.specs.Evaluation as E
 use Rattle.tg_semantics.specs.Operators.{identity, truth}
-use Rattle.tg_semantics.specs.MachineEnds.{rest_run}
+use Rattle.tg_semantics.specs.MachineRuns.{rest_run}
 use Rattle.tg_semantics.specs.Passing.{Rest, Passing, passing}
 use Rattle.tg_typecheck.specs.declared.notes.Means.TheVariants as means
 use Rattle.tg_typecheck.specs.Types.{Ty, int_type, nil_type, none_type, record_type, array_type}

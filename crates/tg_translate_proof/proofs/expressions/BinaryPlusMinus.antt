@@ -13,7 +13,7 @@ use Rattle.tg_simulation.specs.Ran.{Ran}
 use Rattle.tg_semantics.specs.Values.{Value, int, by_overflow}
 use Rattle.tg_semantics.specs.Passing.{Rest, Passing, passing}
 use Rattle.tg_semantics.specs.Evaluation as evaluation
-use Rattle.tg_semantics.specs.MachineEnds.{rest_run}
+use Rattle.tg_semantics.specs.MachineRuns.{rest_run}
 use Rattle.tg_semantics.specs.Operators.{truth}
 use Rattle.tg_typecheck.specs.Types.{Ty, int_type}
 use Rattle.tg_typecheck.specs.Scopes.{Scope}

@@ -11,7 +11,7 @@ use Rattle.tg_simulation.proofs.Following.{follows_along}
 use Rattle.tg_semantics.specs.Values.{Value, SourceWorld}
 use Rattle.tg_semantics.specs.Evaluation.{Location}
 use Rattle.tg_semantics.specs.Passing.{Rest}
-use Rattle.tg_semantics.specs.MachineEnds.{rest_run}
+use Rattle.tg_semantics.specs.MachineRuns.{rest_run}
 use Rattle.tg_typecheck.specs.declared.notes.Means.TheVariants as means
 use Rattle.tg_typecheck.specs.Types.{Ty, int_type, string_type}
 use Rattle.tg_typecheck.specs.Scopes.{Scope}

@@ -9,7 +9,7 @@ use Rattle.tg_syntax.specs.declared.trees.Op.TheVariants as op
 use Rattle.tg_syntax.specs.Tree.{Exp, Exps, no_exps, exp, Binary}
 use Rattle.tg_simulation.specs.Runs.{Run}
 use Rattle.tg_simulation.specs.Ran.{Ran}
-use Rattle.tg_simulation.specs.Outcomes.{costs}
+use Rattle.tg_simulation.specs.Changes.{costs}
 use Rattle.tg_simulation.specs.Agreement.{Source}
 use Rattle.tg_simulation.proofs.Following.{follows_working, follows_along}
 use Rattle.tg_semantics.specs.Values.{Value, string, Env, SourceWorld, add_weight, drop_weight}
@@ -17,7 +17,7 @@ use Rattle.tg_semantics.specs.Evaluation as E
 use Rattle.tg_semantics.specs.laws.Laws.{behind}
 use Rattle.tg_semantics.specs.Levels.{runtime_weight}
 use Rattle.tg_semantics.specs.Operators.{comparison as compared, string_less, truth}
-use Rattle.tg_semantics.specs.MachineEnds.{rest_run}
+use Rattle.tg_semantics.specs.MachineRuns.{rest_run}
 use Rattle.tg_semantics.specs.Passing.{Rest, Passing, passing}
 use Rattle.tg_typecheck.specs.declared.notes.Means.{Means}
 use Rattle.tg_typecheck.specs.declared.notes.Means.TheVariants as means

@@ -10,7 +10,7 @@ use Rattle.tg_syntax.specs.Tree.{Exp, Call, Exps, no_exps, exp}
 use Rattle.tg_symbols.specs.Tables.{looked_up}
 use Rattle.tg_simulation.specs.Runs.{Run}
 use Rattle.tg_simulation.specs.Ran.{Ran}
-use Rattle.tg_simulation.specs.Outcomes.{costs}
+use Rattle.tg_simulation.specs.Changes.{costs}
 use Rattle.tg_simulation.specs.Agreement.{Source}
 use Rattle.tg_simulation.proofs.Following.{follows_working, follows_paying, follows_along}
 use Rattle.tg_semantics.specs.Values.{Value, Entry}
@@ -18,7 +18,7 @@ use Rattle.tg_semantics.specs.Environments.{to_function, levels_out}
 use Rattle.tg_semantics.specs.Evaluation as evaluation
 use Rattle.tg_semantics.specs.Levels.{levels_of}
 use Rattle.tg_semantics.specs.Passing.{Rest, Passing, passing, with_found}
-use Rattle.tg_semantics.specs.MachineEnds.{rest_run}
+use Rattle.tg_semantics.specs.MachineRuns.{rest_run}
 use Rattle.tg_semantics.specs.laws.Laws.{behind}
 use Rattle.tg_typecheck.specs.declared.notes.Means.TheVariants as means
 use Rattle.tg_typecheck.specs.Types.{Ty, int_type, none_type}

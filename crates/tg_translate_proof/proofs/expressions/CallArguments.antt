@@ -9,7 +9,7 @@ use Rattle.tg_simulation.proofs.Following.{follows_working}
 use Rattle.tg_semantics.specs.Values.{Value}
 use Rattle.tg_semantics.specs.Evaluation.{eval_all}
 use Rattle.tg_semantics.specs.Passing.{Rest, Passing, passing}
-use Rattle.tg_semantics.specs.MachineEnds.{rest_run}
+use Rattle.tg_semantics.specs.MachineRuns.{rest_run}
 use Rattle.tg_semantics.specs.laws.Laws.{behind}
 use Rattle.tg_typecheck.specs.Types.{Ty}
 use Rattle.tg_typecheck.specs.Has.{Fits, HasValues}

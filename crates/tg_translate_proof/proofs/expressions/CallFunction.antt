@@ -10,7 +10,8 @@ use Rattle.tg_frame.specs.declared.accesses.Access.{Access}
 use Rattle.tg_frame.specs.Homes.{homes_of, homes_from}
 use Rattle.tg_simulation.specs.Runs.{Run, turn}
 use Rattle.tg_simulation.specs.Ran.{Ran, Ended}
-use Rattle.tg_simulation.specs.Outcomes.{out_of_fuel, passes_limit, reaches}
+use Rattle.tg_simulation.specs.Outcomes.{out_of_fuel}
+use Rattle.tg_simulation.specs.Changes.{passes_limit, reaches}
 use Rattle.tg_simulation.specs.Agreement.{Source}
 use Rattle.tg_simulation.proofs.Following.{follows_working, follows_passing, follows_reaching, follows_full, follows_turn, follows_less, follows_along}
 use Rattle.tg_semantics.specs.Values.{Value, SourceWorld, add_weight, go_deeper}
@@ -18,7 +19,7 @@ use Rattle.tg_semantics.specs.Environments.{to_function, SourceFunction}
 use Rattle.tg_semantics.specs.Evaluation as evaluation
 use Rattle.tg_semantics.specs.Evaluation.{Job, run_function}
 use Rattle.tg_semantics.specs.Passing.{Rest, Passing, passing, with_turn, over_in}
-use Rattle.tg_semantics.specs.MachineEnds.{rest_run, as_source}
+use Rattle.tg_semantics.specs.MachineRuns.{rest_run, as_source}
 use Rattle.tg_semantics.specs.laws.Laws.{behind}
 use Rattle.tg_semantics.proofs.AsSource.{turns_as_source}
 use Rattle.tg_typecheck.specs.Types.{Ty}

@@ -14,7 +14,7 @@ use Rattle.tg_semantics.specs.Values.{Value, nil, reference, SourceWorld, by_nil
 use Rattle.tg_semantics.specs.Evaluation as evaluation
 use Rattle.tg_semantics.specs.Evaluation.{Location, in_variable, in_field}
 use Rattle.tg_semantics.specs.Passing.{Rest, Passing, passing, with_found}
-use Rattle.tg_semantics.specs.MachineEnds.{rest_run}
+use Rattle.tg_semantics.specs.MachineRuns.{rest_run}
 use Rattle.tg_typecheck.specs.declared.notes.Means.TheVariants as means
 use Rattle.tg_typecheck.specs.Types.{Ty, record_type, record_shape}
 use Rattle.tg_typecheck.specs.Typing.{placed}

@@ -11,7 +11,8 @@ use Rattle.tg_syntax.specs.Tree.{Exp, Exps, no_exps, exp, Fill}
 use Rattle.tg_symbols.specs.Tables.{looked_up}
 use Rattle.tg_simulation.specs.Runs.{Run}
 use Rattle.tg_simulation.specs.Ran.{Ran, Ended}
-use Rattle.tg_simulation.specs.Outcomes.{ended, costs}
+use Rattle.tg_simulation.specs.Outcomes.{ended}
+use Rattle.tg_simulation.specs.Changes.{costs}
 use Rattle.tg_simulation.specs.Agreement.{Source}
 use Rattle.tg_simulation.proofs.Following.{follows_working, follows_paying, follows_along}
 use Rattle.tg_semantics.specs.Values.{Value, int, reference, SourceWorld, elements, add_weight, drop_weight, add_heap, add_object}
@@ -20,7 +21,7 @@ use Rattle.tg_semantics.specs.Evaluation as E
 use Rattle.tg_semantics.specs.laws.Laws.{behind}
 use Rattle.tg_semantics.specs.Levels.{runtime_weight}
 use Rattle.tg_semantics.specs.Operators.{array_bytes}
-use Rattle.tg_semantics.specs.MachineEnds.{rest_run}
+use Rattle.tg_semantics.specs.MachineRuns.{rest_run}
 use Rattle.tg_semantics.specs.Passing.{Rest, Passing, passing, ends}
 use Rattle.tg_typecheck.specs.Types.{Ty, int_type, array_type, array_shape}
 use Rattle.tg_typecheck.specs.Has.{Fits, HasValues, the_same}

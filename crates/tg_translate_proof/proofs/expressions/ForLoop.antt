@@ -14,7 +14,7 @@ use Rattle.tg_semantics.specs.Values.{Value, int, nothing, SourceWorld, Env, put
 use Rattle.tg_semantics.specs.Evaluation as evaluation
 use Rattle.tg_semantics.specs.Evaluation.{with_variable}
 use Rattle.tg_semantics.specs.Passing.{Rest, Passing, passing, with_turn, with_found}
-use Rattle.tg_semantics.specs.MachineEnds.{rest_run}
+use Rattle.tg_semantics.specs.MachineRuns.{rest_run}
 use Rattle.tg_semantics.specs.laws.Laws.{behind}
 use Rattle.tg_typecheck.specs.Types.{Ty, int_type, none_type}
 use Rattle.tg_semantics.specs.Environments.{name_of}

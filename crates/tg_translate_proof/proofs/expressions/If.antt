@@ -10,7 +10,7 @@ use Rattle.tg_simulation.specs.Ran.{Ran}
 use Rattle.tg_simulation.specs.Agreement.{Source}
 use Rattle.tg_semantics.specs.Values.{Value, int, nothing, SourceWorld}
 use Rattle.tg_semantics.specs.Passing.{Rest}
-use Rattle.tg_semantics.specs.MachineEnds.{rest_run}
+use Rattle.tg_semantics.specs.MachineRuns.{rest_run}
 use Rattle.tg_typecheck.specs.Types.{Ty, int_type, none_type}
 use Rattle.tg_typecheck.specs.Scopes.{Scope}
 use Rattle.tg_typecheck.specs.Has as has

@@ -14,7 +14,7 @@ use Rattle.tg_semantics.specs.Operators.{is_below}
 use Rattle.tg_semantics.specs.Evaluation as evaluation
 use Rattle.tg_semantics.specs.Evaluation.{Location, in_element}
 use Rattle.tg_semantics.specs.Passing.{Rest, Passing, passing, with_found}
-use Rattle.tg_semantics.specs.MachineEnds.{rest_run}
+use Rattle.tg_semantics.specs.MachineRuns.{rest_run}
 use Rattle.tg_typecheck.specs.Types.{Ty, int_type, array_type, array_shape}
 use Rattle.tg_typecheck.specs.Has as has
 use Rattle.tg_typecheck.specs.Has.{Has, HasPlace}

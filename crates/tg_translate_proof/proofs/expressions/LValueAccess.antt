@@ -11,7 +11,7 @@ use Rattle.tg_semantics.specs.Values.{Value, int, string, nil, reference, nothin
 use Rattle.tg_semantics.specs.Operators.{field_in, element_in, with_field, with_element, set_field}
 use Rattle.tg_semantics.specs.Evaluation.{Location, in_variable, in_field, in_element}
 use Rattle.tg_semantics.specs.Passing.{Rest, with_found}
-use Rattle.tg_semantics.specs.MachineEnds.{rest_run}
+use Rattle.tg_semantics.specs.MachineRuns.{rest_run}
 use Rattle.tg_typecheck.specs.Types.{Ty, Shape, record_shape, array_shape, none_type}
 use Rattle.tg_typecheck.specs.Typing.{placed}
 use Rattle.tg_typecheck.specs.Has.{HasValues}

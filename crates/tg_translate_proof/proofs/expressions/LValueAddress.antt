@@ -10,7 +10,7 @@ use Rattle.tg_syntax.specs.OfWords.{PlaceOfWords}
 use Rattle.tg_symbols.specs.Tables.{looked_up}
 use Rattle.tg_simulation.specs.Runs.{Run}
 use Rattle.tg_simulation.specs.Ran.{Ran, works}
-use Rattle.tg_simulation.specs.Outcomes.{costs}
+use Rattle.tg_simulation.specs.Changes.{costs}
 use Rattle.tg_simulation.specs.Agreement.{Source}
 use Rattle.tg_simulation.proofs.Following.{follows_along, follows_paying}
 use Rattle.tg_semantics.specs.Values.{Value, nil, reference, SourceWorld, Env, Object, fields, elements}
@@ -18,7 +18,7 @@ use Rattle.tg_semantics.specs.Environments.{find, to_variable, levels_out}
 use Rattle.tg_semantics.specs.Evaluation as evaluation
 use Rattle.tg_semantics.specs.Evaluation.{Location, in_variable, in_field, in_element}
 use Rattle.tg_semantics.specs.Passing.{Rest, Passing, passing, with_found}
-use Rattle.tg_semantics.specs.MachineEnds.{rest_run}
+use Rattle.tg_semantics.specs.MachineRuns.{rest_run}
 use Rattle.tg_semantics.specs.Levels.{levels_of}
 use Rattle.tg_semantics.specs.laws.Laws.{behind}
 use Rattle.tg_typecheck.specs.declared.notes.Means.TheVariants as means

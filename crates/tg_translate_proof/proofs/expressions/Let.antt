@@ -13,7 +13,7 @@ use Rattle.tg_semantics.specs.Values.{Value, nothing, SourceWorld, Env}
 use Rattle.tg_semantics.specs.Evaluation.{function_count}
 use Rattle.tg_semantics.specs.Levels.{levels_of}
 use Rattle.tg_semantics.specs.Passing.{Rest}
-use Rattle.tg_semantics.specs.MachineEnds.{rest_run}
+use Rattle.tg_semantics.specs.MachineRuns.{rest_run}
 use Rattle.tg_typecheck.specs.Types.{Ty, none_type}
 use Rattle.tg_typecheck.specs.Scopes.{Scope}
 use Rattle.tg_typecheck.specs.Groups.{with_functions}

@@ -14,13 +14,13 @@ use Rattle.tg_typecheck.specs.Scopes.{Scope}
 use Rattle.tg_simulation.specs.Runs.{Run}
 use Rattle.tg_simulation.specs.Ran.{Ran}
 use Rattle.tg_simulation.specs.Agreement.{Source}
-use Rattle.tg_simulation.specs.Outcomes.{costs}
+use Rattle.tg_simulation.specs.Changes.{costs}
 use Rattle.tg_simulation.proofs.Following.{follows_along}
 use Rattle.tg_semantics.specs.Values.{Value, Env, SourceWorld}
 use Rattle.tg_semantics.specs.Evaluation as E
 use Rattle.tg_semantics.specs.Evaluation.{eval_inits}
 use Rattle.tg_semantics.specs.Passing.{Rest, Passing, passing}
-use Rattle.tg_semantics.specs.MachineEnds.{rest_run}
+use Rattle.tg_semantics.specs.MachineRuns.{rest_run}
 use Rattle.tg_semantics.specs.laws.Laws.{behind}
 use Rattle.tg_typecheck.specs.Types.{Ty, Shape, none_type, record_type, record_shape}
 use Rattle.tg_typecheck.specs.Has as has

@@ -9,14 +9,15 @@ use Rattle.tg_machine_state.specs.Services.{whole_words}
 use Rattle.tg_symbols.specs.Tables.{looked_up}
 use Rattle.tg_simulation.specs.Runs.{Run}
 use Rattle.tg_simulation.specs.Ran.{Ran, Ended}
-use Rattle.tg_simulation.specs.Outcomes.{ended, passes_limit}
+use Rattle.tg_simulation.specs.Outcomes.{ended}
+use Rattle.tg_simulation.specs.Changes.{passes_limit}
 use Rattle.tg_simulation.specs.Agreement.{Source}
 use Rattle.tg_simulation.proofs.Following.{follows_passing, follows_along}
 use Rattle.tg_semantics.specs.Values.{Value, reference, fields, SourceWorld, add_weight, drop_weight, add_heap, add_object, by_heap}
 use Rattle.tg_semantics.specs.Evaluation as E
 use Rattle.tg_semantics.specs.Levels.{runtime_weight}
 use Rattle.tg_semantics.specs.Operators.{record_bytes}
-use Rattle.tg_semantics.specs.MachineEnds.{rest_run}
+use Rattle.tg_semantics.specs.MachineRuns.{rest_run}
 use Rattle.tg_semantics.specs.Passing.{Rest, Passing, passing, ends}
 use Rattle.tg_typecheck.specs.Types.{Ty, record_type, record_shape}
 use Rattle.tg_tree.specs.Tree.{Tx, Stms, no_stms, stm, Move}

@@ -12,7 +12,7 @@ use Rattle.tg_simulation.specs.Runs.{Run}
 use Rattle.tg_semantics.specs.Values.{Value, int}
 use Rattle.tg_semantics.specs.Passing.{Rest, Passing, passing}
 use Rattle.tg_semantics.specs.Evaluation as evaluation
-use Rattle.tg_semantics.specs.MachineEnds.{rest_run}
+use Rattle.tg_semantics.specs.MachineRuns.{rest_run}
 use Rattle.tg_typecheck.specs.Types.{Ty, int_type}
 use Rattle.tg_typecheck.specs.Scopes.{Scope}
 use Rattle.tg_typecheck.specs.Has as has

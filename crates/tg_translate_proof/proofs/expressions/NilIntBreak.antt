@@ -3,7 +3,7 @@ use Rattle.std.proofs.Common.{◌≡◌, ℕ, ◌+◌, ◌*◌, ◌^◌, ◌<◌
 use Rattle.tg_base.specs.declared.ids.Span.{Span}
 use Rattle.tg_syntax.specs.Tree.{Exp, Nil, Int, Break}
 use Rattle.tg_semantics.specs.Values.{Value, int, nil}
-use Rattle.tg_semantics.specs.MachineEnds.{rest_run}
+use Rattle.tg_semantics.specs.MachineRuns.{rest_run}
 use Rattle.tg_typecheck.specs.Types.{Ty, int_type, nil_type, none_type}
 use Rattle.tg_typecheck.specs.Scopes.{Scope}
 use Rattle.tg_typecheck.specs.Has as has

@@ -6,13 +6,14 @@ use Rattle.tg_machine_state.specs.declared.ends.RunEnd.TheVariants.{StackFull}
 use Rattle.tg_machine_state.specs.State.{word_at, heap_base, stack_top}
 use Rattle.tg_simulation.specs.Runs.{Run}
 use Rattle.tg_simulation.specs.Ran.{Ran, Ended, works}
-use Rattle.tg_simulation.specs.Outcomes.{Outcome, passes_limit}
+use Rattle.tg_simulation.specs.Outcomes.{Outcome}
+use Rattle.tg_simulation.specs.Changes.{passes_limit}
 use Rattle.tg_simulation.specs.Agreement.{Source, Matches}
 use Rattle.tg_simulation.specs.laws.Simulating.{Comes}
 use Rattle.tg_simulation.proofs.Following.{match_works, match_credit, follows_working, follows_passing, follows_full, follows_along}
 use Rattle.tg_semantics.specs.Values.{Ending, SourceWorld, add_weight}
 use Rattle.tg_semantics.specs.Levels.{runtime_weight}
-use Rattle.tg_semantics.specs.MachineEnds.{rest_run, as_source}
+use Rattle.tg_semantics.specs.MachineRuns.{rest_run, as_source}
 use Rattle.tg_semantics.specs.Passing.{Rest}
 use Rattle.tg_typecheck.specs.Types.{Ty, Shape}
 use Rattle.tg_tree.specs.Tree.{Ts, Function}

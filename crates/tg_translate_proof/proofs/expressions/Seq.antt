@@ -5,11 +5,11 @@ use Rattle.tg_base.specs.declared.ids.Span.{Span}
 use Rattle.tg_syntax.specs.Tree.{Exp, Seq, Exps, no_exps, exp}
 use Rattle.tg_simulation.specs.Runs.{Run}
 use Rattle.tg_simulation.specs.Ran.{Ran}
-use Rattle.tg_simulation.specs.Outcomes.{costs}
+use Rattle.tg_simulation.specs.Changes.{costs}
 use Rattle.tg_simulation.specs.Agreement.{Source}
 use Rattle.tg_semantics.specs.Values.{Value, nothing, SourceWorld}
 use Rattle.tg_semantics.specs.Passing.{Rest}
-use Rattle.tg_semantics.specs.MachineEnds.{rest_run}
+use Rattle.tg_semantics.specs.MachineRuns.{rest_run}
 use Rattle.tg_typecheck.specs.Types.{Ty, none_type}
 use Rattle.tg_typecheck.specs.Has as has
 use Rattle.tg_typecheck.specs.Has.{Has, HasLast}

@@ -10,7 +10,7 @@ use Rattle.tg_simulation.specs.Agreement.{Source}
 use Rattle.tg_semantics.specs.Values.{Value, nothing, SourceWorld, Env}
 use Rattle.tg_semantics.specs.Passing.{Rest, Passing, passing}
 use Rattle.tg_semantics.specs.Evaluation as evaluation
-use Rattle.tg_semantics.specs.MachineEnds.{rest_run}
+use Rattle.tg_semantics.specs.MachineRuns.{rest_run}
 use Rattle.tg_semantics.specs.laws.Laws.{behind}
 use Rattle.tg_semantics.specs.Levels.{levels_of}
 use Rattle.tg_typecheck.specs.Types.{Ty, int_type, none_type}

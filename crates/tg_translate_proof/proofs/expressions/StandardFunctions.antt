@@ -11,7 +11,8 @@ use Rattle.tg_base.specs.Words.{is_negative, signed}
 use Rattle.tg_simulation.specs.Bytes.{AreBytes}
 use Rattle.tg_simulation.specs.Runs.{Run}
 use Rattle.tg_simulation.specs.Ran.{Ran, Ended}
-use Rattle.tg_simulation.specs.Outcomes.{ended, costs, writes_first}
+use Rattle.tg_simulation.specs.Outcomes.{ended}
+use Rattle.tg_simulation.specs.Changes.{costs, writes_first}
 use Rattle.tg_simulation.specs.Agreement.{Source}
 use Rattle.tg_simulation.proofs.Following.{follows_paying, follows_writing}
 use Rattle.tg_semantics.specs.Values.{Value, int, string, nothing, SourceWorld, Ending, add_weight, drop_weight, add_heap, drop_byte}
@@ -19,7 +20,8 @@ use Rattle.tg_semantics.specs.Values.{by_heap, by_chr, by_substring, by_exit}
 use Rattle.tg_semantics.specs.Evaluation as E
 use Rattle.tg_semantics.specs.Levels.{runtime_weight}
 use Rattle.tg_semantics.specs.Operators.{truth, is_below, string_bytes}
-use Rattle.tg_semantics.specs.MachineEnds.{rest_run, machine_end}
+use Rattle.tg_semantics.specs.MachineEnds.{machine_end}
+use Rattle.tg_semantics.specs.MachineRuns.{rest_run}
 use Rattle.tg_semantics.specs.Passing.{Rest, Passing, passing, ends}
 use Rattle.tg_semantics.specs.declared.standards.Standard.TheVariants.{Print, Flush, Getchar, Ord, Chr, Size, Substring, Concat, Not}
 use Rattle.tg_semantics.specs.declared.standards.Standard.TheVariants as standard

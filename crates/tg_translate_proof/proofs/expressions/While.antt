@@ -11,7 +11,7 @@ use Rattle.tg_simulation.proofs.Following.{follows_along, follows_turn, follows_
 use Rattle.tg_semantics.specs.Values.{Value, int, nothing, SourceWorld}
 use Rattle.tg_semantics.specs.Evaluation as evaluation
 use Rattle.tg_semantics.specs.Passing.{Rest, Passing, passing, with_turn, over_in}
-use Rattle.tg_semantics.specs.MachineEnds.{rest_run, as_source}
+use Rattle.tg_semantics.specs.MachineRuns.{rest_run, as_source}
 use Rattle.tg_semantics.specs.laws.Laws.{behind}
 use Rattle.tg_semantics.proofs.AsSource.{turns_as_source}
 use Rattle.tg_semantics.proofs.Unfolding.{fuel_unfolds}

@@ -16,7 +16,7 @@ use Rattle.tg_semantics.specs.Values.{Value, int, string, nil, reference, nothin
 use Rattle.tg_semantics.specs.Operators.{truth}
 use Rattle.tg_semantics.specs.Passing.{Rest, Passing, passing}
 use Rattle.tg_semantics.specs.Evaluation.{eval}
-use Rattle.tg_semantics.specs.MachineEnds.{rest_run}
+use Rattle.tg_semantics.specs.MachineRuns.{rest_run}
 use Rattle.tg_semantics.specs.laws.Laws.{behind}
 use Rattle.tg_typecheck.specs.declared.notes.Note.{Note}
 use Rattle.tg_typecheck.specs.Types.{Ty, Shape, int_type, none_type}

@@ -9,7 +9,7 @@ use Rattle.tg_simulation.specs.Ran.{Ran}
 use Rattle.tg_simulation.specs.Agreement.{Source}
 use Rattle.tg_semantics.specs.Values.{Value, SourceWorld}
 use Rattle.tg_semantics.specs.Passing.{Rest}
-use Rattle.tg_semantics.specs.MachineEnds.{rest_run}
+use Rattle.tg_semantics.specs.MachineRuns.{rest_run}
 use Rattle.tg_typecheck.specs.Types.{Ty, none_type}
 use Rattle.tg_typecheck.specs.Has.{Has}
 use Rattle.tg_tree.specs.Tree.{Tx, Const, Temp, Move, Stms, no_stms, stm}

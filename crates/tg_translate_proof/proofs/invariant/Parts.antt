@@ -6,12 +6,14 @@ use Rattle.tg_syntax.specs.Tree.{Exp}
 use Rattle.tg_syntax.specs.OfWords.{OfWords}
 use Rattle.tg_simulation.specs.Runs.{Run}
 use Rattle.tg_simulation.specs.Ran.{Ran, works, Ended}
-use Rattle.tg_simulation.specs.Outcomes.{ended, costs}
+use Rattle.tg_simulation.specs.Outcomes.{ended}
+use Rattle.tg_simulation.specs.Changes.{costs}
 use Rattle.tg_simulation.specs.Agreement.{Source, same}
 use Rattle.tg_simulation.proofs.Following.{follows_paying, follows_with_credit}
 use Rattle.tg_semantics.specs.Values.{Value, SourceWorld, Env, Ending}
 use Rattle.tg_semantics.specs.Passing.{Rest, ends}
-use Rattle.tg_semantics.specs.MachineEnds.{rest_run, machine_end}
+use Rattle.tg_semantics.specs.MachineEnds.{machine_end}
+use Rattle.tg_semantics.specs.MachineRuns.{rest_run}
 use Rattle.tg_typecheck.specs.Types.{Ty, int_type, none_type}
 use Rattle.tg_typecheck.specs.Scopes.{Binding}
 use Rattle.tg_typecheck.specs.Has.{Has}

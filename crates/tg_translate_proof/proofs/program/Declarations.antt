@@ -9,7 +9,7 @@ use Rattle.tg_syntax.specs.Tree as source
 use Rattle.tg_syntax.specs.Tree.{TypeDec, Exp, Let, Exps, Decs, no_decs, types, functions, FunDecs}
 use Rattle.tg_simulation.specs.Runs.{Run}
 use Rattle.tg_simulation.specs.Ran.{Ran}
-use Rattle.tg_simulation.specs.Outcomes.{costs}
+use Rattle.tg_simulation.specs.Changes.{costs}
 use Rattle.tg_simulation.specs.Agreement.{Source}
 use Rattle.tg_simulation.proofs.Following.{follows_paying}
 use Rattle.tg_semantics.specs.Values.{Value, SourceWorld, Env, group}
@@ -17,7 +17,7 @@ use Rattle.tg_semantics.specs.Levels.{levels_of}
 use Rattle.tg_semantics.specs.Evaluation as evaluation
 use Rattle.tg_semantics.specs.Evaluation.{function_count, with_variable}
 use Rattle.tg_semantics.specs.Passing.{Rest, Passing, passing}
-use Rattle.tg_semantics.specs.MachineEnds.{rest_run}
+use Rattle.tg_semantics.specs.MachineRuns.{rest_run}
 use Rattle.tg_semantics.specs.laws.Laws.{behind}
 use Rattle.tg_typecheck.specs.Types.{Ty}
 use Rattle.tg_semantics.specs.Environments.{name_of}

@@ -17,7 +17,7 @@ use Rattle.tg_semantics.specs.Evaluation as evaluation
 use Rattle.tg_semantics.specs.Evaluation.{Job, run_function}
 use Rattle.tg_semantics.specs.Levels.{function_weight}
 use Rattle.tg_semantics.specs.Passing.{Rest, Passing, passing, ends}
-use Rattle.tg_semantics.specs.MachineEnds.{rest_run, as_source}
+use Rattle.tg_semantics.specs.MachineRuns.{rest_run, as_source}
 use Rattle.tg_semantics.specs.laws.Laws.{behind}
 use Rattle.tg_semantics.proofs.Unfolding.{fuel_unfolds}
 use Rattle.tg_simulation.specs.Outcomes.{stuck}

@@ -10,14 +10,15 @@ use Rattle.tg_syntax.specs.OfWords.{OfWords}
 use Rattle.tg_syntax.specs.Tree.{Exp}
 use Rattle.tg_simulation.specs.Runs.{Run}
 use Rattle.tg_simulation.specs.Ran.{Ran, Ended, works}
-use Rattle.tg_simulation.specs.Outcomes.{ended, stuck, passes_limit}
+use Rattle.tg_simulation.specs.Outcomes.{ended, stuck}
+use Rattle.tg_simulation.specs.Changes.{passes_limit}
 use Rattle.tg_simulation.specs.Agreement.{Source, Follows}
 use Rattle.tg_simulation.proofs.Following.{follows_along, follows_passing, follows_full, follows_working, follows_with_credit}
 use Rattle.tg_semantics.specs.Values.{Value, SourceWorld, normal, Env}
 use Rattle.tg_semantics.specs.Environments.{outermost_entries}
 use Rattle.tg_semantics.specs.Levels.{program_weight}
 use Rattle.tg_semantics.specs.Passing.{Rest, ends}
-use Rattle.tg_semantics.specs.MachineEnds.{program_run, rest_run, as_source}
+use Rattle.tg_semantics.specs.MachineRuns.{program_run, rest_run, as_source}
 use Rattle.tg_semantics.proofs.Unfolding.{program_unfolds}
 use Rattle.tg_typecheck.specs.Types.{Ty}
 use Rattle.tg_typecheck.specs.Scopes as scopes

@@ -10,7 +10,7 @@ use Rattle.tg_semantics.specs.Values.{Value, int, Env, SourceWorld}
 use Rattle.tg_semantics.specs.Operators.{truth}
 use Rattle.tg_semantics.specs.Evaluation.{eval}
 use Rattle.tg_semantics.specs.Passing.{Rest, Passing, passing}
-use Rattle.tg_semantics.specs.MachineEnds.{rest_run}
+use Rattle.tg_semantics.specs.MachineRuns.{rest_run}
 use Rattle.tg_semantics.specs.laws.Laws.{behind}
 use Rattle.tg_typecheck.specs.Types.{Ty, none_type, int_type}
 use Rattle.tg_typecheck.specs.Has.{Has}

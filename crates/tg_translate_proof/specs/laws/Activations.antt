@@ -8,7 +8,7 @@ use Rattle.tg_semantics.specs.Values.{Value, SourceWorld, put_variable}
 use Rattle.tg_semantics.specs.Environments.{find, to_variable}
 use Rattle.tg_semantics.specs.Evaluation.{in_variable, write_location}
 use Rattle.tg_semantics.specs.Passing.{Rest, Passing, passing}
-use Rattle.tg_semantics.specs.MachineEnds.{rest_run}
+use Rattle.tg_semantics.specs.MachineRuns.{rest_run}
 use Rattle.tg_typecheck.specs.Types.{Ty}
 use Rattle.tg_semantics.specs.Environments.{name_of}
 use Rattle.tg_typecheck.specs.Has.{HasPlace}

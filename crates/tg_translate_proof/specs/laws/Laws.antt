@@ -10,7 +10,7 @@ use Rattle.tg_simulation.specs.Runs.{Run}
 use Rattle.tg_simulation.specs.Bytes.{IsPrefix}
 use Rattle.tg_simulation.specs.Ran.{Ran, Ended}
 use Rattle.tg_simulation.specs.Agreement.{Source, Follows, Agrees, FillsStack}
-use Rattle.tg_semantics.specs.MachineEnds.{program_run}
+use Rattle.tg_semantics.specs.MachineRuns.{program_run}
 use Rattle.tg_typecheck.specs.Programs.{CheckedProgram, IsAccepted}
 use Rattle.tg_escape.specs.Escaping.{escapes_of}
 use Rattle.tg_escape.specs.Links.{links_of}

@@ -1,6 +1,6 @@
 use Rattle.tg_command.specs.Commands.{asked_of}
 use Rattle.tg_driver.specs.Calls.{stream_of, streams_of}
-use Rattle.tg_driver.specs.Watching.{HasWatchedRun}
+use Rattle.tg_driver.specs.glue.Watched.{HasWatchedRun}
 use Rattle.tg_driver.proofs.AnswerLemmas.{executed}
 use Rattle.tg_driver.proofs.executing.execute_text.Goals as goal
 

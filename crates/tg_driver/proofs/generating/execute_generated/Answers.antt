@@ -1,7 +1,7 @@
 use Rattle.std.proofs.Common.{◌≡◌, ℕ, List, [], ap, ◌∙◌}
-use Rattle.tg_base.specs.InMemory.{PlainBytes}
+use Rattle.tg_base.specs.PlainBytes.{PlainBytes}
 use Rattle.tg_driver.specs.Calls.{stream_of}
-use Rattle.tg_driver.specs.GenMode.{SumsUpRun}
+use Rattle.tg_driver.specs.glue.PrivateCalls.{SumsUpRun}
 use Rattle.tg_driver.proofs.AnswerLemmas.{or_memory, started_stays}
 use Rattle.tg_driver.proofs.generating.execute_generated.Goals as goal
 

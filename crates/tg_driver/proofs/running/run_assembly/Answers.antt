@@ -1,5 +1,5 @@
 use Rattle.tg_driver.specs.Calls.{stream_of, streams_of}
-use Rattle.tg_driver.specs.Watching.{HasWatchedRun}
+use Rattle.tg_driver.specs.glue.Watched.{HasWatchedRun}
 use Rattle.tg_driver.proofs.AnswerLemmas.{assembled_run}
 use Rattle.tg_driver.proofs.running.run_assembly.Goals as goal
 

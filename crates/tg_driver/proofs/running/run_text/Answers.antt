@@ -2,7 +2,7 @@ use Rattle.std.proofs.Common.{refl}
 use Rattle.tg_command.specs.Commands.{asked_of}
 use Rattle.tg_compile_proof.specs.Builds.{Builds}
 use Rattle.tg_driver.specs.Calls.{stream_of, streams_of}
-use Rattle.tg_driver.specs.Watching.{HasWatchedRun}
+use Rattle.tg_driver.specs.glue.Watched.{HasWatchedRun}
 use Rattle.tg_driver.proofs.AnswerLemmas.{run_of_refused, refused_untouched, ends_by}
 use Rattle.tg_driver.proofs.Typings.{builds, has_image}
 use Rattle.tg_driver.proofs.running.run_text.Goals as goal

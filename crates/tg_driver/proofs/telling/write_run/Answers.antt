@@ -1,5 +1,5 @@
 use Rattle.std.proofs.Common.{◌++◌, ℕ, List, refl, sym, subst}
-use Rattle.tg_profiler.specs.Told.{HasTold}
+use Rattle.tg_profiler.specs.Telling.{HasTold}
 use Rattle.tg_profiler.proofs.Telling.{told_failed, told_more, told_so_far}
 use Rattle.tg_driver.specs.Endings.{end_line}
 use Rattle.tg_driver.proofs.telling.write_run.Goals as goal

@@ -4,7 +4,8 @@ use Rattle.tg_command.specs.Commands.{asked_of}
 use Rattle.tg_driver.specs.Calls.{shelf_of, stream_of, streams_of}
 use Rattle.tg_compile_proof.specs.Builds.{Builds}
 use Rattle.tg_driver.specs.AllocMode.{Lists}
-use Rattle.tg_driver.specs.Watching.{HasWatchedRun, if_watched}
+use Rattle.tg_driver.specs.Watching.{if_watched}
+use Rattle.tg_driver.specs.glue.Watched.{HasWatchedRun}
 use Rattle.tg_driver.proofs.AnswerLemmas.{by_check, by_writing, by_run, by_exec, by_gen, by_format, in_mode, no_gen}
 use Rattle.tg_driver.proofs.top.answer_command.Goals as goal
 

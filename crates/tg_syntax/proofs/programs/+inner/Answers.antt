@@ -1,6 +1,6 @@
 use Rattle.std.proofs.Common.{arith, ap, ◌∙◌}
 use Rattle.std.proofs.lemmas.Grind.{common_steps}
-use Rattle.tg_syntax.specs.Measures.{inner}
+use Rattle.tg_syntax.specs.InnerMeasures.{inner}
 use Rattle.tg_syntax.specs.glue.Plain.{plain_kind}
 use Rattle.tg_syntax.proofs.InnerLemmas.{inner_exps-plain_exps, inner_inits-plain_inits, inner_functions-plain_functions, inner-Let}
 use Rattle.tg_syntax.proofs.programs.+inner.Goals as goal

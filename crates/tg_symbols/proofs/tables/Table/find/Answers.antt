@@ -1,5 +1,5 @@
 use Rattle.std.proofs.Common.{length, sym, ◌∙◌, ap, arith, ◌-◌, Some}
-use Rattle.tg_symbols.specs.Tables.{placed_at}
+use Rattle.tg_symbols.specs.Links.{placed_at}
 use Rattle.tg_symbols.proofs.TableLemmas.{below_length, placed_by_place, placed_none}
 use Rattle.tg_symbols.proofs.tables.Table.find.Goals as goal
 

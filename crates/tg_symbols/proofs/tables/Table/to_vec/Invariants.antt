@@ -1,5 +1,5 @@
 use Rattle.std.proofs.Common.{◌≡◌, ◌≤◌, ◌++◌, length, map, reverse, take}
-use Rattle.tg_symbols.specs.Tables.{entries_of}
+use Rattle.tg_symbols.specs.Links.{entries_of}
 use Rattle.tg_symbols.proofs.TableLemmas.{pair}
 use Rattle.tg_symbols.proofs.tables.Table.to_vec.Given as goal
 
