@@ -4,6 +4,8 @@ Only `$at`, `$k0` and `$k1` are used beside the registers of the text, as SPIM's
 """
 import re
 
+from routines import END, HI_AND_LO, SERVICES, START, service_routines
+
 LABEL = re.compile(r"\s*([A-Za-z_.$][\w.$]*)\s*:(?!:)")
 PART = re.compile(r'"(?:\\.|[^"\\])*"|\'(?:\\.|[^\'\\])\'|\([^)]*\)|[^\s,"\'()#]+|,')
 CODE = re.compile(r'((?:"(?:\\.|[^"\\])*"|\'(?:\\.|[^\'\\])\'|[^"\'#])*)')
@@ -18,96 +20,21 @@ SUMS = {"add": "addi", "addu": "addiu", "slt": "slti", "sltu": "sltiu", "and": "
 LEAST = {"sub": "addi", "subu": "addiu", "subi": "addi", "subiu": "addiu"}
 THREE = {**SUMS, **{short: long for long, short in SUMS.items()}}
 NAMED = {"n": "\n", "t": "\t", "r": "\r"}
-DROPPED = {".globl", ".global", ".extern", ".ent", ".end", ".set"}
+# What says nothing of code or data, of SPIM, MARS and gcc.
+DROPPED = set(
+    ".globl .global .extern .ent .end .set .file .section .type .size .ident .loc .previous .abicalls .option .frame .mask"
+    " .fmask .cpload .cprestore .nan .module .gnu_attribute .weak .local .hidden .insn .cfi_startproc .cfi_endproc"
+    " .cfi_def_cfa_offset .cfi_offset .cfi_restore .cfi_def_cfa .cfi_def_cfa_register .err .name .version".split()
+)
+# Directives of gcc by those that are there.
+ALIKE = {".4byte": ".word", ".long": ".word", ".2byte": ".half", ".short": ".half", ".hword": ".half", ".string": ".asciiz"}
+ALIKE |= {".skip": ".space", ".zero": ".space", ".p2align": ".align"}
+STATICS, CODE_BEGIN = 0x10010000, 0x00400000
+ACCESSES = "lw lb lbu sw sb lh lhu sh la ulw ulh ulhu usw ush".split()
+LINKED = {"bgezal": "bgez", "bltzal": "bltz"}
+FLOATING = re.compile(r"[a-z0-9]+(\.[a-z0-9]+)*\.[sdw]|[lm][wtf]c1|[sl][wd]c1|m[tf]c1|bc1[tf]|mov[tf]|\.(float|double)")
 V0 = "$v0", "$2"
 ZERO = "$zero", "$0"
-BY_ROUTINES = {5, 8}
-
-# A text that runs over its end ends there, as in MARS.
-END = """
-        .text
-        li $v0, 10
-        syscall
-"""
-# What reading an int and reading a string do in SPIM, over service 12. The place to go back to is in $k1.
-ROUTINES = """
-spim_service:
-        li $k0, 5
-        beq $v0, $k0, spim_read_int
-        li $k0, 8
-        beq $v0, $k0, spim_read_string
-        syscall
-        jr $k1
-spim_read_int:
-        addiu $sp, $sp, -8
-        sw $t0, 0($sp)
-        sw $t1, 4($sp)
-        li $t0, 0
-        li $t1, 0
-spim_blank:
-        li $v0, 12
-        syscall
-        li $k0, 32
-        beq $v0, $k0, spim_blank
-        li $k0, 9
-        beq $v0, $k0, spim_blank
-        li $k0, 43
-        beq $v0, $k0, spim_digits
-        li $k0, 45
-        bne $v0, $k0, spim_digit
-        li $t1, 1
-spim_digits:
-        li $v0, 12
-        syscall
-spim_digit:
-        addiu $k0, $v0, -48
-        sltiu $at, $k0, 10
-        beq $at, $zero, spim_line
-        sll $at, $t0, 2
-        addu $t0, $t0, $at
-        sll $t0, $t0, 1
-        addu $t0, $t0, $k0
-        j spim_digits
-spim_next:
-        li $v0, 12
-        syscall
-spim_line:
-        li $k0, 10
-        beq $v0, $k0, spim_signed
-        bgez $v0, spim_next
-spim_signed:
-        beq $t1, $zero, spim_int
-        subu $t0, $zero, $t0
-spim_int:
-        move $v0, $t0
-        j spim_back
-spim_read_string:
-        addiu $sp, $sp, -8
-        sw $t0, 0($sp)
-        sw $t1, 4($sp)
-        move $t0, $a0
-        move $t1, $a1
-spim_byte:
-        slti $k0, $t1, 2
-        bne $k0, $zero, spim_end
-        li $v0, 12
-        syscall
-        bltz $v0, spim_end
-        sb $v0, 0($t0)
-        addiu $t0, $t0, 1
-        addiu $t1, $t1, -1
-        li $k0, 10
-        bne $v0, $k0, spim_byte
-spim_end:
-        li $v0, 8
-        blez $t1, spim_back
-        sb $zero, 0($t0)
-spim_back:
-        lw $t0, 0($sp)
-        lw $t1, 4($sp)
-        addiu $sp, $sp, 8
-        jr $k1
-"""
 
 
 def number(word):
@@ -152,25 +79,66 @@ def operands(rest):
     return found
 
 
+class NotThere(Exception):
+    """A line of a text asks for what has no rewriting: its number, its word, and what there is in its place."""
+
+
 def rewritten(text, is_marked=False):
-    """The rewriting of a text, with routines where it asks for a service that they answer."""
-    plain = Rewriting(text, is_marked=is_marked)
-    return Rewriting(text, True, is_marked) if plain.services & BY_ROUTINES else plain
+    """The rewriting of a text, with the routines that it asks for, which a first rewriting finds out."""
+    needs = Needs()
+    while True:
+        made = Rewriting(text, needs, is_marked)
+        if made.found == needs:
+            return made
+        needs = made.found
+
+
+def without_dollars(text):
+    """The text with labels as `$L3` of gcc under names that are no registers."""
+    for name in set(re.findall(r"^\s*\$([A-Za-z_][\w.$]*)\s*:", text, re.M)):
+        text = re.sub(r"\$" + re.escape(name) + r"(?![\w.$])", f"spim_{name}", text)
+    return text
+
+
+class Needs:
+    """What a text needs behind it and before it: routines of services, hi and lo in memory, bytes above its stack."""
+
+    def __init__(self):
+        self.services, self.hi_and_lo, self.above_stack = set(), False, False
+
+    def __eq__(self, other):
+        return vars(self) == vars(other)
 
 
 class Rewriting:
     """The rewritten lines, and for each the number of the line that it came from. Where the text is marked each instruction
     writes the number of its line first, in two bytes."""
 
-    def __init__(self, text, has_routines=False, is_marked=False):
-        self.is_marked = is_marked
+    def __init__(self, text, needs, is_marked=False):
+        self.is_marked, self.needs, self.found = is_marked, needs, Needs()
         self.lines, self.origins, self.at, self.locals = [], [], 0, 0
-        self.constants, self.service, self.services, self.has_routines = {}, None, set(), has_routines
-        self.source = text.splitlines()
+        self.constants, self.service, self.is_stack_met = {}, None, False
+        self.statics, self.is_in_code, self.has_code = 0, True, False
+        self.source = without_dollars(text).splitlines()
         self.has_main = any(re.match(r"(\s*[\w.$]+\s*:)*\s*main\s*:", line) for line in self.source)
+        self.main = "spim_main" if needs.above_stack else "main"
+        self.put(*START.splitlines()[1:] * needs.above_stack)
         for self.at, line in enumerate(self.source, 1):
-            self.line(line)
-        self.put(*END.splitlines()[1:], *ROUTINES.splitlines()[1:] * has_routines)
+            for part in self.parts(line):
+                self.line(part)
+        self.put(*END.splitlines()[1:], *(service_routines(needs.services) if needs.services else []))
+        self.put(*HI_AND_LO.splitlines()[1:] * needs.hi_and_lo)
+
+    @staticmethod
+    def parts(line):
+        """The items of a line, which `;` parts where it stands in no string, character or remark."""
+        code = CODE.match(line)[1]
+        begin, quoted = 0, re.sub(r'"(?:\\.|[^"\\])*"|\'(?:\\.|[^\'\\])\'', lambda it: "x" * len(it[0]), code)
+        for at, byte in enumerate(quoted):
+            if byte == ";":
+                yield code[begin:at]
+                begin = at + 1
+        yield code[begin:]
 
     def put(self, *lines):
         self.lines += lines
@@ -185,12 +153,14 @@ class Rewriting:
         code = CODE.match(line)[1]
         found = LABEL.match(code)
         while found:
-            self.put(f"{found[1]}:")
+            self.put(f"{self.main if found[1] == 'main' else found[1]}:")
             self.service = None
             code = code[found.end() :]
             found = LABEL.match(code)
         word, rest = ITEM.match(code.strip()).groups()
-        given = [self.constants.get(it, it) for it in operands(rest)]
+        given = [self.constants.get(it, self.main if it == "main" else it) for it in operands(rest)]
+        if FLOATING.fullmatch(word.lower()):
+            raise NotThere(self.at, f"floating point isn't there, and {word} takes it")
         if word == ".eqv" and len(given) == 2:
             self.constants[given[0]] = given[1]
         elif len(given) == 2 and given[0] == "=":
@@ -211,23 +181,62 @@ class Rewriting:
                 yield from [number(value)] * times
 
     def directive(self, word, given, rest):
-        if word in (".text", ".data", ".rdata", ".sdata"):
-            self.put(".text" if word == ".text" else " ".join([".data", *given]) if word == ".data" else ".data")
+        word = ALIKE.get(word, word)
+        if word in (".text", ".data", ".rdata", ".sdata", ".bss", ".sbss", ".section"):
+            self.segment(word, given)
         elif word in (".word", ".byte"):
-            self.put(f"{word} {', '.join(map(str, self.values(given)))}")
+            values = list(self.values(given))
+            self.lay(4 if word == ".word" else 1, len(values) * (4 if word == ".word" else 1))
+            self.put(f"{word} {', '.join(map(str, values))}")
         elif word == ".half":
             halves = list(self.values(given))
             wrong = [it for it in halves if not isinstance(it, int)]
             pairs = [f"{it & 255}, {it >> 8 & 255}" for it in halves if isinstance(it, int)]
+            self.lay(2, 2 * len(halves))
             self.put(".align 1", f".byte {', '.join(pairs)}" if not wrong else f".half {rest}")
         elif word in (".ascii", ".asciiz"):
             for it in given:
                 self.string(text_of(it) if it[0] == '"' else it, word == ".asciiz")
+        elif word in (".comm", ".lcomm"):
+            self.reserve(*given)
+        elif word == ".balign":
+            self.directive(".align", [str(max(number(given[0]), 1).bit_length() - 1)], "")
+        elif word in (".space", ".align"):
+            self.lay(*(1, number(given[0]) or 0) if word == ".space" else (1 << min(number(given[0]) or 0, 3), 0))
+            self.put(f"{word} {given[0]}" if not self.is_in_code or word == ".space" else "")
         elif word not in DROPPED:
             self.put(f"{word} {rest}")
 
+    def lay(self, unit, size):
+        """Counts the bytes of statics: so many, after what a unit leaves free before them."""
+        if not self.is_in_code:
+            self.statics = -(-self.statics // unit) * unit + size
+
+    def segment(self, word, given):
+        """Goes on in a segment; where an address is given the bytes before it are left free."""
+        self.is_in_code = (given[0] if word == ".section" and given else word).startswith(".text")
+        address = number(given[0]) if given and word != ".section" else None
+        self.put(".text" if self.is_in_code else ".data")
+        if address is None or self.is_in_code and not self.has_code:
+            return
+        free = address - STATICS - self.statics
+        if self.is_in_code or free < 0:
+            raise NotThere(self.at, f"{word} takes no address before what stands already")
+        if free:
+            self.put(f".space {free}")
+            self.statics += free
+
+    def reserve(self, name, size, unit="4"):
+        """Bytes under a name among the statics, whichever segment goes on."""
+        back = self.is_in_code
+        self.is_in_code = False
+        self.lay(4, number(size))
+        self.put(".data", ".align 2", f"{name}:", f".space {number(size)}", ".text" if back else ".data")
+        self.is_in_code = back
+
     def string(self, text, is_ended):
         """A string as it can be written here, or its bytes."""
+        self.lay(1, len(text) + is_ended)
         escapes = {"\n": "\\n", "\t": "\\t", '"': '\\"', "\\": "\\\\", "\0": "\\0"}
         written = [escapes.get(it, it if 32 <= ord(it) < 127 else None) for it in text]
         if None not in written:
@@ -238,11 +247,14 @@ class Rewriting:
     def instruction(self, word, given):
         """Rewrites an instruction, by the first of the ways that takes it; what none takes is left as it is. A text without
         main begins at its first instruction, as in MARS."""
-        self.put(*["main:"] * (not self.has_main))
-        self.has_main = True
+        self.put(*[f"{self.main}:"] * (not self.has_main))
+        self.has_main = self.has_code = True
+        if not self.is_stack_met and any("$sp" in it or "$29" in it for it in given):
+            self.is_stack_met = True
+            self.found.above_stack |= word in ACCESSES and not given[-1].startswith("-")
         self.put(*self.mark() if self.is_marked else [])
-        ways = (self.known, self.branches, self.sums, self.products, self.comparisons, self.shifts, self.accesses)
-        for way in ways:
+        ways = (self.known, self.moves, self.branches, self.sums, self.kept, self.products, self.comparisons, self.turns)
+        for way in (*ways, self.shifts, self.unaligned, self.accesses):
             try:
                 lines = way(word, *given)
             except (ValueError, IndexError):
@@ -263,7 +275,8 @@ class Rewriting:
         is_constant = word == "li" or word in ("ori", "addi", "addiu", "add", "addu", "or") and given[1:2] and given[1] in ZERO
         if given and given[0] in V0:
             self.service = number(given[-1]) if is_constant else None
-            self.services.add(self.service)
+            self.found.services |= {self.service} & set(SERVICES)
+            self.found.hi_and_lo |= self.service == 36
         elif word in ("syscall", "jal", "jalr"):
             self.service = None
 
@@ -274,7 +287,7 @@ class Rewriting:
 
     def known(self, word, *given):
         """A service that a routine may answer, `li` of a character, and what takes two registers."""
-        if word == "syscall" and self.has_routines and (self.service is None or self.service in BY_ROUTINES):
+        if word == "syscall" and self.needs.services and (self.service is None or self.service in SERVICES):
             back = self.local()
             return [f"la $k1, {back}", "j spim_service", f"{back}:"]
         if word == "li" and number(given[1]) is not None:
@@ -286,6 +299,97 @@ class Rewriting:
             into, one = given
             return [f"sra $at, {one}, 31", f"xor {into}, {one}, $at", f"subu {into}, {into}, $at"]
         return None
+
+    def moves(self, word, *given):
+        """Moves by a condition, counts of the bits in front, what gcc writes of an address, and two calls by a branch."""
+        if word in ("movz", "movn"):
+            into, one, test = given
+            over = self.local()
+            return [f"{'bne' if word == 'movz' else 'beq'} {test}, $zero, {over}", f"move {into}, {one}", f"{over}:"]
+        if word in ("clz", "clo"):
+            into, one = given
+            turn, over = self.local(), self.local()
+            begin = [f"move $k0, {one}" if word == "clz" else f"nor $k0, {one}, $zero", "li $at, 32", f"{turn}:"]
+            loop = [f"beq $k0, $zero, {over}", "srl $k0, $k0, 1", "addiu $at, $at, -1", f"j {turn}", f"{over}:"]
+            return [*begin, *loop, f"move {into}, $at"]
+        if word in LINKED:
+            one, target = given
+            back = self.local()
+            return [f"la $ra, {back}", f"{LINKED[word]} {one}, {target}", f"{back}:"]
+        if word == "bal":
+            return [f"jal {given[0]}"]
+        if given and given[-1].startswith(("%hi(", "%lo(")):
+            return self.halves(word, *given)
+        return None
+
+    @staticmethod
+    def halves(word, *given):
+        """An address in two halves: `la` has it whole, and its lower half adds nothing then."""
+        label, base = re.fullmatch(r"%..\(([^)]*)\)(\(\$\w+\))?", given[-1]).groups()
+        if word == "lui":
+            return [f"la {given[0]}, {label}"]
+        return [f"move {given[0]}, {given[1]}"] if word == "addiu" else [f"{word} {given[0]}, 0{base}"]
+
+    def kept(self, word, *given):
+        """hi and lo where a text sets them otherwise than by `mult` and `div`: then both stand in memory, as after each of
+        those two. Products and quotients without signs."""
+        if word in ("multu", "divu", "remu", "mthi", "mtlo", "mulou"):
+            self.found.hi_and_lo = True
+        if not self.needs.hi_and_lo:
+            return None
+        if word in ("mult", "multu") and len(given) == 2:
+            return [f"mult {given[0]}, {given[1]}", "mfhi $at", *(self.unsigned(*given) if word == "multu" else []), *self.stored()]
+        if word == "div" and len(given) == 2:
+            return [f"div {given[0]}, {given[1]}", "mfhi $at", *self.stored()]
+        if word in ("divu", "remu"):
+            return self.quotients(word, *given)
+        if word in ("mfhi", "mflo", "mthi", "mtlo"):
+            load = "lw" if word[1] == "f" else "sw"
+            return ["la $k1, spim_hi", f"{load} {given[0]}, {0 if word.endswith('hi') else 4}($k1)"]
+        return None
+
+    @staticmethod
+    def unsigned(one, other):
+        """Makes the upper word of a product in $at that of the product without signs."""
+        for a, b in ((one, other), (other, one)):
+            yield from (f"sra $k0, {a}, 31", f"and $k0, $k0, {b}", "addu $at, $at, $k0")
+
+    @staticmethod
+    def stored():
+        return ["la $k1, spim_hi", "sw $at, 0($k1)", "mflo $at", "sw $at, 4($k1)"]
+
+    def quotients(self, word, *given):
+        """A quotient or remainder without signs, in hi and lo, and in a register where one is named first."""
+        back = self.local()
+        one, other = given[-2:]
+        load = [f"li $at, {number(other)}"] if number(other) is not None else [f"move $at, {other}"]
+        check = ["bne $at, $zero, " + back + "_", "break 7", back + "_:"] if len(given) == 3 else []
+        call = [*load, *check, f"move $k0, {one}", f"la $k1, {back}", "j spim_divide", f"{back}:"]
+        got = ["la $k1, spim_hi", f"lw {given[0]}, {4 if word == 'divu' else 0}($k1)"] if len(given) == 3 else []
+        return [*call, *got]
+
+    def turns(self, word, *given):
+        """A turn by a register, bit by bit."""
+        if word not in ("rol", "ror") or number(given[-1]) is not None:
+            return None
+        into, one, count = given
+        turn, over = self.local(), self.local()
+        bit = [f"srl $k0, {into}, 31", f"sll {into}, {into}, 1"] if word == "rol" else [f"sll $k0, {into}, 31", f"srl {into}, {into}, 1"]
+        loop = [f"beq $at, $zero, {over}", *bit, f"or {into}, {into}, $k0", "addiu $at, $at, -1", f"j {turn}", f"{over}:"]
+        return [f"andi $at, {count}, 31", f"move {into}, {one}", f"{turn}:", *loop]
+
+    def unaligned(self, word, *given):
+        """Loads and stores at any address, byte by byte."""
+        if word not in ("ulw", "ulh", "ulhu", "usw", "ush"):
+            return None
+        register, *places = given
+        load = self.accesses("la", "$k1", *places)
+        if word[1] == "s":
+            rest = [it for k in range(1, 4 if word == "usw" else 2) for it in (f"srl $at, {register}, {8 * k}", f"sb $at, {k}($k1)")]
+            return [*load, f"sb {register}, 0($k1)", *rest]
+        top = 3 if word == "ulw" else 1
+        rest = [it for k in range(top - 1, -1, -1) for it in ("sll $at, $at, 8", f"lbu $k0, {k}($k1)", "or $at, $at, $k0")]
+        return [*load, f"{'lb' if word == 'ulh' else 'lbu'} $at, {top}($k1)", *rest, f"move {register}, $at"]
 
     def branches(self, word, *given):
         """Branches by an order, by a number, or always."""
@@ -367,7 +471,7 @@ class Rewriting:
 
     def accesses(self, word, *given):
         """Loads, stores and `la`, at a label, a number, a register, or sums of these."""
-        if word not in ("lw", "lb", "lbu", "sw", "sb", "lh", "lhu", "sh", "la"):
+        if word not in ACCESSES:
             return None
         register, *places = given
         found = MEMORY.fullmatch("".join(places))

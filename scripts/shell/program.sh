@@ -22,6 +22,11 @@ sum_of_sources() {
         xargs sha256sum | sha256sum | cut -c 1-64)
 }
 
+# Whether there are sources and a kit that could prove them: an installed launcher has none.
+can_prove() {
+    [ -f "$here/crates.txt" ] && command -v rt >/dev/null
+}
+
 # What dist/SOURCES has under a name.
 shipped_of() {
     while read -r key value; do
@@ -36,7 +41,7 @@ is_noted() {
     case $kind in
     proved) program=$built ;;
     shipped) program=$shipped ;;
-    kitless) program=$shipped && ! command -v rt >/dev/null || return 1 ;;
+    kitless) program=$shipped && ! can_prove || return 1 ;;
     *) return 1 ;;
     esac
     [ -x "$program" ] && [ ! "$program" -nt "$same" ] && [ ! "$program" -ot "$same" ] || return 1
@@ -85,12 +90,12 @@ fits() {
 decide() {
     program= kind= why= sources= before=
     read -r _ before 2>/dev/null <"$note"
-    { mkdir -p "$out" && echo >"$note.$$"; } 2>/dev/null
-    { [ ! -x "$built" ] || [ ! -f "$stamp" ]; } && ! command -v rt >/dev/null || sources=$(sum_of_sources)
+    [ ! -f "$here/crates.txt" ] || { mkdir -p "$out" && echo >"$note.$$"; } 2>/dev/null
+    { [ ! -x "$built" ] || [ ! -f "$stamp" ]; } && ! can_prove || sources=$(sum_of_sources)
     if ! is_built; then
         is_whole || return
         kind=shipped program=$shipped
-        if ! command -v rt >/dev/null; then
+        if ! can_prove; then
             kind=kitless
         elif ! fits; then
             program= why=${why:-"the sources aren't those of the program of dist/"}
