@@ -33,6 +33,7 @@ use tg_symbols::Table;
 use tg_syntax::{Form, Ident, Param, TypeDec};
 
 /// Consecutive types, whose names the rest of the scope sees.
+#[inline(never)]
 pub(crate) fn declare_types(
     names: &Names,
     state: &mut CheckingState,

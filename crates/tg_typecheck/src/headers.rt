@@ -19,6 +19,7 @@ use tg_base::{Memory, Names};
 use tg_syntax::{FunDec, FunDecs, Ident, Param};
 
 /// The functions of a group have different names.
+#[inline(never)]
 pub(crate) fn all_fresh(state: &CheckingState, functions: &FunDecs) -> Result<(), TypeFault>
     ensures { (n : Noted) → AnswersCheck result (λ _. tt) n
         (groups.no_repeats T17 [] (groups.function_names (plain_functions functions.now)) n) }
@@ -31,6 +32,7 @@ pub(crate) fn all_fresh(state: &CheckingState, functions: &FunDecs) -> Result<()
 }
 
 /// The signatures of a group of functions.
+#[inline(never)]
 pub(crate) fn headers(
     names: &Names,
     state: &CheckingState,
@@ -85,6 +87,7 @@ fn param_types(names: &Names, state: &CheckingState, params: &[Param]) -> Result
 }
 
 /// Opens the functions of a group.
+#[inline(never)]
 pub(crate) fn open_functions(
     state: &mut CheckingState,
     functions: &FunDecs,

@@ -38,6 +38,7 @@ pub(crate) fn type_named(names: &Names, state: &CheckingState, x: Ident) -> Resu
 }
 
 /// A variable that is used.
+#[inline(never)]
 pub(crate) fn variable(names: &Names, state: &mut CheckingState, x: Ident) -> Result<Ty, TypeFault>
     requires { x.name.0 < length names.now }
     ensures given { (in_loop : Bool) → MovesOn names.now state.old state.new in_loop result (λ t. t)
@@ -60,6 +61,7 @@ pub(crate) fn variable(names: &Names, state: &mut CheckingState, x: Ident) -> Re
 }
 
 /// A function that is called.
+#[inline(never)]
 pub(crate) fn function(
     names: &Names,
     state: &mut CheckingState,

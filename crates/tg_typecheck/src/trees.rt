@@ -52,9 +52,34 @@ use crate::states::CheckingState;
 use tg_base::{Memory, Names};
 use tg_syntax::{Dec, Decs, Exp, Exps, FunDec, FunDecs, Ident, Init, Inits, Kind, Op, Var};
 
-/// The type of an expression.
+/// The type of an expression. Thousands of operators may stand in one another's left sides, so a
+/// level of them leaves little on the stack: all else is typed in a function of its own.
 #[cycle(typing)]
+#[inline(never)]
 pub(crate) fn typed(
+    names: &Names,
+    state: &mut CheckingState,
+    e: &Exp,
+    in_loop: bool,
+) -> Result<Ty, TypeFault>
+    requires { NamesWithin (length names.now) (plain e.now) }
+    ensures given { MovesOn names.now state.old state.new in_loop result (λ t. t)
+        (typing.typed (plain e.now)) }
+    ensures kept { OnOk result (Keeps state.old state.new) }
+{
+    match &e.kind {
+        Kind::Binary(op, at, a, b) => {
+            let left = left_operand(names, state, *op, *at, a, in_loop)?;
+            right_operand(names, state, *op, left, b, e.span.from, in_loop)
+        }
+        _ => typed_whole(names, state, e, in_loop),
+    }
+}
+
+// The type of an expression, whatever it is.
+#[cycle(typing)]
+#[inline(never)]
+fn typed_whole(
     names: &Names,
     state: &mut CheckingState,
     e: &Exp,
@@ -152,6 +177,7 @@ fn fitting(
 
 // An int.
 #[cycle(typing)]
+#[inline(never)]
 fn fitting_int(
     names: &Names,
     state: &mut CheckingState,
@@ -184,6 +210,7 @@ fn without_value(
 }
 
 #[cycle(typing)]
+#[inline(never)]
 fn typed_place(
     names: &Names,
     state: &mut CheckingState,
@@ -197,10 +224,7 @@ fn typed_place(
 {
     match place {
         Var::Simple(x) => variable(names, state, *x),
-        Var::Field(of, field) => {
-            let ty = typed_place(names, state, of, in_loop)?;
-            selected(state, ty, start_of(of), *field)
-        }
+        Var::Field(of, field) => type_field(names, state, of, *field, in_loop),
         Var::Index(of, index) => {
             let ty = typed_place(names, state, of, in_loop)?;
             let element = element_of(state, ty, start_of(of))?;
@@ -208,6 +232,25 @@ fn typed_place(
             Ok(element)
         }
     }
+}
+
+// A field of what stands before it.
+#[cycle(typing)]
+#[inline(never)]
+fn type_field(
+    names: &Names,
+    state: &mut CheckingState,
+    of: &Var,
+    field: Ident,
+    in_loop: bool,
+) -> Result<Ty, TypeFault>
+    requires { PlaceWithin (length names.now) (plain_lvalue of.now) }
+    ensures given { MovesOn names.now state.old state.new in_loop result (λ t. t)
+        (typing.typed_place (tree.Field (plain_lvalue of.now) field)) }
+    ensures kept { OnOk result (Keeps state.old state.new) }
+{
+    let ty = typed_place(names, state, of, in_loop)?;
+    selected(state, ty, start_of(of), field)
 }
 
 // The first byte of an l-value.
@@ -221,6 +264,7 @@ fn start_of(place: &Var) -> u32
 }
 
 #[cycle(typing)]
+#[inline(never)]
 fn called(
     names: &Names,
     state: &mut CheckingState,
@@ -272,6 +316,7 @@ fn typed_all(
 }
 
 #[cycle(typing)]
+#[inline(never)]
 fn negated(
     names: &Names,
     state: &mut CheckingState,
@@ -289,6 +334,7 @@ fn negated(
 
 // What stands before an operator.
 #[cycle(typing)]
+#[inline(never)]
 fn left_operand(
     names: &Names,
     state: &mut CheckingState,
@@ -308,6 +354,7 @@ fn left_operand(
 
 // What stands after an operator, whose left side is of a type: the type of the whole.
 #[cycle(typing)]
+#[inline(never)]
 fn right_operand(
     names: &Names,
     state: &mut CheckingState,
@@ -329,6 +376,7 @@ fn right_operand(
 
 // A value that fits into something: the type of the whole.
 #[cycle(typing)]
+#[inline(never)]
 fn filled(
     names: &Names,
     state: &mut CheckingState,
@@ -348,6 +396,7 @@ fn filled(
 
 // The second way of a choice, whose first has a type.
 #[cycle(typing)]
+#[inline(never)]
 fn joined(
     names: &Names,
     state: &mut CheckingState,
@@ -367,6 +416,7 @@ fn joined(
 
 // What has no value, and neither has the whole.
 #[cycle(typing)]
+#[inline(never)]
 fn idle(names: &Names, state: &mut CheckingState, e: &Exp, in_loop: bool) -> Result<Ty, TypeFault>
     requires { NamesWithin (length names.now) (plain e.now) }
     ensures given { MovesOn names.now state.old state.new in_loop result (λ t. t)
@@ -379,6 +429,7 @@ fn idle(names: &Names, state: &mut CheckingState, e: &Exp, in_loop: bool) -> Res
 
 // The body of a loop that counts.
 #[cycle(typing)]
+#[inline(never)]
 fn counted(
     names: &Names,
     state: &mut CheckingState,
@@ -399,6 +450,7 @@ fn counted(
 }
 
 #[cycle(typing)]
+#[inline(never)]
 fn made_record(
     names: &Names,
     state: &mut CheckingState,
@@ -444,6 +496,7 @@ fn typed_fields(
 }
 
 // A loop's variable isn't assigned.
+#[inline(never)]
 fn assignable(names: &Names, state: &CheckingState, place: &Var) -> Result<(), TypeFault>
     requires { PlaceWithin (length names.now) (plain_lvalue place.now) }
     ensures { Judges names.now state.now result (λ _. tt)
@@ -462,6 +515,7 @@ fn assignable(names: &Names, state: &CheckingState, place: &Var) -> Result<(), T
 
 // Expressions in order: the type of the last one.
 #[cycle(typing)]
+#[inline(never)]
 fn typed_last(
     names: &Names,
     state: &mut CheckingState,
@@ -483,6 +537,7 @@ fn typed_last(
 
 // The declarations of a `let`, which the rest of it sees.
 #[cycle(typing)]
+#[inline(never)]
 fn declared(
     names: &Names,
     state: &mut CheckingState,
@@ -525,6 +580,7 @@ fn declaration(
 
 // A variable that is declared without a type.
 #[cycle(typing)]
+#[inline(never)]
 fn own_variable(
     names: &Names,
     state: &mut CheckingState,
@@ -545,6 +601,7 @@ fn own_variable(
 
 // A variable that is declared with its type.
 #[cycle(typing)]
+#[inline(never)]
 fn typed_variable(
     names: &Names,
     state: &mut CheckingState,
@@ -589,6 +646,7 @@ fn open_variable(state: &mut CheckingState, x: Ident, ty: Ty) -> Result<(), Memo
 
 // Consecutive functions, whose names the rest of the scope sees.
 #[cycle(typing)]
+#[inline(never)]
 fn declare_functions(
     names: &Names,
     state: &mut CheckingState,

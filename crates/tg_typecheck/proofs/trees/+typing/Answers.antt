@@ -150,40 +150,40 @@ typed_all-returns-clause-given t c =
     (plain_exps-items c.args.arguments.now ∙ ap exps_of (sym c.deref-e-items.ensures.value)) ∙ arguments_all c.loop-e.invariant.onward
     (omega (arith, c.loop-e.auto.e-index-end, c.loop-e-test.false)) scope h
 
-pub typed-returns-in-Nil-clause-given : goal.typed-returns-in-Nil-clause-given
-typed-returns-in-Nil-clause-given t c =
+pub typed_whole-returns-in-Nil-clause-given : goal.typed_whole-returns-in-Nil-clause-given
+typed_whole-returns-in-Nil-clause-given t c =
     λ scope h. ap (λ k. typing.typed (plain_kind k c.args.e.now.span) scope (noted_of c.args.state.now)) c.in-Nil.is ∙ given_is c.nil.ensures
 
-pub typed-returns-in-Int-clause-given : goal.typed-returns-in-Int-clause-given
-typed-returns-in-Int-clause-given t c =
+pub typed_whole-returns-in-Int-clause-given : goal.typed_whole-returns-in-Int-clause-given
+typed_whole-returns-in-Int-clause-given t c =
     λ scope h. ap (λ k. typing.typed (plain_kind k c.args.e.now.span) scope (noted_of c.args.state.now)) c.in-Int.is ∙ given_is c.int.ensures
 
-pub typed-returns-in-Text-clause-given : goal.typed-returns-in-Text-clause-given
-typed-returns-in-Text-clause-given t c =
+pub typed_whole-returns-in-Text-clause-given : goal.typed_whole-returns-in-Text-clause-given
+typed_whole-returns-in-Text-clause-given t c =
     λ scope h. ap (λ k. typing.typed (plain_kind k c.args.e.now.span) scope (noted_of c.args.state.now)) c.in-Text.is ∙ given_is c.text.ensures
 
-pub typed-returns-in-Break-clause-given : goal.typed-returns-in-Break-clause-given
-typed-returns-in-Break-clause-given t c =
+pub typed_whole-returns-in-Break-clause-given : goal.typed_whole-returns-in-Break-clause-given
+typed_whole-returns-in-Break-clause-given t c =
     λ scope h. carry c.broken.result _ _ (ap (λ k. typing.typed (plain_kind k c.args.e.now.span) scope (noted_of c.args.state.now)) c.in-Break.is)
     (c.broken.ensures scope (ap (λ s. s.in_loop) h) (noted_of c.args.state.now))
 
-pub typed-returns-in-Read-clause-given : goal.typed-returns-in-Read-clause-given
-typed-returns-in-Read-clause-given t c =
+pub typed_whole-returns-in-Read-clause-given : goal.typed_whole-returns-in-Read-clause-given
+typed_whole-returns-in-Read-clause-given t c =
     λ scope h. carry c.typed_place.result _ _ (ap (λ k. typing.typed (plain_kind k c.args.e.now.span) scope (noted_of c.args.state.now)) c.in-Read.is)
     (c.typed_place.ensures.given scope h)
 
-pub typed-returns-in-Call-clause-given : goal.typed-returns-in-Call-clause-given
-typed-returns-in-Call-clause-given t c =
+pub typed_whole-returns-in-Call-clause-given : goal.typed_whole-returns-in-Call-clause-given
+typed_whole-returns-in-Call-clause-given t c =
     λ scope h. carry c.called.result _ _ (ap (λ k. typing.typed (plain_kind k c.args.e.now.span) scope (noted_of c.args.state.now)) c.in-Call.is)
     (c.called.ensures.given scope h)
 
-pub typed-returns-in-Make-clause-given : goal.typed-returns-in-Make-clause-given
-typed-returns-in-Make-clause-given t c =
+pub typed_whole-returns-in-Make-clause-given : goal.typed_whole-returns-in-Make-clause-given
+typed_whole-returns-in-Make-clause-given t c =
     λ scope h. carry c.made_record.result _ _ (ap (λ k. typing.typed (plain_kind k c.args.e.now.span) scope (noted_of c.args.state.now)) c.in-Make.is)
     (c.made_record.ensures.given scope h)
 
-pub typed-returns-in-Seq-clause-given : goal.typed-returns-in-Seq-clause-given
-typed-returns-in-Seq-clause-given t c =
+pub typed_whole-returns-in-Seq-clause-given : goal.typed_whole-returns-in-Seq-clause-given
+typed_whole-returns-in-Seq-clause-given t c =
     λ scope h. carry c.typed_last-in-Seq.result _ _ (ap (λ k. typing.typed (plain_kind k c.args.e.now.span) scope (noted_of c.args.state.now)) c.in-Seq.is)
     (c.typed_last-in-Seq.ensures.given scope h)
 
@@ -294,23 +294,9 @@ typed_place-returns-in-Simple-clause-given t c =
     λ scope h. carry c.variable.result _ _ (ap (λ v. typing.typed_place (plain_lvalue v) scope (noted_of c.args.state.now)) c.in-Simple.is)
     (c.variable.ensures.given c.args.in_loop scope h)
 
-pub typed_place-returns-in_err-ty-in-Field-clause-given : goal.typed_place-returns-in_err-ty-in-Field-clause-given
-typed_place-returns-in_err-ty-in-Field-clause-given t c =
-    λ scope h. ended _ _ _ c.from_residual.ensures (last_fails
-    (ap (λ v. typing.typed_place (plain_lvalue v) scope (noted_of c.args.state.now)) c.in-Field.is ∙ ap
-    (λ v. typing.typed_place (tree.Field (plain_lvalue v) c.in-Field.field) scope (noted_of c.args.state.now)) (sym c.deref.ensures))
-    (fails_first _ _ (c.in_err-ty-in-Field.ensures.given scope h)))
-
-pub typed_place-returns-in_ok-ty-in-Field-clause-given : goal.typed_place-returns-in_ok-ty-in-Field-clause-given
-typed_place-returns-in_ok-ty-in-Field-clause-given t c =
-    λ scope h. carry c.selected.result _ _ (ap (λ v. typing.typed_place (plain_lvalue v) scope (noted_of c.args.state.now)) c.in-Field.is ∙ ap
-    (λ v. typing.typed_place (tree.Field (plain_lvalue v) c.in-Field.field) scope (noted_of c.args.state.now)) (sym c.deref.ensures) ∙ step _ _
-    (c.in_ok-ty-in-Field.ensures.given scope h) (ap (λ at. selected_of c.in_ok-ty-in-Field.ty at c.in-Field.field (noted_of c.typed_place.new.state))
-    (ap (λ v. typing.place_start (plain_lvalue v)) (c.deref.ensures ∙ sym c.deref-in-Field.ensures) ∙ sym c.start_of.ensures))) c.selected.ensures.given
-
 pub typed_place-returns-in_err-ty-in-Index-clause-given : goal.typed_place-returns-in_err-ty-in-Index-clause-given
 typed_place-returns-in_err-ty-in-Index-clause-given t c =
-    λ scope h. ended _ _ _ c.from_residual-in_err-ty-in-Index.ensures
+    λ scope h. ended _ _ _ c.from_residual.ensures
     (last_fails (ap (λ v. typing.typed_place (plain_lvalue v) scope (noted_of c.args.state.now)) c.in-Index.is ∙ ap
     (λ v. typing.typed_place (tree.Index (plain_lvalue v) (plain c.in-Index.index.value)) scope (noted_of c.args.state.now)) (sym c.deref-in-Index.ensures))
     (fails_first _ _ (c.in_err-ty-in-Index.ensures.given scope h)))
@@ -321,9 +307,9 @@ typed_place-returns-in_err-element-in-Index-clause-given t c =
     (last_fails (ap (λ v. typing.typed_place (plain_lvalue v) scope (noted_of c.args.state.now)) c.in-Index.is ∙ ap
     (λ v. typing.typed_place (tree.Index (plain_lvalue v) (plain c.in-Index.index.value)) scope (noted_of c.args.state.now)) (sym c.deref-in-Index.ensures))
     (fails_then _ _ (c.in_ok-ty-in-Index.ensures.given scope h)
-    (fails_first _ _ (last_fails (ap (λ at. typing.element_of c.in_ok-ty-in-Index.ty at (noted_of c.typed_place-in-Index.new.state))
+    (fails_first _ _ (last_fails (ap (λ at. typing.element_of c.in_ok-ty-in-Index.ty at (noted_of c.typed_place.new.state))
     (ap (λ v. typing.place_start (plain_lvalue v)) (c.deref-in-Index.ensures ∙ sym c.deref-in-Index-2.ensures)
-    ∙ sym c.start_of-in-Index.ensures)) c.in_err-element-in-Index.ensures))))
+    ∙ sym c.start_of.ensures)) c.in_err-element-in-Index.ensures))))
 
 pub typed_place-returns-in_err-fitting_int-in-Index-clause-given : goal.typed_place-returns-in_err-fitting_int-in-Index-clause-given
 typed_place-returns-in_err-fitting_int-in-Index-clause-given t c =
@@ -332,8 +318,8 @@ typed_place-returns-in_err-fitting_int-in-Index-clause-given t c =
     (λ v. typing.typed_place (tree.Index (plain_lvalue v) (plain c.in-Index.index.value)) scope (noted_of c.args.state.now)) (sym c.deref-in-Index.ensures)
     ∙ ap (λ e. typing.typed_place (tree.Index (plain_lvalue c.deref-in-Index.result.now) (plain e)) scope (noted_of c.args.state.now))
     (sym c.deref-in-Index-3.ensures)) (fails_then _ _ (c.in_ok-ty-in-Index.ensures.given scope h)
-    (fails_then _ _ (ap (λ at. typing.element_of c.in_ok-ty-in-Index.ty at (noted_of c.typed_place-in-Index.new.state))
-    (ap (λ v. typing.place_start (plain_lvalue v)) (c.deref-in-Index.ensures ∙ sym c.deref-in-Index-2.ensures) ∙ sym c.start_of-in-Index.ensures)
+    (fails_then _ _ (ap (λ at. typing.element_of c.in_ok-ty-in-Index.ty at (noted_of c.typed_place.new.state))
+    (ap (λ v. typing.place_start (plain_lvalue v)) (c.deref-in-Index.ensures ∙ sym c.deref-in-Index-2.ensures) ∙ sym c.start_of.ensures)
     ∙ c.in_ok-element-in-Index.ensures) (two_fail_first _ _ _ _
     (c.in_err-fitting_int-in-Index.ensures.given scope (same_scope c.args.names.now c.in_ok-ty-in-Index.ensures.kept h))))))
 
@@ -343,8 +329,8 @@ typed_place-returns-in_ok-fitting_int-in-Index-clause-given t c =
     (λ v. typing.typed_place (tree.Index (plain_lvalue v) (plain c.in-Index.index.value)) scope (noted_of c.args.state.now)) (sym c.deref-in-Index.ensures)
     ∙ ap (λ e. typing.typed_place (tree.Index (plain_lvalue c.deref-in-Index.result.now) (plain e)) scope (noted_of c.args.state.now))
     (sym c.deref-in-Index-3.ensures) ∙ step _ _ (c.in_ok-ty-in-Index.ensures.given scope h)
-    (step _ _ (ap (λ at. typing.element_of c.in_ok-ty-in-Index.ty at (noted_of c.typed_place-in-Index.new.state))
-    (ap (λ v. typing.place_start (plain_lvalue v)) (c.deref-in-Index.ensures ∙ sym c.deref-in-Index-2.ensures) ∙ sym c.start_of-in-Index.ensures)
+    (step _ _ (ap (λ at. typing.element_of c.in_ok-ty-in-Index.ty at (noted_of c.typed_place.new.state))
+    (ap (λ v. typing.place_start (plain_lvalue v)) (c.deref-in-Index.ensures ∙ sym c.deref-in-Index-2.ensures) ∙ sym c.start_of.ensures)
     ∙ c.in_ok-element-in-Index.ensures) (two_steps _ _ _ _
     (c.in_ok-fitting_int-in-Index.ensures.given scope (same_scope c.args.names.now c.in_ok-ty-in-Index.ensures.kept h)) given))
 
@@ -581,15 +567,15 @@ typed_fields-returns-in_err-fitting-clause-given t c =
     (index_at c.args.fields.now c.index-fields-at.is c.loop-init.invariant.at_index) c.in_err-fitting.ensures.given scope
     h))
 
-pub typed-returns-in_err-left-in-Binary-clause-given : goal.typed-returns-in_err-left-in-Binary-clause-given
-typed-returns-in_err-left-in-Binary-clause-given t c =
+pub typed_whole-returns-in_err-left-in-Binary-clause-given : goal.typed_whole-returns-in_err-left-in-Binary-clause-given
+typed_whole-returns-in_err-left-in-Binary-clause-given t c =
     λ scope h. ended _ _ _ c.from_residual.ensures (last_fails
     (ap (λ k. typing.typed (plain_kind k c.args.e.now.span) scope (noted_of c.args.state.now)) c.in-Binary.is ∙ ap
     (λ x. typing.typed (tree.Binary c.args.e.now.span c.in-Binary.op c.in-Binary.at (plain x) (plain c.in-Binary.b.value)) scope (noted_of c.args.state.now))
     (sym c.deref-in-Binary.ensures)) (two_fail_first _ _ _ _ (c.in_err-left-in-Binary.ensures.given scope h)))
 
-pub typed-returns-in_ok-left-in-Binary-clause-given : goal.typed-returns-in_ok-left-in-Binary-clause-given
-typed-returns-in_ok-left-in-Binary-clause-given t c =
+pub typed_whole-returns-in_ok-left-in-Binary-clause-given : goal.typed_whole-returns-in_ok-left-in-Binary-clause-given
+typed_whole-returns-in_ok-left-in-Binary-clause-given t c =
     λ scope h. carry c.right_operand.result _ _ (ap (λ k. typing.typed (plain_kind k c.args.e.now.span) scope (noted_of c.args.state.now)) c.in-Binary.is ∙ ap
     (λ x. typing.typed (tree.Binary c.args.e.now.span c.in-Binary.op c.in-Binary.at (plain x) (plain c.in-Binary.b.value)) scope (noted_of c.args.state.now))
     (sym c.deref-in-Binary.ensures) ∙ ap (λ x. typing.typed
@@ -597,28 +583,28 @@ typed-returns-in_ok-left-in-Binary-clause-given t c =
     (sym c.deref-in-Binary-2.ensures) ∙ two_steps _ _ _ _ (c.in_ok-left-in-Binary.ensures.given scope h) refl)
     (c.right_operand.ensures.given scope (same_scope c.args.names.now c.in_ok-left-in-Binary.ensures.kept h))
 
-pub typed-returns-in_err-ty-in-Fill-clause-given : goal.typed-returns-in_err-ty-in-Fill-clause-given
-typed-returns-in_err-ty-in-Fill-clause-given t c =
+pub typed_whole-returns-in_err-ty-in-Fill-clause-given : goal.typed_whole-returns-in_err-ty-in-Fill-clause-given
+typed_whole-returns-in_err-ty-in-Fill-clause-given t c =
     λ scope h. ended _ _ _ c.from_residual-in_err-ty-in-Fill.ensures
     (last_fails (ap (λ k. typing.typed (plain_kind k c.args.e.now.span) scope (noted_of c.args.state.now)) c.in-Fill.is)
     (fails_first _ _ (c.in_err-ty-in-Fill.ensures scope c.args.in_loop h _)))
 
-pub typed-returns-in_err-element-in-Fill-clause-given : goal.typed-returns-in_err-element-in-Fill-clause-given
-typed-returns-in_err-element-in-Fill-clause-given t c =
+pub typed_whole-returns-in_err-element-in-Fill-clause-given : goal.typed_whole-returns-in_err-element-in-Fill-clause-given
+typed_whole-returns-in_err-element-in-Fill-clause-given t c =
     λ scope h. ended _ _ _ c.from_residual-in_err-element-in-Fill.ensures
     (last_fails (ap (λ k. typing.typed (plain_kind k c.args.e.now.span) scope (noted_of c.args.state.now)) c.in-Fill.is)
     (fails_then _ _ (c.in_ok-ty-in-Fill.ensures scope c.args.in_loop h _) (fails_first _ _ c.in_err-element-in-Fill.ensures)))
 
-pub typed-returns-in_err-fitting_int-in-Fill-clause-given : goal.typed-returns-in_err-fitting_int-in-Fill-clause-given
-typed-returns-in_err-fitting_int-in-Fill-clause-given t c =
+pub typed_whole-returns-in_err-fitting_int-in-Fill-clause-given : goal.typed_whole-returns-in_err-fitting_int-in-Fill-clause-given
+typed_whole-returns-in_err-fitting_int-in-Fill-clause-given t c =
     λ scope h. ended _ _ _ c.from_residual-in_err-fitting_int-in-Fill.ensures
     (last_fails (ap (λ k. typing.typed (plain_kind k c.args.e.now.span) scope (noted_of c.args.state.now)) c.in-Fill.is ∙ ap
     (λ x. typing.typed (tree.Fill c.args.e.now.span c.in-Fill.x (plain x) (plain c.in-Fill.value.value)) scope (noted_of c.args.state.now))
     (sym c.deref-in-Fill.ensures)) (fails_then _ _ (c.in_ok-ty-in-Fill.ensures scope c.args.in_loop h _)
     (fails_then _ _ c.in_ok-element-in-Fill.ensures (two_fail_first _ _ _ _ (c.in_err-fitting_int-in-Fill.ensures.given scope h)))))
 
-pub typed-returns-in_ok-fitting_int-in-Fill-clause-given : goal.typed-returns-in_ok-fitting_int-in-Fill-clause-given
-typed-returns-in_ok-fitting_int-in-Fill-clause-given t c =
+pub typed_whole-returns-in_ok-fitting_int-in-Fill-clause-given : goal.typed_whole-returns-in_ok-fitting_int-in-Fill-clause-given
+typed_whole-returns-in_ok-fitting_int-in-Fill-clause-given t c =
     λ scope h. carry c.filled.result _ _ (ap (λ k. typing.typed (plain_kind k c.args.e.now.span) scope (noted_of c.args.state.now)) c.in-Fill.is ∙ ap
     (λ x. typing.typed (tree.Fill c.args.e.now.span c.in-Fill.x (plain x) (plain c.in-Fill.value.value)) scope (noted_of c.args.state.now))
     (sym c.deref-in-Fill.ensures) ∙ ap (λ x. typing.typed (tree.Fill c.args.e.now.span c.in-Fill.x (plain c.deref-in-Fill.result.now) (plain x)) scope
@@ -626,21 +612,21 @@ typed-returns-in_ok-fitting_int-in-Fill-clause-given t c =
     (step _ _ c.in_ok-element-in-Fill.ensures (two_steps _ _ _ _ (c.in_ok-fitting_int-in-Fill.ensures.given scope h) refl)))
     (c.filled.ensures.given scope (same_scope c.args.names.now c.in_ok-fitting_int-in-Fill.ensures.kept h))
 
-pub typed-returns-in_err-ty-in-Assign-clause-given : goal.typed-returns-in_err-ty-in-Assign-clause-given
-typed-returns-in_err-ty-in-Assign-clause-given t c =
+pub typed_whole-returns-in_err-ty-in-Assign-clause-given : goal.typed_whole-returns-in_err-ty-in-Assign-clause-given
+typed_whole-returns-in_err-ty-in-Assign-clause-given t c =
     λ scope h. ended _ _ _ c.from_residual-in_err-ty-in-Assign.ensures
     (last_fails (ap (λ k. typing.typed (plain_kind k c.args.e.now.span) scope (noted_of c.args.state.now)) c.in-Assign.is)
     (fails_first _ _ (c.in_err-ty-in-Assign.ensures.given scope h)))
 
-pub typed-returns-in_err-assignable-in-Assign-clause-given : goal.typed-returns-in_err-assignable-in-Assign-clause-given
-typed-returns-in_err-assignable-in-Assign-clause-given t c =
+pub typed_whole-returns-in_err-assignable-in-Assign-clause-given : goal.typed_whole-returns-in_err-assignable-in-Assign-clause-given
+typed_whole-returns-in_err-assignable-in-Assign-clause-given t c =
     λ scope h. ended _ _ _ c.from_residual-in_err-assignable-in-Assign.ensures
     (last_fails (ap (λ k. typing.typed (plain_kind k c.args.e.now.span) scope (noted_of c.args.state.now)) c.in-Assign.is)
     (fails_then _ _ (c.in_ok-ty-in-Assign.ensures.given scope h)
     (fails_first _ _ (c.in_err-assignable-in-Assign.ensures scope c.args.in_loop (same_scope c.args.names.now c.in_ok-ty-in-Assign.ensures.kept h) _))))
 
-pub typed-returns-in_ok-assignable-in-Assign-clause-given : goal.typed-returns-in_ok-assignable-in-Assign-clause-given
-typed-returns-in_ok-assignable-in-Assign-clause-given t c =
+pub typed_whole-returns-in_ok-assignable-in-Assign-clause-given : goal.typed_whole-returns-in_ok-assignable-in-Assign-clause-given
+typed_whole-returns-in_ok-assignable-in-Assign-clause-given t c =
     λ scope h. carry c.filled-in-Assign.result _ _ (ap (λ k. typing.typed (plain_kind k c.args.e.now.span) scope (noted_of c.args.state.now)) c.in-Assign.is
     ∙ ap (λ x. typing.typed (tree.Assign c.args.e.now.span (plain_lvalue c.in-Assign.place) (plain x)) scope (noted_of c.args.state.now))
     (sym c.deref-in-Assign.ensures) ∙ (step _ _ (c.in_ok-ty-in-Assign.ensures.given scope h)
@@ -648,30 +634,30 @@ typed-returns-in_ok-assignable-in-Assign-clause-given t c =
     (λ w. filled w c.in_ok-ty-in-Assign.ty (plain c.deref-in-Assign.result.now) scope (noted_of c.typed_place-in-Assign.new.state)) (sym c.nothing.ensures)))
     (c.filled-in-Assign.ensures.given scope (same_scope c.args.names.now c.in_ok-ty-in-Assign.ensures.kept h))
 
-pub typed-returns-in_err-fitting_int-in-While-clause-given : goal.typed-returns-in_err-fitting_int-in-While-clause-given
-typed-returns-in_err-fitting_int-in-While-clause-given t c =
+pub typed_whole-returns-in_err-fitting_int-in-While-clause-given : goal.typed_whole-returns-in_err-fitting_int-in-While-clause-given
+typed_whole-returns-in_err-fitting_int-in-While-clause-given t c =
     λ scope h. ended _ _ _ c.from_residual-in_err-fitting_int-in-While.ensures
     (last_fails (ap (λ k. typing.typed (plain_kind k c.args.e.now.span) scope (noted_of c.args.state.now)) c.in-While.is ∙ ap
     (λ x. typing.typed (tree.While c.args.e.now.span (plain x) (plain c.in-While.body.value)) scope (noted_of c.args.state.now))
     (sym c.deref-in-While.ensures)) (two_fail_first _ _ _ _ (c.in_err-fitting_int-in-While.ensures.given scope h)))
 
-pub typed-returns-in_ok-fitting_int-in-While-clause-given : goal.typed-returns-in_ok-fitting_int-in-While-clause-given
-typed-returns-in_ok-fitting_int-in-While-clause-given t c =
+pub typed_whole-returns-in_ok-fitting_int-in-While-clause-given : goal.typed_whole-returns-in_ok-fitting_int-in-While-clause-given
+typed_whole-returns-in_ok-fitting_int-in-While-clause-given t c =
     λ scope h. carry c.idle-in-While.result _ _ (ap (λ k. typing.typed (plain_kind k c.args.e.now.span) scope (noted_of c.args.state.now)) c.in-While.is ∙ ap
     (λ x. typing.typed (tree.While c.args.e.now.span (plain x) (plain c.in-While.body.value)) scope (noted_of c.args.state.now))
     (sym c.deref-in-While.ensures) ∙ ap (λ x. typing.typed (tree.While c.args.e.now.span (plain c.deref-in-While.result.now) (plain x)) scope
     (noted_of c.args.state.now)) (sym c.deref-in-While-2.ensures) ∙ two_steps _ _ _ _ (c.in_ok-fitting_int-in-While.ensures.given scope h) refl)
     (c.idle-in-While.ensures.given _ (ap in_a_loop (same_scope c.args.names.now c.in_ok-fitting_int-in-While.ensures.kept h)))
 
-pub typed-returns-in_err-fitting_int-in-For-clause-given : goal.typed-returns-in_err-fitting_int-in-For-clause-given
-typed-returns-in_err-fitting_int-in-For-clause-given t c =
+pub typed_whole-returns-in_err-fitting_int-in-For-clause-given : goal.typed_whole-returns-in_err-fitting_int-in-For-clause-given
+typed_whole-returns-in_err-fitting_int-in-For-clause-given t c =
     λ scope h. ended _ _ _ c.from_residual-in_err-fitting_int-in-For.ensures
     (last_fails (ap (λ k. typing.typed (plain_kind k c.args.e.now.span) scope (noted_of c.args.state.now)) c.in-For.is ∙ ap
     (λ x. typing.typed (tree.For c.args.e.now.span c.in-For.x (plain x) (plain c.in-For.high.value) (plain c.in-For.body.value)) scope
     (noted_of c.args.state.now)) (sym c.deref-in-For.ensures)) (two_fail_first _ _ _ _ (c.in_err-fitting_int-in-For.ensures.given scope h)))
 
-pub typed-returns-in_err-fitting_int-in-For-2-clause-given : goal.typed-returns-in_err-fitting_int-in-For-2-clause-given
-typed-returns-in_err-fitting_int-in-For-2-clause-given t c =
+pub typed_whole-returns-in_err-fitting_int-in-For-2-clause-given : goal.typed_whole-returns-in_err-fitting_int-in-For-2-clause-given
+typed_whole-returns-in_err-fitting_int-in-For-2-clause-given t c =
     λ scope h. ended _ _ _ c.from_residual-in_err-fitting_int-in-For-2.ensures
     (last_fails (ap (λ k. typing.typed (plain_kind k c.args.e.now.span) scope (noted_of c.args.state.now)) c.in-For.is ∙ ap
     (λ x. typing.typed (tree.For c.args.e.now.span c.in-For.x (plain x) (plain c.in-For.high.value) (plain c.in-For.body.value)) scope
@@ -681,8 +667,8 @@ typed-returns-in_err-fitting_int-in-For-2-clause-given t c =
     (two_fail_then _ _ _ _ (c.in_ok-fitting_int-in-For.ensures.given scope h)
     (two_fail_first _ _ _ _ (c.in_err-fitting_int-in-For-2.ensures.given scope (same_scope c.args.names.now c.in_ok-fitting_int-in-For.ensures.kept h)))))
 
-pub typed-returns-in_ok-fitting_int-in-For-2-clause-given : goal.typed-returns-in_ok-fitting_int-in-For-2-clause-given
-typed-returns-in_ok-fitting_int-in-For-2-clause-given t c =
+pub typed_whole-returns-in_ok-fitting_int-in-For-2-clause-given : goal.typed_whole-returns-in_ok-fitting_int-in-For-2-clause-given
+typed_whole-returns-in_ok-fitting_int-in-For-2-clause-given t c =
     λ scope h. carry c.counted.result _ _ (ap (λ k. typing.typed (plain_kind k c.args.e.now.span) scope (noted_of c.args.state.now)) c.in-For.is ∙ ap
     (λ x. typing.typed (tree.For c.args.e.now.span c.in-For.x (plain x) (plain c.in-For.high.value) (plain c.in-For.body.value)) scope
     (noted_of c.args.state.now)) (sym c.deref-in-For.ensures) ∙ ap
@@ -694,28 +680,28 @@ typed-returns-in_ok-fitting_int-in-For-2-clause-given t c =
     (c.counted.ensures.given scope (same_scope c.args.names.now c.in_ok-fitting_int-in-For-2.ensures.kept
     (same_scope c.args.names.now c.in_ok-fitting_int-in-For.ensures.kept h)))
 
-pub typed-returns-in_err-declared-in-Let-clause-given : goal.typed-returns-in_err-declared-in-Let-clause-given
-typed-returns-in_err-declared-in-Let-clause-given t c =
+pub typed_whole-returns-in_err-declared-in-Let-clause-given : goal.typed_whole-returns-in_err-declared-in-Let-clause-given
+typed_whole-returns-in_err-declared-in-Let-clause-given t c =
     λ scope h. ended _ _ _ c.from_residual-in_err-declared-in-Let.ensures
     (last_fails (ap (λ k. typing.typed (plain_kind k c.args.e.now.span) scope (noted_of c.args.state.now)) c.in-Let.is ∙ ap
     (λ e. typing.typed e scope (noted_of c.args.state.now)) (plain_kind-Let c.in-Let.decs c.in-Let.body c.args.e.now.span))
     (fails_first _ _ (c.in_err-declared-in-Let.ensures.given scope h)))
 
-pub typed-returns-in_err-ty-in-Let-clause-given : goal.typed-returns-in_err-ty-in-Let-clause-given
-typed-returns-in_err-ty-in-Let-clause-given t c =
+pub typed_whole-returns-in_err-ty-in-Let-clause-given : goal.typed_whole-returns-in_err-ty-in-Let-clause-given
+typed_whole-returns-in_err-ty-in-Let-clause-given t c =
     λ scope h. ended _ _ _ c.from_residual-in_err-ty-in-Let.ensures
     (last_fails (ap (λ k. typing.typed (plain_kind k c.args.e.now.span) scope (noted_of c.args.state.now)) c.in-Let.is ∙ ap
     (λ e. typing.typed e scope (noted_of c.args.state.now)) (plain_kind-Let c.in-Let.decs c.in-Let.body c.args.e.now.span))
     (fails_then _ _ (c.in_ok-declared-in-Let.ensures.given scope h) (c.in_err-ty-in-Let.ensures.given _ refl)))
 
-pub typed-returns-in_ok-ty-in-Let-clause-given : goal.typed-returns-in_ok-ty-in-Let-clause-given
-typed-returns-in_ok-ty-in-Let-clause-given t c =
+pub typed_whole-returns-in_ok-ty-in-Let-clause-given : goal.typed_whole-returns-in_ok-ty-in-Let-clause-given
+typed_whole-returns-in_ok-ty-in-Let-clause-given t c =
     λ scope h. ap (λ k. typing.typed (plain_kind k c.args.e.now.span) scope (noted_of c.args.state.now)) c.in-Let.is ∙ ap
     (λ e. typing.typed e scope (noted_of c.args.state.now)) (plain_kind-Let c.in-Let.decs c.in-Let.body c.args.e.now.span) ∙ step _ _
     (c.in_ok-declared-in-Let.ensures.given scope h) (c.in_ok-ty-in-Let.ensures.given _ refl)
 
-pub typed-returns-in_ok-ty-in-Let-clause-kept : goal.typed-returns-in_ok-ty-in-Let-clause-kept
-typed-returns-in_ok-ty-in-Let-clause-kept t c =
+pub typed_whole-returns-in_ok-ty-in-Let-clause-kept : goal.typed_whole-returns-in_ok-ty-in-Let-clause-kept
+typed_whole-returns-in_ok-ty-in-Let-clause-kept t c =
     record {
       bindings = cut_back _ c.cut_to.ensures (c.in_ok-ty-in-Let.ensures.kept.bindings ∙ c.in_ok-declared-in-Let.ensures.opens.bindings) c.len-bindings.ensures;
       types = cut_back _ c.cut_to-in-Let.ensures (c.in_ok-ty-in-Let.ensures.kept.types ∙ c.in_ok-declared-in-Let.ensures.opens.types) c.len-types.ensures;
@@ -744,18 +730,18 @@ bodies-function_named-requires t c =
       among = among c.loop-function.function-index c.loop-function-test.true c.function-item.is c.deref-function-items.ensures.value;
     }
 
-pub typed-let_named-requires : goal.typed-let_named-requires
-typed-let_named-requires t c = record { all = c.requires; parts = c.in-Let.is }
+pub typed_whole-let_named-requires : goal.typed_whole-let_named-requires
+typed_whole-let_named-requires t c = record { all = c.requires; parts = c.in-Let.is }
 
-pub typed-returns-in_err-fitting_int-in-If-clause-given : goal.typed-returns-in_err-fitting_int-in-If-clause-given
-typed-returns-in_err-fitting_int-in-If-clause-given t c =
+pub typed_whole-returns-in_err-fitting_int-in-If-clause-given : goal.typed_whole-returns-in_err-fitting_int-in-If-clause-given
+typed_whole-returns-in_err-fitting_int-in-If-clause-given t c =
     λ scope h. ended _ _ _ c.from_residual-in_err-fitting_int-in-If.ensures
     (last_fails (ap (λ x. typing.typed x scope (noted_of c.args.state.now)) c.choice_named.ensures.whole ∙ ap
     (λ x. typing.typed (choice c.args.e.now.span (plain x) (plain (box_value c.in-If.this)) (option_map (λ b. plain (box_value b)) c.in-If.other)) scope
     (noted_of c.args.state.now)) (sym c.deref-in-If.ensures)) (choice_fails c.args.e.now.span _ _ _ _ _ (c.in_err-fitting_int-in-If.ensures.given scope h)))
 
-pub typed-returns-in_err-ty-in-Some-clause-given : goal.typed-returns-in_err-ty-in-Some-clause-given
-typed-returns-in_err-ty-in-Some-clause-given t c =
+pub typed_whole-returns-in_err-ty-in-Some-clause-given : goal.typed_whole-returns-in_err-ty-in-Some-clause-given
+typed_whole-returns-in_err-ty-in-Some-clause-given t c =
     λ scope h. ended _ _ _ c.from_residual-in_err-ty-in-Some.ensures
     (last_fails (ap (λ x. typing.typed x scope (noted_of c.args.state.now)) c.choice_named.ensures.whole ∙ ap
     (λ x. typing.typed (choice c.args.e.now.span (plain x) (plain (box_value c.in-If.this)) (option_map (λ b. plain (box_value b)) c.in-If.other)) scope
@@ -766,8 +752,8 @@ typed-returns-in_err-ty-in-Some-clause-given t c =
     (c.in_ok-fitting_int-in-If.ensures.given scope h) (c.in_err-ty-in-Some.ensures.given scope
     (same_scope c.args.names.now c.in_ok-fitting_int-in-If.ensures.kept h))))
 
-pub typed-returns-in_ok-ty-in-Some-clause-given : goal.typed-returns-in_ok-ty-in-Some-clause-given
-typed-returns-in_ok-ty-in-Some-clause-given t c =
+pub typed_whole-returns-in_ok-ty-in-Some-clause-given : goal.typed_whole-returns-in_ok-ty-in-Some-clause-given
+typed_whole-returns-in_ok-ty-in-Some-clause-given t c =
     λ scope h. carry c.joined.result _ _ (ap (λ x. typing.typed x scope (noted_of c.args.state.now)) c.choice_named.ensures.whole ∙ ap
     (λ x. typing.typed (choice c.args.e.now.span (plain x) (plain (box_value c.in-If.this)) (option_map (λ b. plain (box_value b)) c.in-If.other)) scope
     (noted_of c.args.state.now)) (sym c.deref-in-If.ensures) ∙ ap
@@ -778,8 +764,8 @@ typed-returns-in_ok-ty-in-Some-clause-given t c =
     (λ e. second_way c.in_ok-ty-in-Some.ty (plain e) scope (noted_of c.typed.new.state)) (sym c.deref-in-Some-2.ensures))
     (c.joined.ensures.given scope (same_scope c.args.names.now (keeps_both c.in_ok-fitting_int-in-If.ensures.kept c.in_ok-ty-in-Some.ensures.kept) h))
 
-pub typed-returns-in-None-clause-given : goal.typed-returns-in-None-clause-given
-typed-returns-in-None-clause-given t c =
+pub typed_whole-returns-in-None-clause-given : goal.typed_whole-returns-in-None-clause-given
+typed_whole-returns-in-None-clause-given t c =
     λ scope h. carry c.idle.result _ _ (ap (λ x. typing.typed x scope (noted_of c.args.state.now)) c.choice_named.ensures.whole ∙ ap
     (λ x. typing.typed (choice c.args.e.now.span (plain x) (plain (box_value c.in-If.this)) (option_map (λ b. plain (box_value b)) c.in-If.other)) scope
     (noted_of c.args.state.now)) (sym c.deref-in-If.ensures) ∙ ap
@@ -787,3 +773,33 @@ typed-returns-in-None-clause-given t c =
     (noted_of c.args.state.now)) (sym c.deref-in-None.ensures) ∙ choice_one c.args.e.now.span _ _ _ scope _
     (ap (option_map (λ b. plain (box_value b))) c.in-None.is) (c.in_ok-fitting_int-in-If.ensures.given scope h))
     (c.idle.ensures.given scope (same_scope c.args.names.now c.in_ok-fitting_int-in-If.ensures.kept h))
+
+pub typed-returns-in_err-left-in-Binary-clause-given : goal.typed-returns-in_err-left-in-Binary-clause-given
+typed-returns-in_err-left-in-Binary-clause-given t c =
+    λ scope h. ended _ _ _ c.from_residual.ensures (last_fails
+    (ap (λ k. typing.typed (plain_kind k c.args.e.now.span) scope (noted_of c.args.state.now)) c.in-Binary.is ∙ ap
+    (λ x. typing.typed (tree.Binary c.args.e.now.span c.in-Binary.op c.in-Binary.at (plain x) (plain c.in-Binary.b.value)) scope (noted_of c.args.state.now))
+    (sym c.deref.ensures)) (two_fail_first _ _ _ _ (c.in_err-left-in-Binary.ensures.given scope h)))
+
+pub typed-returns-in_ok-left-in-Binary-clause-given : goal.typed-returns-in_ok-left-in-Binary-clause-given
+typed-returns-in_ok-left-in-Binary-clause-given t c =
+    λ scope h. carry c.right_operand.result _ _ (ap (λ k. typing.typed (plain_kind k c.args.e.now.span) scope (noted_of c.args.state.now)) c.in-Binary.is ∙ ap
+    (λ x. typing.typed (tree.Binary c.args.e.now.span c.in-Binary.op c.in-Binary.at (plain x) (plain c.in-Binary.b.value)) scope (noted_of c.args.state.now))
+    (sym c.deref.ensures) ∙ ap (λ x. typing.typed
+    (tree.Binary c.args.e.now.span c.in-Binary.op c.in-Binary.at (plain c.deref.result.now) (plain x)) scope (noted_of c.args.state.now))
+    (sym c.deref-in-Binary.ensures) ∙ two_steps _ _ _ _ (c.in_ok-left-in-Binary.ensures.given scope h) refl)
+    (c.right_operand.ensures.given scope (same_scope c.args.names.now c.in_ok-left-in-Binary.ensures.kept h))
+
+pub typed_place-returns-in-Field-clause-given : goal.typed_place-returns-in-Field-clause-given
+typed_place-returns-in-Field-clause-given t c =
+    λ scope h. carry c.type_field.result _ _ (ap (λ v. typing.typed_place (plain_lvalue v) scope (noted_of c.args.state.now)) c.in-Field.is ∙ ap
+    (λ v. typing.typed_place (tree.Field (plain_lvalue v) c.in-Field.field) scope (noted_of c.args.state.now)) (sym c.deref.ensures)) (c.type_field.ensures.given scope h)
+
+pub type_field-returns-in_err-ty-clause-given : goal.type_field-returns-in_err-ty-clause-given
+type_field-returns-in_err-ty-clause-given t c =
+    λ scope h. ended _ _ _ c.from_residual.ensures (fails_first _ _ (c.in_err-ty.ensures.given scope h))
+
+pub type_field-returns-clause-given : goal.type_field-returns-clause-given
+type_field-returns-clause-given t c =
+    λ scope h. carry c.selected.result _ _ (step _ _ (c.in_ok-ty.ensures.given scope h)
+    (ap (λ at. selected_of c.in_ok-ty.ty at c.args.field (noted_of c.typed_place.new.state)) (sym c.start_of.ensures))) c.selected.ensures.given
