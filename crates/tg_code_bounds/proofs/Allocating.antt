@@ -73,10 +73,12 @@ code_is_short lines length_stays grow words_few rule f a may h turned =
     omega (arith, long, written, grown, same, few)
 
 pub functions_are_paid : CodeIsShort → FramesAreSmall → FunctionsArePaid
-functions_are_paid code frames rule m f a level within may h =
+functions_are_paid code frames rule m f g a level within reduced may h =
     let long = within.short level in
     let room = within.small level in
+    let no_longer = reduced.short in
+    let no_larger = reduced.small in
     record {
-      short = λ turned. let c = code rule f a may h turned in omega (arith, long, c);
-      small = let b = frames rule f a may h in omega (arith, long, room, b);
+      short = λ turned. let c = code rule g a may h turned in omega (arith, long, no_longer, c);
+      small = let b = frames rule g a may h in omega (arith, long, room, no_longer, no_larger, b);
     }

@@ -33,8 +33,9 @@ use Rattle.tg_regalloc.specs.Allocations.{codes_of}
 use Rattle.tg_emit.specs.mirror.Lines.{size_of, is_long, function_lines, functions_lines, literals_lines, words}
 use Rattle.tg_emit_laws.proofs.CodeLines.{words_append}
 use Rattle.tg_code_bounds.specs.Allocating.{IsAllocationOf, has_small_frame}
+use Rattle.tg_code_bounds.specs.Reduced.{ReducesTo}
 use Rattle.tg_code_bounds.specs.laws.Laws.{length_words, besides_words, node_words, function_words, most_node_words, most_runtime_words, CodeIsShort}
-use Rattle.tg_code_bounds.specs.laws.Laws.{FramesAreSmall, FunctionsArePaid, FitsSegment, ProgramCodeFits, ProgramFramesAreSmall}
+use Rattle.tg_code_bounds.specs.laws.Laws.{FramesAreSmall, FunctionsArePaid, FitsSegment, AreAllocationsOf, ProgramCodeFits, ProgramFramesAreSmall}
 use Rattle.tg_code_bounds.proofs.Functions.{all_counted, counted, counted_within}
 
 -- What the functions of an accepted program, and of the runtime, are.
@@ -71,6 +72,20 @@ both_bounded : (fs rs : List (Function Ts)) → AllByRecursion IsBounded fs → 
 both_bounded [] rs h k = k
 both_bounded (f ∷ fs) rs h k = (h.0, both_bounded fs rs h.1 k)
 
+-- and those in their places
+reduced_bounded : (fs gs : List (Function Ts)) → AllZip ReducesTo fs gs → AllByRecursion IsBounded fs → AllByRecursion IsBounded gs
+reduced_bounded [] [] r h = tt
+reduced_bounded [] (g ∷ gs) r h = absurd r
+reduced_bounded (f ∷ fs) [] r h = absurd r
+reduced_bounded (f ∷ fs) (g ∷ gs) r h =
+    let no_longer = r.0.short in
+    let no_larger = r.0.small in
+    let s = h.0.short in
+    let n = h.0.small in (
+      record { may = r.0.may h.0.may; short = omega (arith, no_longer, s); small = omega (arith, no_larger, n) },
+      reduced_bounded fs gs r.1 h.1,
+    )
+
 module _ (rule : Rule) where
   -- Frames.
 
@@ -92,32 +107,37 @@ module _ (rule : Rule) where
   abbrev routine_words : ℕ
   routine_words = length_words * most_length + besides_words
 
-  routines_short : CodeIsShort → (turned : Bool) (rs : List (Function Ts)) (allocations : List Allocation) → AreRoutines rs → AllByRecursion IsBounded rs →
-      AllZip (IsAllocationOf rule) rs allocations → words (functions_lines turned (codes_of allocations)) ≤ routine_words * length rs
-  routines_short law turned [] [] h may k = omega arith
-  routines_short law turned [] (a ∷ rest) h may k = absurd k
-  routines_short law turned (f ∷ fs) [] h may k = absurd k
-  routines_short law turned (f ∷ fs) (a ∷ rest) h may k =
+  routines_short : CodeIsShort → (turned : Bool) (rs gs : List (Function Ts)) (allocations : List Allocation) → AreRoutines rs → AllZip ReducesTo rs gs →
+      AllByRecursion IsBounded gs →
+      AllZip (IsAllocationOf rule) gs allocations → words (functions_lines turned (codes_of allocations)) ≤ routine_words * length rs
+  routines_short law turned [] [] [] h r may k = omega arith
+  routines_short law turned [] [] (a ∷ rest) h r may k = absurd k
+  routines_short law turned [] (g ∷ gs) allocations h r may k = absurd r
+  routines_short law turned (f ∷ fs) [] allocations h r may k = absurd r
+  routines_short law turned (f ∷ fs) (g ∷ gs) [] h r may k = absurd k
+  routines_short law turned (f ∷ fs) (g ∷ gs) (a ∷ rest) h r may k =
       let s = h.0.short in
-      let one = law rule f a may.0.may k.0 turned in
-      let others = routines_short law turned fs rest h.1 may.1 k.1 in
-      omega (arith, s, one, others, words_append (function_lines turned a.done) (functions_lines turned (codes_of rest)))
+      let no_longer = r.0.short in
+      let one = law rule g a may.0.may k.0 turned in
+      let others = routines_short law turned fs gs rest h.1 r.1 may.1 k.1 in
+      omega (arith, s, no_longer, one, others, words_append (function_lines turned a.done) (functions_lines turned (codes_of rest)))
 
-  functions_short : CodeIsShort → FunctionsArePaid → (turned : Bool) (ms : List Measures) (fs rs : List (Function Ts)) (allocations : List Allocation) →
-      first_above ms ≡ None → AllZip FunctionIsWithin ms fs → AllByRecursion IsBounded fs → AreRoutines rs → AllByRecursion IsBounded rs →
-      AllZip (IsAllocationOf rule) (fs ++ rs) allocations →
+  functions_short : CodeIsShort → FunctionsArePaid → (turned : Bool) (ms : List Measures) (fs rs gs : List (Function Ts)) (allocations : List Allocation) →
+      first_above ms ≡ None → AllZip FunctionIsWithin ms fs → AreRoutines rs → AllZip ReducesTo (fs ++ rs) gs → AllByRecursion IsBounded gs →
+      AllZip (IsAllocationOf rule) gs allocations →
       2 * words (functions_lines turned (codes_of allocations)) ≤
       2 * node_words * sum_by (λ m. m.size) ms + function_words * all_counted ms + 2 * routine_words * length rs
-  functions_short law paid turned [] [] rs allocations limits within may routines last k =
-      let h = routines_short law turned rs allocations routines last k in omega (arith, h)
-  functions_short law paid turned [] (f ∷ fs) rs allocations limits within may routines last k = absurd within
-  functions_short law paid turned (m ∷ ms) [] rs allocations limits within may routines last k = absurd within
-  functions_short law paid turned (m ∷ ms) (f ∷ fs) rs [] limits within may routines last k = absurd k
-  functions_short law paid turned (m ∷ ms) (f ∷ fs) rs (a ∷ rest) limits within may routines last k =
+  functions_short law paid turned [] [] rs gs allocations limits within routines r may k =
+      let h = routines_short law turned rs gs allocations routines r may k in omega (arith, h)
+  functions_short law paid turned [] (f ∷ fs) rs gs allocations limits within routines r may k = absurd within
+  functions_short law paid turned (m ∷ ms) [] rs gs allocations limits within routines r may k = absurd within
+  functions_short law paid turned (m ∷ ms) (f ∷ fs) rs [] allocations limits within routines r may k = absurd r
+  functions_short law paid turned (m ∷ ms) (f ∷ fs) rs (g ∷ gs) [] limits within routines r may k = absurd k
+  functions_short law paid turned (m ∷ ms) (f ∷ fs) rs (g ∷ gs) (a ∷ rest) limits within routines r may k =
       let level = within_limit T20 m.at m.level 32 (above T21 m.at m.size 4096 (first_above ms)) limits in
       let size = within_limit T21 m.at m.size 4096 (first_above ms) level.1 in
-      let one = (paid rule m f a level.0 within.0 may.0.may k.0).short turned in
-      let others = functions_short law paid turned ms fs rs rest size.1 within.1 may.1 routines last k.1 in
+      let one = (paid rule m f g a level.0 within.0 r.0 may.0.may k.0).short turned in
+      let others = functions_short law paid turned ms fs rs gs rest size.1 within.1 routines r.1 may.1 k.1 in
       omega (
         arith,
         one,
@@ -145,6 +165,16 @@ within_segment nodes codes few short =
       assembly = λ literals. omega (arith, few, h, words_append (functions_lines (is_long codes) codes) (literals_lines literals), literals_empty literals);
     }
 
+-- what is allocated for an accepted program
+are_bounded : CheckedBodiesAreClosed → CheckedTemporariesAreDrawn → CheckedFramesAreSmall → AllAreRoutines →
+    (rule : Rule) (p : CheckedProgram) (links : FinSet nat_cmp)
+    (allocations : List Allocation) → IsAccepted p → (are : AreAllocationsOf rule p links allocations) → AllByRecursion IsBounded are.functions
+are_bounded closed drawn small routines rule p links allocations accepted are =
+    let functions = (translated (findings_in p links) p.body).functions in
+    let bounded = each_bounded functions (program_bounded closed drawn small p links accepted) in
+    let last = routines_bounded runtime.functions routines in
+    reduced_bounded (functions ++ runtime.functions) are.functions are.reduced (both_bounded functions runtime.functions bounded last)
+
 pub program_code_fits : CodeIsShort → FunctionsArePaid → CheckedHasType → CheckedBodiesAreClosed → CheckedTemporariesAreDrawn →
     CheckedFramesAreSmall → FunctionsAreWithin → AllAreRoutines → ProgramCodeFits
 program_code_fits law paid typed closed drawn small within routines rule p links allocations accepted are =
@@ -153,17 +183,13 @@ program_code_fits law paid typed closed drawn small within routines rule p links
     let limit = within_limit T22 (span_of body).from (program_size body) 32768 (first_above (program_functions body)) (typed p accepted).limits in
     let few = limit.0 in
     let counts = counted_within body in
-    let bounded = each_bounded functions (program_bounded closed drawn small p links accepted) in
-    let last = routines_bounded runtime.functions routines in
+    let bounded = are_bounded closed drawn small routines rule p links allocations accepted are in
     within_segment (program_size body) (codes_of allocations) few (λ turned.
-    let h = functions_short rule law paid turned (program_functions body) functions runtime.functions allocations limit.1
-    (within (findings_in p links) body) bounded routines last are in
+    let h = functions_short rule law paid turned (program_functions body) functions runtime.functions are.functions allocations limit.1
+    (within (findings_in p links) body) routines are.reduced bounded are.allocated in
     omega (arith, few, counts, h, routine_count))
 
 pub program_frames_are_small : FramesAreSmall → CheckedBodiesAreClosed → CheckedTemporariesAreDrawn → CheckedFramesAreSmall → AllAreRoutines →
     ProgramFramesAreSmall
 program_frames_are_small law closed drawn small routines rule p links allocations accepted are =
-    let functions = (translated (findings_in p links) p.body).functions in
-    let bounded = each_bounded functions (program_bounded closed drawn small p links accepted) in
-    let last = routines_bounded runtime.functions routines in
-    frames_small rule law (functions ++ runtime.functions) allocations (both_bounded functions runtime.functions bounded last) are
+    frames_small rule law are.functions allocations (are_bounded closed drawn small routines rule p links allocations accepted are) are.allocated

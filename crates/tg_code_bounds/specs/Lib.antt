@@ -1,2 +1,3 @@
 pub mod Allocating
+pub mod Reduced
 pub mod laws

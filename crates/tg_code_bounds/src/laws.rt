@@ -32,8 +32,9 @@ pub fn emit_is_bounded()
 /// Laws of an allocation of a function, by any policy. Its code is at most 12 words for each unit
 /// of the length of the function's tree, and 145 more; its frame has at most as many words as the
 /// tree's needs and twice its length, and 13 more. So where functions are nested 32 deep at most,
-/// the code is at most 1,740 words for each node of the function's body, 72 for each of its
-/// parameters, and 361 more, and the frame 1,992 bytes, 84 and 212.
+/// and the tree is no larger than what the function is translated to, the code is at most 1,740
+/// words for each node of the function's body, 72 for each of its parameters, and 361 more, and the
+/// frame 1,992 bytes, 84 and 212.
 pub fn functions_are_bounded()
     ensures code { CodeIsShort }
     ensures frames { FramesAreSmall }
@@ -46,9 +47,10 @@ pub fn functions_are_bounded()
     regalloc_is_bounded();
 }
 
-/// The laws of a program that the checker accepts, and of the runtime's functions after it,
-/// whatever is spilled: together they are at most 1,900 words of code for each node, and 1,000,000
-/// more, which its segment holds; and the frame of each is below 2^29 bytes.
+/// The laws of a program that the checker accepts, and of the runtime's functions after it, or of
+/// functions in their places that are no larger, whatever is spilled: together they are at most
+/// 1,900 words of code for each node, and 1,000,000 more, which its segment holds; and the frame of
+/// each is below 2^29 bytes.
 pub fn programs_are_bounded()
     ensures code { ProgramCodeFits }
     ensures frames { ProgramFramesAreSmall }

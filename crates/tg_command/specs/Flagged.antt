@@ -1,25 +1,41 @@
 -- The flags on a command line, and the modes that take them.
-use Rattle.std.specs.Prelude.{◌≡◌, List, Bool, true, false, not, codes}
+use Rattle.std.specs.Prelude.{◌≡◌, ◌||◌, ◌&&◌, List, Bool, true, false, not, codes}
 use Rattle.std.specs.Option.{option_map_or}
 use Rattle.std.specs.Str.{bytes_eq}
 use Rattle.clap.specs.Words.{Text}
 use Rattle.tg_command.specs.Simple.{value_of}
 use Rattle.tg_command.specs.declared.flags.Flags.{Flags}
 use Rattle.tg_command.specs.declared.modes.Mode.{Mode}
-use Rattle.tg_command.specs.declared.modes.Mode.TheVariants.{Run, Exec}
+use Rattle.tg_command.specs.declared.modes.Mode.TheVariants.{Build, Run, Exec, Alloc, Gen}
 
 -- the words give the flag: the parser's value of one that stands there is the word `true`
 abbrev pub has_flag : Text → List Text → Bool
 has_flag name words = option_map_or (λ t. bytes_eq t (codes "true")) (value_of name words) false
 
 abbrev pub flags_of : List Text → Flags
-flags_of words = record { watch = has_flag (codes "watch") words }
+flags_of words = record {
+  watch = has_flag (codes "watch") words;
+  fold = has_flag (codes "fold") words;
+}
 
--- a mode takes the flags: `--watch` is for those that run an image on the streams
+-- `--watch` is for the modes that run an image on the streams
+abbrev pub takes_watch : Mode → Bool
+takes_watch Run = true
+takes_watch Exec = true
+takes_watch _ = false
+
+-- `--fold` is for those that compile
+abbrev pub takes_fold : Mode → Bool
+takes_fold Build = true
+takes_fold Run = true
+takes_fold Alloc = true
+takes_fold Gen = true
+takes_fold _ = false
+
+-- a mode takes the flags
 abbrev pub flags_fit : Mode → Flags → Bool
-flags_fit Run flags = true
-flags_fit Exec flags = true
-flags_fit mode flags = not flags.watch
+flags_fit mode flags =
+    (takes_watch mode || not flags.watch) && (takes_fold mode || not flags.fold)
 
 -- the words give these flags, and the mode takes them
 pub record GivesFlags (words : List Text) (mode : Mode) (flags : Flags) : Type 0 where

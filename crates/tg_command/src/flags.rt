@@ -1,5 +1,5 @@
 ghost use Rattle.std.specs.Prelude.{◌≡◌};
-ghost use Rattle.tg_command.specs.Flagged.{flags_fit};
+ghost use Rattle.tg_command.specs.Flagged.{flags_fit, takes_fold, takes_watch};
 
 use crate::modes::Mode;
 
@@ -8,14 +8,33 @@ use crate::modes::Mode;
 pub struct Flags {
     /// `--watch`: watchers see the run, and their reports are told.
     pub watch: bool,
+    /// `--fold`: the trees of the program are folded.
+    pub fold: bool,
 }
 
-/// Whether a mode takes these flags: `--watch` is for the modes that run an image on the streams.
+/// Whether a mode takes these flags.
 pub(crate) fn flags_fit(mode: Mode, flags: Flags) -> bool
     ensures { result ≡ flags_fit mode flags }
 {
+    (takes_watch(mode) || !flags.watch) && (takes_fold(mode) || !flags.fold)
+}
+
+/// `--watch` is for the modes that run an image on the streams.
+fn takes_watch(mode: Mode) -> bool
+    ensures { result ≡ takes_watch mode }
+{
     match mode {
         Mode::Run | Mode::Exec => true,
-        _ => !flags.watch,
+        _ => false,
+    }
+}
+
+/// `--fold` is for the modes that compile.
+fn takes_fold(mode: Mode) -> bool
+    ensures { result ≡ takes_fold mode }
+{
+    match mode {
+        Mode::Build | Mode::Run | Mode::Alloc | Mode::Gen => true,
+        _ => false,
     }
 }

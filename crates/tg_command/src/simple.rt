@@ -59,7 +59,8 @@ fn command<'a>(alloc: Global) -> Result<Command<'a>, AllocError>
         .arg(option(alloc, "heap"))?
         .arg(option(alloc, "stack"))?
         .arg(option(alloc, "steps"))?
-        .arg(flag(alloc, "watch"))
+        .arg(flag(alloc, "watch"))?
+        .arg(flag(alloc, "fold"))
 }
 
 // The kind of fault that an error of the parse is.
@@ -100,6 +101,7 @@ pub(crate) fn take_words<'a>(alloc: Global, words: &'a [String]) -> Result<Value
         steps: matches.get_str("steps"),
         flags: Flags {
             watch: has_flag(&matches, "watch"),
+            fold: has_flag(&matches, "fold"),
         },
     })
 }

@@ -1,6 +1,6 @@
 -- Functions and literals one after another, and what each is compiled to.
-use Rattle.std.proofs.Common.{◌≡◌, ◌<◌, ℕ, List, [], ◌∷◌, ◌++◌, refl, sym, ap, subst, ◌∙◌}
-use Rattle.std.specs.Prelude.{map}
+use Rattle.std.proofs.Common.{◌≡◌, ◌<◌, ℕ, Bool, true, false, List, [], ◌∷◌, ◌++◌, refl, sym, ap, subst, ◌∙◌}
+use Rattle.std.specs.Prelude.{map, if◌then◌else◌}
 use Rattle.std.specs.List.{zip}
 use Rattle.std.specs.FinSet.{FinSet, from_list}
 use Rattle.std.specs.Ordering.{nat_cmp}
@@ -9,6 +9,8 @@ use Rattle.tg_syntax.specs.Tree.{Exp}
 use Rattle.tg_typecheck.specs.declared.notes.Note.{Note}
 use Rattle.tg_escape.specs.Escaping.{escapes_of}
 use Rattle.tg_escape.specs.Links.{links_of}
+use Rattle.tg_fold.specs.laws.Laws.{folded_function}
+use Rattle.tg_fold.specs.laws.Meaning.{folded_code}
 use Rattle.tg_translate.specs.mirror.Scopes.{found}
 use Rattle.tg_translate.specs.mirror.Translate.{translated}
 use Rattle.tg_tree.specs.declared.fragments.Fragment.{Fragment}
@@ -42,7 +44,10 @@ use Rattle.tg_compile.specs.declared.programs.Placement.{Placement}
 use Rattle.tg_canon_trace_proof.specs.Flattened.{flattened}
 use Rattle.tg_code_bounds.specs.Allocating.{Chooses, IsAllocationOf}
 use Rattle.tg_compile.specs.Compiling.{fragments_of, CompileFunctions, HasImage, Compiles}
-use Rattle.tg_compile.specs.glue.Passes.{allocation_of, CompileApart}
+use Rattle.tg_compile.specs.glue.Passes.{allocation_of, prepared_fragment, CompileApart}
+use Rattle.tg_compile.specs.declared.passes.Passes.{Passes}
+use Rattle.tg_compile.specs.Prepared.{prepared}
+use Rattle.tg_compile.proofs.Preparing.{literals_stay}
 
 -- a program's functions and literals, before the runtime is after them
 abbrev pub tree_of : List Fragment → List Literal → Code Ts
@@ -81,16 +86,31 @@ compile_more rule (g ∷ fs) (c ∷ codes) [] f code p h k = absurd h
 compile_more rule (g ∷ fs) (c ∷ codes) (q ∷ ps) f code p h k = (h.0, compile_more rule fs codes ps f code p h.1 k)
 
 -- and its code and placement after the others
-pub compile_one_more : (rule : Rule) (fs : List Fragment) (one : Fragment) (codes all : List Allocated) (ps every : List Placement) (a : Allocation) →
-    CompileApart rule (map plain_fragment fs) codes ps → IsAllocationOf rule (plain_fragment one) a →
-    all ≡ codes ++ a.done ∷ [] → every ≡ ps ++ placement_of a ∷ [] → CompileApart rule (map plain_fragment (fs ++ one ∷ [])) all every
-compile_one_more rule fs one codes all ps every a h k e d =
-    let before = map plain_fragment fs in
+pub compile_one_more : (rule : Rule) (pass : Fragment → Function Ts) (fs : List Fragment) (one : Fragment) (codes all : List Allocated)
+    (ps every : List Placement) (a : Allocation) →
+    CompileApart rule (map pass fs) codes ps → IsAllocationOf rule (pass one) a →
+    all ≡ codes ++ a.done ∷ [] → every ≡ ps ++ placement_of a ∷ [] → CompileApart rule (map pass (fs ++ one ∷ [])) all every
+compile_one_more rule pass fs one codes all ps every a h k e d =
+    let before = map pass fs in
     let P : List (Function Ts) → Type 0 = λ gs. CompileApart rule gs all every in
-    let Q : List Allocated → Type 0 = λ cs. CompileApart rule (before ++ plain_fragment one ∷ []) cs every in
-    let R : List Placement → Type 0 = λ qs. CompileApart rule (before ++ plain_fragment one ∷ []) (codes ++ a.done ∷ []) qs in
-    subst P (sym (map-append plain_fragment fs (one ∷ [])))
-    (subst Q (sym e) (subst R (sym d) (compile_more rule before codes ps (plain_fragment one) a.done (placement_of a) h k)))
+    let Q : List Allocated → Type 0 = λ cs. CompileApart rule (before ++ pass one ∷ []) cs every in
+    let R : List Placement → Type 0 = λ qs. CompileApart rule (before ++ pass one ∷ []) (codes ++ a.done ∷ []) qs in
+    subst P (sym (map-append pass fs (one ∷ [])))
+    (subst Q (sym e) (subst R (sym d) (compile_more rule before codes ps (pass one) a.done (placement_of a) h k)))
+
+-- the functions of a program, prepared one by one
+all_folded : (fs : List Fragment) → map (λ one. folded_function (plain_fragment one)) fs ≡ map folded_function (map plain_fragment fs)
+all_folded [] = refl
+all_folded (f ∷ fs) = ap (λ (gs : List (Function Ts)). folded_function (plain_fragment f) ∷ gs) (all_folded fs)
+
+pub prepared_fragments : (passes : Passes) (functions : List Fragment) (literals : List Literal) →
+    map (prepared_fragment passes) functions ≡ (prepared passes (tree_of functions literals)).functions
+prepared_fragments passes functions literals = by passes.fold
+  where
+    by : (b : Bool) → map (λ one. if b then folded_function (plain_fragment one) else plain_fragment one) functions
+        ≡ (if b then folded_code (tree_of functions literals) else tree_of functions literals).functions
+    by true = all_folded functions
+    by false = refl
 
 -- codes and placements that are brought together
 pub together : (rule : Rule) (fs : List (Function Ts)) (codes : List Allocated) (ps : List Placement) → CompileApart rule fs codes ps →
@@ -105,19 +125,22 @@ together rule (f ∷ fs) (c ∷ codes) (p ∷ ps) h =
     ((h.0, rest.0), ap (λ (cs : List Allocated). c ∷ cs) rest.1)
 
 -- a program whose functions are compiled, and whose text is written
-pub compiles_whole : (rule : Rule) (notes : List Note) (body : Exp) (functions : List Fragment) (literals : List Literal)
+pub compiles_whole : (passes : Passes) (rule : Rule) (notes : List Note) (body : Exp) (functions : List Fragment) (literals : List Literal)
     (codes : List Allocated) (ps : List Placement) (all : List Allocation) (text : List ℕ) →
-    tree_of functions literals ≡ fragments_of notes body → CompileApart rule (map plain_fragment functions) codes ps → all ≡ map allocation_of (zip codes ps) →
-    text ≡ text_of (assembly_of codes literals) → IsWholeProgram codes literals → AreTyped codes literals → Compiles rule notes body all text
-compiles_whole rule notes body functions literals codes ps all text tree apart joins written whole typed =
-    let both = together rule (map plain_fragment functions) codes ps apart in
-    let P : List Allocation → Type 0 = λ xs. CompileFunctions rule (map plain_fragment functions) xs in
+    tree_of functions literals ≡ fragments_of notes body → CompileApart rule (map (prepared_fragment passes) functions) codes ps →
+    all ≡ map allocation_of (zip codes ps) →
+    text ≡ text_of (assembly_of codes literals) → IsWholeProgram codes literals → AreTyped codes literals → Compiles passes rule notes body all text
+compiles_whole passes rule notes body functions literals codes ps all text tree apart joins written whole typed =
+    let both = together rule (map (prepared_fragment passes) functions) codes ps apart in
+    let made : map (prepared_fragment passes) functions ≡ (prepared passes (fragments_of notes body)).functions =
+    prepared_fragments passes functions literals ∙ ap (λ (c : Code Ts). (prepared passes c).functions) tree in
+    let P : List Allocation → Type 0 = λ xs. CompileFunctions rule (map (prepared_fragment passes) functions) xs in
     let Q : List (Function Ts) → Type 0 = λ fs. CompileFunctions rule fs all in
     let same : codes ≡ codes_of all = sym (ap codes_of joins ∙ both.1) in
     record {
       literals = literals;
-      functions_are = subst Q (ap (λ (c : Code Ts). c.functions) tree) (subst P (sym joins) both.0);
-      literals_are = ap (λ (c : Code Ts). c.literals) tree;
+      functions_are = subst Q made (subst P (sym joins) both.0);
+      literals_are = ap (λ (c : Code Ts). c.literals) tree ∙ sym (literals_stay passes (fragments_of notes body));
       text_is = written ∙ ap (λ (cs : List Allocated). text_of (assembly_of cs literals)) same;
       program = subst (λ (cs : List Allocated). IsWholeProgram cs literals) same whole;
       typed = subst (λ (cs : List Allocated). AreTyped cs literals) same typed;
@@ -173,9 +196,9 @@ chooses f between new flat code is label params slots drawn out list temps few =
     }
 
 -- what a program is compiled to is assembled to the image of its lines
-pub compiled_has_image : (rule : Rule) (notes : List Note) (program : Exp) (allocations : List Allocation) (text : List ℕ) →
-    Compiles rule notes program allocations text → HasImage text
-compiled_has_image rule notes program allocations text c =
+pub compiled_has_image : (passes : Passes) (rule : Rule) (notes : List Note) (program : Exp) (allocations : List Allocation) (text : List ℕ) →
+    Compiles passes rule notes program allocations text → HasImage text
+compiled_has_image passes rule notes program allocations text c =
     let codes = codes_of allocations in
     record {
       image = image_of (readings_of (program_written codes c.literals));

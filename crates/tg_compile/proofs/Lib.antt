@@ -1,5 +1,7 @@
 pub mod Chain
 pub mod Linking
 pub mod Naming
+mod Examples
+pub mod Preparing
 mod Small
 pub mod WellFormed

@@ -7,17 +7,21 @@ use Rattle.tg_typecheck.specs.Programs.{CheckedProgram, IsAccepted}
 use Rattle.tg_escape.specs.Links.{links_of}
 use Rattle.tg_code_bounds.specs.laws.Laws.{AreAllocationsOf, ProgramCodeFits, ProgramFramesAreSmall}
 use Rattle.tg_compile.specs.Compiling.{fragments_of}
+use Rattle.tg_compile.specs.declared.passes.Passes.{Passes}
+use Rattle.tg_compile.specs.Prepared.{prepared}
 use Rattle.tg_compile.specs.glue.Passes.{AreSmall, CodeIsSmall, allocation_of}
+use Rattle.tg_compile.specs.laws.Prepared.{PreparedIsReduced}
 use Rattle.tg_compile.proofs.Chain.{together}
 
-pub code_is_small : ProgramCodeFits → ProgramFramesAreSmall → (p : CheckedProgram) → IsAccepted p →
-    CodeIsSmall (fragments_of p.notes p.body).functions
-code_is_small fits small p accepted rule codes ps apart =
+pub code_is_small : ProgramCodeFits → ProgramFramesAreSmall → PreparedIsReduced → (passes : Passes) (p : CheckedProgram) → IsAccepted p →
+    CodeIsSmall (prepared passes (fragments_of p.notes p.body)).functions
+code_is_small fits small reduced passes p accepted rule codes ps apart =
     let body = p.body in
     let links = from_list (links_of body) in
-    let functions = (fragments_of p.notes body).functions in
+    let functions = (prepared passes (fragments_of p.notes body)).functions in
     let both = together rule functions codes ps apart in
     let allocations = map allocation_of (zip codes ps) in
-    let are : AreAllocationsOf rule p links allocations = both.0 in
+    let are : AreAllocationsOf rule p links allocations =
+    record { functions = functions; reduced = reduced passes (fragments_of p.notes body); allocated = both.0 } in
     let code = fits rule p links allocations accepted are in
     subst AreSmall both.1 (record { frames = small rule p links allocations accepted are; functions = code.functions; assembly = code.assembly })

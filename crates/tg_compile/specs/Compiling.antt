@@ -21,6 +21,8 @@ use Rattle.tg_code_bounds.specs.Allocating.{IsAllocationOf}
 use Rattle.tg_emit.specs.mirror.Lines.{assembly_of}
 use Rattle.tg_emit.specs.mirror.Text.{text_of}
 use Rattle.tg_emit_laws.specs.Programs.{IsWholeProgram, AreTyped}
+use Rattle.tg_compile.specs.declared.passes.Passes.{Passes}
+use Rattle.tg_compile.specs.Prepared.{prepared}
 
 -- what is found of a program whose notes are these, before it is translated
 abbrev pub findings_of : List Note → Exp → Findings
@@ -45,16 +47,17 @@ pub record HasImage (text : List ℕ) : Type 0 where
   pub image : Assembled
   pub assembles : assembled text ≡ Ok image
 
--- A program, by a policy's rule and its notes, is compiled to an allocation for each function: its
--- body's first, then those of its functions in the order of the source, then the runtime's. The
--- text is the assembly of them and of the literals, which are a program whose labels and numbers
--- have their types; so it has an image.
-pub record Compiles (rule : Rule) (notes : List Note) (body : Exp)
+-- A program, with the passes that are switched on, by a policy's rule and its notes, is compiled to
+-- an allocation for each function: its body's first, then those of its functions in the order of
+-- the source, then the runtime's. The text is the assembly of them and of the literals, which are a
+-- program whose labels and numbers have their types; so it has an image.
+pub record Compiles (passes : Passes) (rule : Rule) (notes : List Note) (body : Exp)
     (allocations : List Allocation) (text : List ℕ) : Type 0 where
   pub literals : List Literal
   pub functions_are :
-      CompileFunctions rule (fragments_of notes body).functions allocations
-  pub literals_are : map plain_literal literals ≡ (fragments_of notes body).literals
+      CompileFunctions rule (prepared passes (fragments_of notes body)).functions allocations
+  pub literals_are :
+      map plain_literal literals ≡ (prepared passes (fragments_of notes body)).literals
   pub text_is : text ≡ text_of (assembly_of (codes_of allocations) literals)
   pub program : IsWholeProgram (codes_of allocations) literals
   pub typed : AreTyped (codes_of allocations) literals

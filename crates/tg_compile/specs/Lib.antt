@@ -1,2 +1,4 @@
+pub mod Prepared
 pub mod Compiling
 pub mod glue
+pub mod laws

@@ -1,16 +1,26 @@
 ghost use Rattle.std.specs.Prelude.{All};
 ghost use Rattle.tg_syntax.specs.glue.Plain.{plain};
 ghost use Rattle.tg_compile.specs.Compiling.{fragments_of};
+ghost use Rattle.tg_compile.specs.Prepared.{prepared};
 ghost use Rattle.tg_compile.specs.glue.Passes.{
   CodeIsSmall,
   CodeNamesItsOwn,
   CodeNamesNoMore,
   FlatCodeIsWellMarked,
   IsWellFormed,
+  PreparedIsWellFormed,
+};
+ghost use Rattle.tg_compile.specs.laws.Prepared.{
+  LiteralsStay,
+  PreparedHasWords,
+  PreparedIsLinked,
+  PreparedIsReduced,
 };
 
+use crate::passes::Passes;
 use tg_canon::canonical_statements;
 use tg_code_bounds::programs_are_bounded;
+use tg_fold::{fold_is_bounded, shapes_stay};
 use tg_munch::code_names_its_own;
 use tg_regalloc::allocations_keep_tests;
 use tg_runtime::routines_are_closed;
@@ -29,6 +39,26 @@ pub(crate) fn functions_are_well_formed(checked: &Checked)
     temporaries_are_drawn();
     translate_is_bounded();
     routines_are_closed();
+}
+
+/// What passes over trees make of a function that is well formed is well formed.
+pub(crate) fn prepared_is_well_formed()
+    ensures { PreparedIsWellFormed }
+{
+    shapes_stay();
+}
+
+/// The laws of the passes over trees that may be switched on. Function by function a program becomes
+/// one for the same frames that is no larger, with the same literals; it is linked, and its
+/// constants are words, if it was so. They do nothing.
+pub fn prepared_is_reduced()
+    ensures reduced { PreparedIsReduced }
+    ensures literals { LiteralsStay }
+    ensures linked { PreparedIsLinked }
+    ensures words { PreparedHasWords }
+{
+    shapes_stay();
+    fold_is_bounded();
 }
 
 /// The flat code of a function that is well formed is what instructions are chosen for.
@@ -61,12 +91,14 @@ pub(crate) fn code_names_no_more()
     allocations_keep_tests();
 }
 
-/// The functions of a checked program, with the runtime's, are compiled to small ones: each frame
-/// is below 2^29 bytes, and their code fits its segment, whatever is spilled.
-pub(crate) fn compiled_is_small(checked: &Checked)
-    ensures { CodeIsSmall
-        (fragments_of checked.now.notes (plain checked.now.program.body)).functions }
+/// The functions of a checked program, with the runtime's, are compiled to small ones, whatever
+/// passes are switched on: each frame is below 2^29 bytes, and their code fits its segment,
+/// whatever is spilled.
+pub(crate) fn compiled_is_small(checked: &Checked, passes: Passes)
+    ensures { CodeIsSmall (prepared passes
+        (fragments_of checked.now.notes (plain checked.now.program.body))).functions }
 {
+    prepared_is_reduced();
     // As in `functions_are_well_formed`.
     let _ = &checked.notes;
     programs_are_bounded();

@@ -7,9 +7,11 @@
 mod bodies;
 mod compiled;
 mod laws;
+mod passes;
 mod programs;
 
 pub use bodies::choose;
 pub use compiled::Compiled;
-pub use laws::instructions_name_their_own;
+pub use laws::{instructions_name_their_own, prepared_is_reduced};
+pub use passes::Passes;
 pub use programs::{compile_checked, fragments};

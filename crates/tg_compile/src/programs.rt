@@ -15,11 +15,15 @@ ghost use Rattle.tg_compile.specs.glue.Passes.{
   CompileApart,
   IsWellFormed,
   allocation_of,
+  prepared_fragment,
 };
 
 use crate::bodies::compile_function;
 use crate::compiled::Compiled;
-use crate::laws::{code_names_no_more, compiled_is_small, functions_are_well_formed};
+use crate::laws::{
+    code_names_no_more, compiled_is_small, functions_are_well_formed, prepared_is_reduced,
+};
+use crate::passes::Passes;
 use std::alloc::Global;
 use tg_base::Memory;
 use tg_emit::{emit, text};
@@ -49,27 +53,30 @@ struct Functions {
     placements: Vec<Placement>,
 }
 
-/// Compiles a program that has no fault: its functions and the runtime's become assembly text. The
-/// policy is asked in each function in turn; after `Memory` it may have been asked. The literals of
-/// a text's program fit their segment by a law of texts; a checked tree alone may stand for none.
+/// Compiles a program that has no fault, with the passes that are switched on: its functions and
+/// the runtime's become assembly text. The policy is asked in each function in turn; after `Memory`
+/// it may have been asked. The literals of a text's program fit their segment by a law of texts; a
+/// checked tree alone may stand for none.
 pub fn compile_checked(
     alloc: Global,
     checked: &Checked,
+    passes: Passes,
     policy: &mut dyn SpillPolicy,
 ) -> Result<Compiled, Memory>
     requires { LiteralsFit checked.now.notes (plain checked.now.program.body) }
     ensures compiles { IfOk result
-        (λ c. Compiles (rule policy.old) checked.now.notes (plain checked.now.program.body)
-        c.allocations.items c.text.items) }
+        (λ c. Compiles passes (rule policy.old) checked.now.notes
+        (plain checked.now.program.body) c.allocations.items c.text.items) }
     ensures same { rule policy.new ≡ rule policy.old }
 {
     let Fragments {
         functions: bodies,
         literals,
     } = fragments(alloc, checked)?;
-    let functions = compile_functions(alloc, bodies, policy)?;
+    let functions = compile_functions(alloc, bodies, passes, policy)?;
     code_names_no_more();
-    compiled_is_small(checked);
+    prepared_is_reduced();
+    compiled_is_small(checked, passes);
     let written = write(alloc, &functions.codes, &literals)?;
     Ok(Compiled {
         allocations: join(alloc, functions)?,
@@ -99,11 +106,12 @@ pub fn fragments(alloc: Global, checked: &Checked) -> Result<Fragments, Memory>
 fn compile_functions(
     alloc: Global,
     bodies: Vec<Fragment>,
+    passes: Passes,
     policy: &mut dyn SpillPolicy,
 ) -> Result<Functions, Memory>
     requires { All IsWellFormed (map plain_fragment bodies.items) }
     ensures compile { IfOk result (λ f. CompileApart (rule policy.old)
-        (map plain_fragment bodies.items) f.codes.items f.placements.items) }
+        (map (prepared_fragment passes) bodies.items) f.codes.items f.placements.items) }
     ensures same { rule policy.new ≡ rule policy.old }
 {
     let mut codes = Vec::new(alloc);
@@ -115,7 +123,7 @@ fn compile_functions(
             rounds,
             all_in_frame,
             slots,
-        } = compile_function(alloc, one, policy)?;
+        } = compile_function(alloc, one, passes, policy)?;
         codes.push(done)?;
         placements.push(Placement {
             registers,

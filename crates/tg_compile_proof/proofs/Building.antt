@@ -12,6 +12,7 @@ use Rattle.tg_typecheck.specs.Programs.{CheckedProgram, IsAccepted}
 use Rattle.tg_literal_bounds.specs.laws.Laws.{TreesAreOfWords}
 use Rattle.tg_irc_definition.specs.Policies.{Rule as SpillRule}
 use Rattle.tg_regalloc.specs.declared.allocations.Allocation.{Allocation}
+use Rattle.tg_compile.specs.declared.passes.Passes.{Passes}
 use Rattle.tg_compile_proof.specs.laws.Laws.{CompileIsCorrect}
 use Rattle.tg_correctness.specs.Sources.{HasTree}
 use Rattle.tg_compile_proof.specs.Builds.{CompilesTo}
@@ -29,24 +30,24 @@ begins_apart text names tokens program t =
     apart (beginnings program []) (in_order tokens program (tokens_stand t.has_tokens.lexed) t.parsed)
 
 -- the program of a text that is compiled, with its notes
-abbrev checked : {rule : SpillRule} {text : List ℕ} {allocations : List Allocation} {assembly : List ℕ} →
-    CompilesTo rule text allocations assembly → CheckedProgram
+abbrev checked : {passes : Passes} {rule : SpillRule} {text : List ℕ} {allocations : List Allocation} {assembly : List ℕ} →
+    CompilesTo passes rule text allocations assembly → CheckedProgram
 checked c = record { names = c.names; body = c.program; notes = c.notes }
 
-is_accepted : (rule : SpillRule) (text : List ℕ) (allocations : List Allocation) (assembly : List ℕ)
-    (c : CompilesTo rule text allocations assembly) → IsAccepted (checked c)
-is_accepted rule text allocations assembly c = record {
+is_accepted : (passes : Passes) (rule : SpillRule) (text : List ℕ) (allocations : List Allocation) (assembly : List ℕ)
+    (c : CompilesTo passes rule text allocations assembly) → IsAccepted (checked c)
+is_accepted passes rule text allocations assembly c = record {
   within = names_within text c.names c.tokens c.program c.source.tree;
   apart = begins_apart text c.names c.tokens c.program c.source.tree;
   accepted = c.accepted;
 }
 
 compiled_as_meant : TreesAreOfWords → CompileIsCorrect →
-    (rule : SpillRule) (text : List ℕ) (allocations : List Allocation) (assembly : List ℕ) →
-    CompilesTo rule text allocations assembly → IsAsMeant text assembly
-compiled_as_meant words meant rule text allocations assembly c =
+    (passes : Passes) (rule : SpillRule) (text : List ℕ) (allocations : List Allocation) (assembly : List ℕ) →
+    CompilesTo passes rule text allocations assembly → IsAsMeant text assembly
+compiled_as_meant words meant passes rule text allocations assembly c =
     let tree = c.source.tree in
-    let is = meant rule (checked c) allocations assembly (is_accepted rule text allocations assembly c)
+    let is = meant passes rule (checked c) allocations assembly (is_accepted passes rule text allocations assembly c)
     c.compiles
     (words c.names text c.program
     (record { tokens = c.tokens; lexed = tree.has_tokens.lexed; parsed = tree.parsed })) in
@@ -61,5 +62,5 @@ compiled_as_meant words meant rule text allocations assembly c =
     }
 
 pub build_is_correct : TreesAreOfWords → CompileIsCorrect → BuildIsCorrect
-build_is_correct words meant rule text assembly b =
-    compiled_as_meant words meant rule text b.allocations assembly b.compiles
+build_is_correct words meant passes rule text assembly b =
+    compiled_as_meant words meant passes rule text b.allocations assembly b.compiles

@@ -10,7 +10,7 @@ use Rattle.tg_typecheck.specs.Programs.{CheckedProgram, IsAccepted}
 use Rattle.tg_typecheck.specs.laws.Laws.{IsNeverStuck}
 use Rattle.tg_asm_text.specs.Assembly.{Assembled, assembled}
 use Rattle.tg_isa.specs.ImageRuns.{MachineStaysOver}
-use Rattle.tg_tree.specs.Tree.{Ts, Function}
+use Rattle.tg_tree.specs.Tree.{Ts, Function, Code}
 use Rattle.tg_tree.specs.Units.{Trees}
 use Rattle.tg_tree.specs.laws.Laws.{TreesStayOver}
 use Rattle.tg_canon_trace_proof.specs.laws.Laws.{FlattenIsCorrect}
@@ -18,6 +18,7 @@ use Rattle.tg_canon_trace_proof.specs.Flattened.{MayBeFlattened}
 use Rattle.tg_emit_laws.specs.Images.{ProgramHasImage}
 use Rattle.tg_compile.specs.Compiling.{fragments_of}
 use Rattle.tg_compile.specs.glue.Passes.{IsWellFormed}
+use Rattle.tg_compile.specs.laws.Prepared.{PreparedIsReduced}
 use Rattle.tg_emit_proof.specs.laws.Emission.{FitRegions, EmitIsCorrect, emitted_image}
 use Rattle.tg_correctness.specs.laws.Laws.{PassesAgree, AgreementIsMeant}
 use Rattle.tg_correctness.specs.Images.{AreSizes}
@@ -25,6 +26,7 @@ use Rattle.tg_compile_proof.specs.Forms.{Compilation, IsCompiled, registers, fra
 use Rattle.tg_compile_proof.specs.Forms.{instruction_form, register_form, machine_form}
 use Rattle.tg_compile_proof.specs.laws.Laws.{CompiledMayRun, ChoiceIsKept, AllocationIsKept, CompiledAgrees}
 use Rattle.tg_compile_proof.specs.laws.Laws.{CompileIsCorrect, compilation_of, IsTranslated, ProgramsAreTranslated}
+use Rattle.tg_compile_proof.proofs.Reduced.{reduced_may}
 
 pub compiled_agrees : CompiledMayRun → FlattenIsCorrect → EmitIsCorrect → TreesStayOver → MachineStaysOver →
     PassesAgree →
@@ -53,11 +55,11 @@ fit heap stack s = record { heap_most = s.heap_most; stack_words = s.stack_words
 
 pub compile_is_correct :
     CompiledAgrees → ProgramHasImage → AgreementIsMeant → FormsAgree → NoEndingIsFull → OnlyStuckIsStuck →
-    IsNeverStuck → ProgramsAreTranslated →
+    IsNeverStuck → ProgramsAreTranslated → PreparedIsReduced →
     ((program : CheckedProgram) → IsAccepted program →
     All IsWellFormed (fragments_of program.notes program.body).functions) →
     CompileIsCorrect
-compile_is_correct agrees text meant forms full only never carried formed rule program allocations assembly accepted
+compile_is_correct agrees text meant forms full only never carried reduced formed passes rule program allocations assembly accepted
     compiles
     of_words = (
       emitted_image (registers p) p.literals,
@@ -74,7 +76,10 @@ compile_is_correct agrees text meant forms full only never carried formed rule p
     )
   where
     p : Compilation
-    p = compilation_of rule program allocations compiles.literals
+    p = compilation_of passes rule program allocations compiles.literals
+
+    source : Code Ts
+    source = fragments_of program.notes program.body
 
     may_be_flat : (f : Function Ts) → IsWellFormed f → MayBeFlattened f
     may_be_flat f h = record { closed = h.closed; temps = h.drawn }
@@ -85,8 +90,10 @@ compile_is_correct agrees text meant forms full only never carried formed rule p
       literals = compiles.literals_are;
       program = compiles.program;
       typed = compiles.typed;
-      may_be_flat = λ f c. may_be_flat f (All-contains IsWellFormed p.trees.functions f (formed program accepted) c);
+      may_be_flat =
+          reduced_may source.functions p.trees.functions (reduced passes source)
+          (λ f c. may_be_flat f (All-contains IsWellFormed source.functions f (formed program accepted) c));
     }
 
     promised : IsTranslated program p
-    promised = carried rule program allocations compiles.literals accepted of_words compiled
+    promised = carried passes rule program allocations compiles.literals accepted of_words compiled

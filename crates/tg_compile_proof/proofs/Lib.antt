@@ -9,6 +9,8 @@ pub mod Fields
 pub mod Constants
 pub mod RuntimeFrames
 pub mod Sizes
+pub mod Reduced
+pub mod Preparing
 pub mod Translating
 pub mod Choosing
 pub mod Allocated

@@ -16,7 +16,7 @@ use Rattle.tg_tree.specs.declared.fragments.Literal.{Literal}
 use Rattle.tg_tree.specs.Tree.{Ts, Function}
 use Rattle.tg_tree.specs.glue.Plain.{plain_literal}
 use Rattle.tg_tree.specs.Memory.{statics_of}
-use Rattle.tg_tree.specs.FrameSizes.{AreAllowed}
+use Rattle.tg_tree.specs.FrameSizes.{AreAllowed, IsSizeOf}
 use Rattle.tg_runtime.specs.mirror.Routines.{runtime}
 use Rattle.tg_translate.specs.mirror.Translate.{translated}
 use Rattle.tg_translate_laws.specs.laws.Laws.{names, ProgramsAreLinked}
@@ -33,23 +33,30 @@ use Rattle.tg_emit_laws.specs.Programs.{bytes_of}
 use Rattle.tg_code_bounds.specs.Allocating.{IsAllocationOf}
 use Rattle.tg_emit_proof.proofs.Known.{sizes_there}
 use Rattle.tg_stack_bounds.specs.laws.Weights.{IsLight, IsWithinWeight, TreesAreLight, AreWithinWeight, ProgramFramesAreLight}
+use Rattle.tg_code_bounds.specs.Reduced.{ReducesTo}
+use Rattle.tg_compile.specs.declared.passes.Passes.{Passes}
+use Rattle.tg_compile.specs.laws.Prepared.{PreparedIsReduced}
 use Rattle.tg_compile_proof.specs.Forms.{Compilation, IsCompiled, registers, frames}
 use Rattle.tg_compile_proof.specs.laws.Laws.{compilation_of, FramesAreSizesOfTrees, RuntimeFramesFit}
+use Rattle.tg_compile_proof.proofs.Reduced.{in_place, size_before}
 use Rattle.tg_compile_proof.proofs.RuntimeFrames.{label_in}
 
 -- a function's frame has as many bytes as that of its allocation
 abbrev HasSizeOf : (size : ℕ → ℕ) → Function Ts → Allocation → Type 0
 HasSizeOf size f a = size f.label ≡ size_of a.done.frame
 
-sized : (rule : Rule) (size : ℕ → ℕ) (fs : List (Function Ts)) (made : List Allocation) → AllZip (IsAllocationOf rule) fs made →
+sized : (rule : Rule) (size : ℕ → ℕ) (fs gs : List (Function Ts)) (made : List Allocation) → AllZip ReducesTo fs gs →
+    AllZip (IsAllocationOf rule) gs made →
     ((a : Allocation) → Contains made a → size a.done.frame.label.0 ≡ size_of a.done.frame) → AllZip (HasSizeOf size) fs made
-sized rule size [] [] h there = tt
-sized rule size [] (a ∷ made) h there = absurd h
-sized rule size (f ∷ fs) [] h there = absurd h
-sized rule size (f ∷ fs) (a ∷ made) h there =
-    let label : a.done.frame.label.0 ≡ f.label = ap (λ x. x.0) h.0.allocation.has_frame.label ∙ h.0.chooses.label in (
+sized rule size [] [] [] r h there = tt
+sized rule size [] [] (a ∷ made) r h there = absurd h
+sized rule size [] (g ∷ gs) made r h there = absurd r
+sized rule size (f ∷ fs) [] made r h there = absurd r
+sized rule size (f ∷ fs) (g ∷ gs) [] r h there = absurd h
+sized rule size (f ∷ fs) (g ∷ gs) (a ∷ made) r h there =
+    let label : a.done.frame.label.0 ≡ f.label = ap (λ x. x.0) h.0.allocation.has_frame.label ∙ h.0.chooses.label ∙ r.0.label in (
       ap size (sym label) ∙ there a (0, omega arith, refl),
-      sized rule size fs made h.1 (λ b c. let l = c.1 in there b (suc c.0, omega (arith, l), c.2)),
+      sized rule size fs gs made r.1 h.1 (λ b c. let l = c.1 in there b (suc c.0, omega (arith, l), c.2)),
     )
 
 abbrev AreApart : List ℕ → Type 0
@@ -95,23 +102,29 @@ statics_are (l ∷ ls) =
     length-append (padded l.text) (statics_of (map plain_literal ls)) ∙ ap (λ n. length (padded l.text) + n) (statics_are ls)
 
 module _ (sizes_of_trees : FramesAreSizesOfTrees) (fits : RuntimeFramesFit) (weigh : ProgramFramesAreLight) (linked : ProgramsAreLinked)
-    (rule : Rule) (program : CheckedProgram) (allocations : List Allocation) (literals : List Literal)
+    (reduced : PreparedIsReduced) (passes : Passes) (rule : Rule) (program : CheckedProgram) (allocations : List Allocation) (literals : List Literal)
     (accepted : IsAccepted program) (light : TreesAreLight program (from_list (links_of program.body)))
-    (c : IsCompiled (compilation_of rule program allocations literals)) where
+    (c : IsCompiled (compilation_of passes rule program allocations literals)) where
   abbrev p : Compilation
-  p = compilation_of rule program allocations literals
+  p = compilation_of passes rule program allocations literals
 
   abbrev own_functions : List (Function Ts)
   own_functions = (translated (findings_of program) program.body).functions
 
-  -- none passes anything
-  passes : (f : Function Ts) → Contains p.trees.functions f → f.out ≡ 0
-  passes f there =
+  -- no function before the passes over trees hands anything on
+  hands_nothing : (f : Function Ts) → Contains (own_functions ++ runtime.functions) f → f.out ≡ 0
+  hands_nothing f there =
       each_contained PassesNothing (own_functions ++ runtime.functions)
       (each_append PassesNothing own_functions runtime.functions (nothing_is_passed (findings_of program) program.body) runtime_passes) f there
 
+  -- each function that is compiled stands in the place of one of these
+  in_places : AllZip ReducesTo (own_functions ++ runtime.functions) p.trees.functions
+  in_places = reduced passes (trees_of program)
+
   weighed : AreWithinWeight (program_functions program.body) allocations
-  weighed = weigh rule program (from_list (links_of program.body)) allocations accepted c.functions
+  weighed =
+      weigh rule program (from_list (links_of program.body)) allocations accepted
+      (record { functions = p.trees.functions; reduced = in_places; allocated = c.functions })
 
   -- an allocation's frame
   frame_there : (a : Allocation) → Contains allocations a → frames p a.done.frame.label.0 ≡ size_of a.done.frame
@@ -121,12 +134,18 @@ module _ (sizes_of_trees : FramesAreSizesOfTrees) (fits : RuntimeFramesFit) (wei
       (get_or-map (λ (x : Allocation). x.done) allocations k a a.done l ∙ ap (λ (x : Allocation). x.done) e)
 
   all_sized : AllZip (HasSizeOf (frames p)) (own_functions ++ runtime.functions) allocations
-  all_sized = sized rule (frames p) (own_functions ++ runtime.functions) allocations c.functions frame_there
+  all_sized = sized rule (frames p) (own_functions ++ runtime.functions) p.trees.functions allocations in_places c.functions frame_there
+
+  sized_before : (f : Function Ts) → Contains (own_functions ++ runtime.functions) f → IsSizeOf f (frames p f.label)
+  sized_before f there =
+      let place = in_place (own_functions ++ runtime.functions) p.trees.functions in_places f there in
+      size_before (frames p) f place.function place.reduced
+      (sizes_of_trees p c place.function place.there (place.reduced.out ∙ hands_nothing f there))
 
   weight_bounds : (f : Function Ts) → Contains own_functions f → frames p f.label ≤ bound_in program f.label
   weight_bounds f there =
       bounded (frames p) (program_functions program.body) own_functions runtime.functions weighed.own weighed.rest
-      (map (λ l. l.label) p.trees.literals) light weighed.within
+      (map (λ l. l.label) (trees_of program).literals) light weighed.within
       (subst (λ made. AllZip (HasSizeOf (frames p)) (own_functions ++ runtime.functions) made) weighed.all all_sized)
       (linked (findings_of program) program.body).apart f there
 
@@ -138,7 +157,7 @@ module _ (sizes_of_trees : FramesAreSizesOfTrees) (fits : RuntimeFramesFit) (wei
 
   pub sizes_are_allowed : AreAllowed names (trees_of program).functions (bound_in program) (frames p)
   sizes_are_allowed = record {
-    each = λ f there. sizes_of_trees p c f there (passes f there);
+    each = sized_before;
     source = λ f there high. by_own f high (Contains-append_cases own_functions runtime.functions f there);
-    runtime = fits rule program allocations literals c;
+    runtime = fits passes rule program allocations literals c;
   }

@@ -4,9 +4,11 @@ ghost use Rattle.tg_compile_proof.specs.laws.Laws.{
   CompiledAgrees,
   CompileIsCorrect,
   CompiledMayRun,
+  FollowingGoesOn,
   FragmentsHaveWords,
   FramesAreSizes,
   FramesAreSizesOfTrees,
+  PrepareIsCorrect,
   ProgramsAreTranslated,
   RuntimeFramesFit,
 };
@@ -24,9 +26,11 @@ ghost use Rattle.tg_compile_proof.specs.laws.TextLaws.{
 
 use tg_canon_trace_proof::flatten_is_correct;
 use tg_code_bounds::functions_are_bounded;
+use tg_compile::prepared_is_reduced;
 use tg_correctness::{ends_tell, image_agrees, passes_agree};
 use tg_emit_laws::program_has_image;
 use tg_emit_proof::emit_is_correct;
+use tg_fold::fold_is_correct;
 use tg_isa::machine_runs_by_fuel;
 use tg_literal_bounds::{strings_fit_text, trees_are_of_words};
 use tg_munch::code_names_its_own;
@@ -70,10 +74,20 @@ pub fn compiled_may_run()
     ensures trees { FramesAreSizesOfTrees }
 {}
 
+/// The laws of passes over trees that may be switched on: what they make of a program does what it
+/// did, with no more work, and so it follows a source that the program follows. They do nothing.
+pub fn prepare_is_correct()
+    ensures programs { PrepareIsCorrect }
+    ensures following { FollowingGoesOn }
+{
+    fold_is_correct();
+}
+
 /// The law of the runtime's frames: those that are open at once have 4,096 bytes.
 pub fn runtime_frames_fit()
     ensures { RuntimeFramesFit }
 {
+    prepared_is_reduced();
     programs_are_linked();
     routines_are_closed();
     functions_are_bounded();
@@ -120,11 +134,14 @@ pub fn compiled_agrees()
     passes_agree();
 }
 
-/// The law of the translation of compiled programs: their constants are words, and their trees
-/// follow the program, with frames of the sizes that their allocations have.
+/// The law of the translation of compiled programs, and of the passes over trees after it: their
+/// constants are words, and their trees follow the program, with frames of the sizes that their
+/// allocations have.
 pub fn programs_are_translated()
     ensures { ProgramsAreTranslated }
 {
+    prepared_is_reduced();
+    prepare_is_correct();
     translate_is_correct();
     trees_are_light();
     frames_are_light();
@@ -135,10 +152,11 @@ pub fn programs_are_translated()
 }
 
 /// The headline: an accepted program whose ints are words is compiled to a text whose image does
-/// what the program means.
+/// what the program means, whatever passes are switched on.
 pub fn compile_is_correct()
     ensures { CompileIsCorrect }
 {
+    prepared_is_reduced();
     programs_are_translated();
     compiled_agrees();
     program_has_image();

@@ -24,6 +24,7 @@ use Rattle.tg_driver.specs.laws.AsMeant.{IsGenerated}
 use Rattle.tg_driver.specs.Endings.{end_status}
 use Rattle.tg_driver.specs.laws.OfTexts.{most_of}
 use Rattle.tg_driver.specs.laws.AsMeant.{InMode}
+use Rattle.tg_driver.specs.Passes.{passes_of}
 use Rattle.tg_driver.specs.Statuses.{status_of, line_of}
 use Rattle.tg_driver.specs.Watching.{HasToldRun, if_watched}
 use Rattle.tg_driver.specs.glue.Watched.{run_in}
@@ -167,7 +168,7 @@ settled c a file Run reports answer good reads h = run_more IsAsMeant (told_runs
 settled c a file Exec reports answer good reads h = exec_more (told_runs c reports a) (settled_runs c reports a) a _ answer
     (λ image end is. ends_and_tells c.streams (if_watched a.flags c.reporters) reports image a.heap a.stack a.steps end good.all_read good.all_written)
     (to_text c.shelf a.file 67108865 _ file answer (good.there (reads tt)) good.readable h.1)
-settled c a file Alloc reports answer good reads h = of_written c.streams.out _ _ answer good.all_written (listed_source c.rule _)
+settled c a file Alloc reports answer good reads h = of_written c.streams.out _ _ answer good.all_written (listed_source (passes_of a) c.rule _)
     (to_text c.shelf a.file 262145 _ file answer (good.there (reads tt)) good.readable h.2)
 settled c a file Gen reports answer good reads h = of_gen c.streams.out a answer good.all_written h.3
 settled c a file Format reports answer good reads h = of_formatted c.streams.out _ answer good.all_written

@@ -53,15 +53,15 @@ written_alike text Unwritten Unwritten p q = inr (tt, tt)
 written_alike text Unwritten _ p q = absurd q
 written_alike text _ b p q = absurd p
 
-run_alike : (runs others : RunRelation) (asked : Asked) (text : List ℕ) (a b : Answer) →
-    IsRun runs asked text a → IsRun others asked text b → (a ≡ b) ⊎ (HasStarted a × HasStarted b)
-run_alike runs others asked text (Faulty f) (Faulty g) p q = inl (ap Faulty (fault_once_told text f g p q))
-run_alike runs others asked text (Faulty f) (Finished e) p q = absurd (no_fault_of_meant others text asked.heap asked.stack asked.steps f e p q)
-run_alike runs others asked text (Faulty f) _ p q = absurd q
-run_alike runs others asked text (Finished d) (Faulty f) p q = absurd (no_fault_of_meant runs text asked.heap asked.stack asked.steps f d q p)
-run_alike runs others asked text (Finished d) (Finished e) p q = inr (tt, tt)
-run_alike runs others asked text (Finished d) _ p q = absurd q
-run_alike runs others asked text _ b p q = absurd p
+run_alike : (runs others : RunRelation) (one other : Asked) (text : List ℕ) (a b : Answer) →
+    IsRun runs one text a → IsRun others other text b → (a ≡ b) ⊎ (HasStarted a × HasStarted b)
+run_alike runs others one other text (Faulty f) (Faulty g) p q = inl (ap Faulty (fault_once_told text f g p q))
+run_alike runs others one other text (Faulty f) (Finished e) p q = absurd (no_fault_of_meant others text other.heap other.stack other.steps f e p q)
+run_alike runs others one other text (Faulty f) _ p q = absurd q
+run_alike runs others one other text (Finished d) (Faulty f) p q = absurd (no_fault_of_meant runs text one.heap one.stack one.steps f d q p)
+run_alike runs others one other text (Finished d) (Finished e) p q = inr (tt, tt)
+run_alike runs others one other text (Finished d) _ p q = absurd q
+run_alike runs others one other text _ b p q = absurd p
 
 generated_alike : (a b : Answer) → IsGenerable a → IsGenerable b → (a ≡ b) ⊎ (HasStarted a × HasStarted b)
 generated_alike (Finished d) (Finished e) p q = inr (tt, tt)
@@ -113,26 +113,26 @@ ended_once runs others asked text d e alike p q =
     alike q.image d e (subst P (same_image text p.image q.image p.assembles q.assembles) p.run) q.run
 
 -- in `exec` two answers are one, or two ends
-pub executed_alike : (runs others : RunRelation) (asked : Asked) (text : List ℕ) (a b : Answer) → IsExecuted runs asked text a →
-    IsExecuted others asked text b → (a ≡ b) ⊎ (HasStarted a × HasStarted b)
+pub executed_alike : (runs others : RunRelation) (one other : Asked) (text : List ℕ) (a b : Answer) → IsExecuted runs one text a →
+    IsExecuted others other text b → (a ≡ b) ⊎ (HasStarted a × HasStarted b)
 unfolding bad_as
-executed_alike runs others asked text TooLong TooLong p q = inl refl
-executed_alike runs others asked text TooLong (BadLine r n) p q = absurd (too_long text q.short p)
-executed_alike runs others asked text TooLong (Finished e) p q = absurd (too_long text q.short p)
-executed_alike runs others asked text TooLong _ p q = absurd q
-executed_alike runs others asked text (BadLine r n) TooLong p q = absurd (too_long text p.short q)
-executed_alike runs others asked text (BadLine r n) (BadLine s k) p q = inl (ap bad_as (same_fault text _ _ p.fault q.fault))
-executed_alike runs others asked text (BadLine r n) (Finished e) p q = absurd (no_image text _ _ q.assembles p.fault)
-executed_alike runs others asked text (BadLine r n) _ p q = absurd q
-executed_alike runs others asked text (Finished d) TooLong p q = absurd (too_long text p.short q)
-executed_alike runs others asked text (Finished d) (BadLine s k) p q = absurd (no_image text _ _ p.assembles q.fault)
-executed_alike runs others asked text (Finished d) (Finished e) p q = inr (tt, tt)
-executed_alike runs others asked text (Finished d) _ p q = absurd q
-executed_alike runs others asked text _ b p q = absurd p
+executed_alike runs others one other text TooLong TooLong p q = inl refl
+executed_alike runs others one other text TooLong (BadLine r n) p q = absurd (too_long text q.short p)
+executed_alike runs others one other text TooLong (Finished e) p q = absurd (too_long text q.short p)
+executed_alike runs others one other text TooLong _ p q = absurd q
+executed_alike runs others one other text (BadLine r n) TooLong p q = absurd (too_long text p.short q)
+executed_alike runs others one other text (BadLine r n) (BadLine s k) p q = inl (ap bad_as (same_fault text _ _ p.fault q.fault))
+executed_alike runs others one other text (BadLine r n) (Finished e) p q = absurd (no_image text _ _ q.assembles p.fault)
+executed_alike runs others one other text (BadLine r n) _ p q = absurd q
+executed_alike runs others one other text (Finished d) TooLong p q = absurd (too_long text p.short q)
+executed_alike runs others one other text (Finished d) (BadLine s k) p q = absurd (no_image text _ _ p.assembles q.fault)
+executed_alike runs others one other text (Finished d) (Finished e) p q = inr (tt, tt)
+executed_alike runs others one other text (Finished d) _ p q = absurd q
+executed_alike runs others one other text _ b p q = absurd p
 
 executed_once : (runs others : RunRelation) (asked : Asked) (text : List ℕ) (a b : Answer) → AreAlike runs others asked →
     IsExecuted runs asked text a → IsExecuted others asked text b → a ≡ b
-executed_once runs others asked text a b alike p q = by a b p q (executed_alike runs others asked text a b p q)
+executed_once runs others asked text a b alike p q = by a b p q (executed_alike runs others asked asked text a b p q)
   where
     by : (a b : Answer) → IsExecuted runs asked text a → IsExecuted others asked text b → (a ≡ b) ⊎ (HasStarted a × HasStarted b) → a ≡ b
     by a b p q (inl e) = e
@@ -158,15 +158,15 @@ executed_faultless s reporters reports asked text (Finished e) f h = record {
 executed_faultless s reporters reports asked text _ f h = absurd h
 
 -- whatever the mode
-pub due_alike : (runs others : RunRelation) (mode : Mode) (asked : Asked) (text : List ℕ) (a b : Answer) →
-    IsDueOfText runs mode asked text a → IsDueOfText others mode asked text b → (a ≡ b) ⊎ (HasStarted a × HasStarted b)
-due_alike runs others Check asked text a b p q = inl (checked_once text a b p q)
-due_alike runs others Build asked text a b p q = written_alike text a b p q
-due_alike runs others Run asked text a b p q = run_alike runs others asked text a b p q
-due_alike runs others Exec asked text a b p q = executed_alike runs others asked text a b p q
-due_alike runs others Alloc asked text a b p q = written_alike text a b p q
-due_alike runs others Gen asked text a b p q = generated_alike a b p q
-due_alike runs others Format asked text a b p q = formattable_alike text a b p q
+pub due_alike : (runs others : RunRelation) (mode : Mode) (one other : Asked) (text : List ℕ) (a b : Answer) →
+    IsDueOfText runs mode one text a → IsDueOfText others mode other text b → (a ≡ b) ⊎ (HasStarted a × HasStarted b)
+due_alike runs others Check one other text a b p q = inl (checked_once text a b p q)
+due_alike runs others Build one other text a b p q = written_alike text a b p q
+due_alike runs others Run one other text a b p q = run_alike runs others one other text a b p q
+due_alike runs others Exec one other text a b p q = executed_alike runs others one other text a b p q
+due_alike runs others Alloc one other text a b p q = written_alike text a b p q
+due_alike runs others Gen one other text a b p q = generated_alike a b p q
+due_alike runs others Format one other text a b p q = formattable_alike text a b p q
 
 pub exec_once : (runs others : RunRelation) (asked : Asked) (text : List ℕ) (a b : Answer) →
     ((image : Image) (d e : RunEnd) → runs image asked.heap asked.stack asked.steps d → others image asked.heap asked.stack asked.steps e → d ≡ e) →

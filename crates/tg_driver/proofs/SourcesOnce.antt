@@ -4,6 +4,7 @@ use Rattle.tg_machine_state.specs.declared.ends.RunEnd.{RunEnd}
 use Rattle.tg_irc_definition.specs.Policies.{Rule as SpillRule}
 use Rattle.tg_regalloc.specs.declared.allocations.Allocation.{Allocation}
 use Rattle.tg_driver.specs.declared.faults.Fault.{Fault}
+use Rattle.tg_compile.specs.declared.passes.Passes.{Passes}
 use Rattle.tg_correctness.specs.Sources.{IsSource}
 use Rattle.tg_driver.specs.Faults.{IsFaultOf}
 use Rattle.tg_correctness.specs.Assemblies.{IsAsMeant}
@@ -20,12 +21,12 @@ no_fault text f h s = source_excludes text f.rule h.at s.names s.tokens s.progra
 pub meant_source : (text assembly : List ℕ) → IsAsMeant text assembly → IsSource text
 meant_source text assembly m = record { names = m.names; tokens = m.tokens; program = m.program; source = m.source }
 
-compiled_source : (rule : SpillRule) (text : List ℕ) (allocations : List Allocation) (assembly : List ℕ) →
-    CompilesTo rule text allocations assembly → IsSource text
-compiled_source rule text allocations assembly c = record { names = c.names; tokens = c.tokens; program = c.program; source = c.source }
+compiled_source : (passes : Passes) (rule : SpillRule) (text : List ℕ) (allocations : List Allocation) (assembly : List ℕ) →
+    CompilesTo passes rule text allocations assembly → IsSource text
+compiled_source passes rule text allocations assembly c = record { names = c.names; tokens = c.tokens; program = c.program; source = c.source }
 
-pub listed_source : (rule : SpillRule) (text listing : List ℕ) → Lists rule text listing → IsSource text
-listed_source rule text listing b = compiled_source rule text b.allocations b.assembly b.compiles
+pub listed_source : (passes : Passes) (rule : SpillRule) (text listing : List ℕ) → Lists passes rule text listing → IsSource text
+listed_source passes rule text listing b = compiled_source passes rule text b.allocations b.assembly b.compiles
 
 pub no_fault_of_meant : (runs : RunRelation) (text : List ℕ) (heap stack steps : ℕ) (f : Fault) (end : RunEnd) →
     IsFaultOf text f → EndsAsMeant runs text heap stack steps end → ⊥

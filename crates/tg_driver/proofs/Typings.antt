@@ -15,6 +15,7 @@ use Rattle.tg_irc_definition.specs.Policies.{Rule as SpillRule}
 use Rattle.tg_regalloc.specs.declared.allocations.Allocation.{Allocation}
 use Rattle.tg_regalloc_report.specs.Listing.{listed}
 use Rattle.tg_literal_bounds.specs.laws.Laws.{StaticsFitSegment}
+use Rattle.tg_compile.specs.declared.passes.Passes.{Passes}
 use Rattle.tg_compile.specs.Compiling.{LiteralsFit, findings_of, Compiles, HasImage}
 use Rattle.tg_driver.specs.laws.Meanings.{SourcesAreNeverStuck}
 use Rattle.tg_correctness.specs.Sources.{IsSource, IsSourceOf}
@@ -55,10 +56,10 @@ literals_fit law text names program t notes =
     t.tree.has_tokens.short
 
 -- a program that was compiled, and what the text is compiled to
-pub compiles_to : (rule : SpillRule) (text : List ℕ) (names : List (List ℕ)) (program : Exp) (sorted : List Note)
+pub compiles_to : (passes : Passes) (rule : SpillRule) (text : List ℕ) (names : List (List ℕ)) (program : Exp) (sorted : List Note)
     (allocations : List Allocation) (assembly : List ℕ) → HasNamedTree text names program → Accepts (finding names program) sorted →
-    Compiles rule sorted program allocations assembly → CompilesTo rule text allocations assembly
-compiles_to rule text names program sorted allocations assembly t h compiles =
+    Compiles passes rule sorted program allocations assembly → CompilesTo passes rule text allocations assembly
+compiles_to passes rule text names program sorted allocations assembly t h compiles =
     let n = noted (finding names program) sorted h in
     record {
       names = names;
@@ -71,24 +72,24 @@ compiles_to rule text names program sorted allocations assembly t h compiles =
     }
 
 -- so that is built, the allocations are listed, and the assembly text is assembled without a fault
-pub builds : (rule : SpillRule) (text : List ℕ) (allocations : List Allocation) (assembly : List ℕ) →
-    CompilesTo rule text allocations assembly → Builds rule text assembly
-builds rule text allocations assembly h = record { allocations = allocations; compiles = h }
+pub builds : (passes : Passes) (rule : SpillRule) (text : List ℕ) (allocations : List Allocation) (assembly : List ℕ) →
+    CompilesTo passes rule text allocations assembly → Builds passes rule text assembly
+builds passes rule text allocations assembly h = record { allocations = allocations; compiles = h }
 
-pub lists : (rule : SpillRule) (text : List ℕ) (allocations : List Allocation) (assembly : List ℕ) →
-    CompilesTo rule text allocations assembly → Lists rule text (listed allocations)
-lists rule text allocations assembly h = record { allocations = allocations; assembly = assembly; compiles = h; listing_is = refl }
+pub lists : (passes : Passes) (rule : SpillRule) (text : List ℕ) (allocations : List Allocation) (assembly : List ℕ) →
+    CompilesTo passes rule text allocations assembly → Lists passes rule text (listed allocations)
+lists passes rule text allocations assembly h = record { allocations = allocations; assembly = assembly; compiles = h; listing_is = refl }
 
 -- and what is wanted of a source is a text that may be written of it
-pub writes_wanted : (w : Wanted) (rule : SpillRule) (text : List ℕ) (allocations : List Allocation) (assembly : List ℕ) →
-    CompilesTo rule text allocations assembly → writes_of w rule text (wanted_text w allocations assembly)
-writes_wanted Assembly rule text allocations assembly h = builds rule text allocations assembly h
-writes_wanted Allocations rule text allocations assembly h = lists rule text allocations assembly h
+pub writes_wanted : (w : Wanted) (passes : Passes) (rule : SpillRule) (text : List ℕ) (allocations : List Allocation) (assembly : List ℕ) →
+    CompilesTo passes rule text allocations assembly → writes_of w passes rule text (wanted_text w allocations assembly)
+writes_wanted Assembly passes rule text allocations assembly h = builds passes rule text allocations assembly h
+writes_wanted Allocations passes rule text allocations assembly h = lists passes rule text allocations assembly h
 
-pub has_image : (rule : SpillRule) (text : List ℕ) (allocations : List Allocation) (assembly : List ℕ) →
-    CompilesTo rule text allocations assembly → HasImage assembly
-has_image rule text allocations assembly h =
-    compiled_has_image rule h.notes h.program allocations assembly h.compiles
+pub has_image : (passes : Passes) (rule : SpillRule) (text : List ℕ) (allocations : List Allocation) (assembly : List ℕ) →
+    CompilesTo passes rule text allocations assembly → HasImage assembly
+has_image passes rule text allocations assembly h =
+    compiled_has_image passes rule h.notes h.program allocations assembly h.compiles
 
 pub is_source : (text : List ℕ) (names : List (List ℕ)) (program : Exp) (sorted : List Note) → HasNamedTree text names program →
     Accepts (finding names program) sorted → IsSource text

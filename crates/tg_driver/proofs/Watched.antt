@@ -23,11 +23,13 @@ use Rattle.tg_driver.specs.declared.answers.Answer.TheVariants.{Usage, Faulty, B
 use Rattle.tg_driver.specs.Calls.{Stream, stream_of, Streams, streams_of, Shelved, Call, Takes, part}
 use Rattle.tg_driver.specs.OfFiles.{OfFile, unreadable, read}
 use Rattle.tg_driver.specs.glue.PrivateCalls.{HasStarted}
+use Rattle.tg_driver.specs.Passes.{passes_of}
 use Rattle.tg_driver.specs.Runs.{RunRelation}
 use Rattle.tg_driver.specs.RunMode.{IsRunBy}
 use Rattle.tg_driver.specs.GenMode.{IsGeneratedBy}
 use Rattle.tg_driver.specs.Writing.{TextRelation, Texts, IsWritten}
 use Rattle.tg_driver.specs.Compiled.{texts_compiled}
+use Rattle.tg_compile.specs.declared.passes.Passes.{Passes}
 use Rattle.tg_compile_proof.specs.laws.TextLaws.{BuildIsCorrect}
 use Rattle.tg_driver.specs.ExecMode.{IsExecuted}
 use Rattle.tg_driver.specs.Modes.{InModeBy, texts_meant}
@@ -71,7 +73,7 @@ pub in_mode_more : {H I O : Type 0} (texts : Texts) (runs others : RunRelation) 
 in_mode_more texts runs others Check shelf s a answer more h = h
 in_mode_more texts runs others Build shelf s a answer more h = h
 in_mode_more texts runs others Run shelf s a answer more h =
-    (h.0, file_more shelf a.file 262145 _ _ answer (λ text. run_more texts.assembly runs others a text answer more) h.1)
+    (h.0, file_more shelf a.file 262145 _ _ answer (λ text. run_more (texts.assembly (passes_of a)) runs others a text answer more) h.1)
 in_mode_more texts runs others Exec shelf s a answer more h =
     (h.0, file_more shelf a.file 67108865 _ _ answer (λ text. exec_more runs others a text answer more) h.1)
 in_mode_more texts runs others Alloc shelf s a answer more h = h
@@ -136,7 +138,8 @@ module _ {W I O : Type 0} (stands : W → List Seen → ℕ → Type 0) (report 
   }
 
   told_run : {H : Type 0} (texts : Texts) (shelf : Shelved H) (a : Asked) (end : RunEnd) (old : List W) →
-      OfFile shelf a.file 262145 (IsRunBy texts.assembly (HasWatchedRun stands report old new s) a) (Finished end) → Told texts Run shelf a end old
+      OfFile shelf a.file 262145 (IsRunBy (texts.assembly (passes_of a)) (HasWatchedRun stands report old new s) a) (Finished end) →
+      Told texts Run shelf a end old
   told_run texts shelf a end old (unreadable is u) = absurd (cc)
   told_run texts shelf a end old (read text front h) =
       let image = h.ran.image in
@@ -237,8 +240,9 @@ answers_by by rule c status reports answer is due before_end unasked told =
     answers_of (by c.rule) c status reports answer (subst P is due) before_end unasked told
 
 -- what is said of texts, more weakly
-module _ (texts others : Texts) (assembly : (source written : List ℕ) → texts.assembly source written → others.assembly source written)
-    (listing : (source written : List ℕ) → texts.listing source written → others.listing source written) where
+module _ (texts others : Texts)
+    (assembly : (passes : Passes) (source written : List ℕ) → texts.assembly passes source written → others.assembly passes source written)
+    (listing : (passes : Passes) (source written : List ℕ) → texts.listing passes source written → others.listing passes source written) where
   written_texts : {O : Type 0} (out : Stream O) (writes wider : TextRelation) →
       ((source written : List ℕ) → writes source written → wider source written) → (source : List ℕ) (answer : Answer) →
       IsWritten out writes source answer → IsWritten out wider source answer
@@ -247,28 +251,38 @@ module _ (texts others : Texts) (assembly : (source written : List ℕ) → text
   written_texts out writes wider more source Unwritten h = record { written = h.written; is_of = more source h.written h.is_of; takes = h.takes }
   written_texts out writes wider more source _ h = absurd h
 
-  run_texts : (runs : RunRelation) (a : Asked) (text : List ℕ) (answer : Answer) → IsRunBy texts.assembly runs a text answer →
-      IsRunBy others.assembly runs a text answer
+  run_texts : (runs : RunRelation) (a : Asked) (text : List ℕ) (answer : Answer) → IsRunBy (texts.assembly (passes_of a)) runs a text answer →
+      IsRunBy (others.assembly (passes_of a)) runs a text answer
   run_texts runs a text (Faulty f) h = h
-  run_texts runs a text (Finished end) h = record { assembly = h.assembly; meant = assembly text h.assembly h.meant; ran = h.ran }
+  run_texts runs a text (Finished end) h = record { assembly = h.assembly; meant = assembly (passes_of a) text h.assembly h.meant; ran = h.ran }
   run_texts runs a text _ h = absurd h
 
-  gen_texts : {O : Type 0} (out : Stream O) (a : Asked) (answer : Answer) → IsGeneratedBy texts.assembly out a answer →
-      IsGeneratedBy others.assembly out a answer
+  gen_texts : {O : Type 0} (out : Stream O) (a : Asked) (answer : Answer) → IsGeneratedBy (texts.assembly (passes_of a)) out a answer →
+      IsGeneratedBy (others.assembly (passes_of a)) out a answer
   gen_texts out a answer h = record {
     end = h.end;
-    ends = record { assembly = h.ends.assembly; meant = assembly _ h.ends.assembly h.ends.meant; ran = h.ends.ran };
+    ends = record { assembly = h.ends.assembly; meant = assembly (passes_of a) _ h.ends.assembly h.ends.meant; ran = h.ends.ran };
   }
 
   in_mode_texts : {H I O : Type 0} (runs : RunRelation) (mode : Mode) (shelf : Shelved H) (s : Streams I O) (a : Asked) (answer : Answer) →
       InModeBy texts runs mode shelf s a answer → InModeBy others runs mode shelf s a answer
   in_mode_texts runs Check shelf s a answer h = h
   in_mode_texts runs Build shelf s a answer h =
-      (h.0, h.1, file_more shelf a.file 262145 _ _ answer (λ text. written_texts s.out texts.assembly others.assembly assembly text answer) h.2)
+      let more = assembly (passes_of a) in (
+        h.0,
+        h.1,
+        file_more shelf a.file 262145 _ _ answer
+            (λ text. written_texts s.out (texts.assembly (passes_of a)) (others.assembly (passes_of a)) more text answer) h.2,
+      )
   in_mode_texts runs Run shelf s a answer h = (h.0, file_more shelf a.file 262145 _ _ answer (λ text. run_texts runs a text answer) h.1)
   in_mode_texts runs Exec shelf s a answer h = h
   in_mode_texts runs Alloc shelf s a answer h =
-      (h.0, h.1, file_more shelf a.file 262145 _ _ answer (λ text. written_texts s.out texts.listing others.listing listing text answer) h.2)
+      let more = listing (passes_of a) in (
+        h.0,
+        h.1,
+        file_more shelf a.file 262145 _ _ answer
+            (λ text. written_texts s.out (texts.listing (passes_of a)) (others.listing (passes_of a)) more text answer) h.2,
+      )
   in_mode_texts runs Gen shelf s a answer h = (h.0, h.1, h.2, gen_texts s.out a answer h.3)
   in_mode_texts runs Format shelf s a answer h = h
 
@@ -282,7 +296,7 @@ module _ (texts others : Texts) (assembly : (source written : List ℕ) → text
 pub due_as_meant : {H I O : Type 0} → BuildIsCorrect → (rule : SpillRule) (runs : Asked → RunRelation) (words : List (List ℕ)) (shelf : Shelved H)
     (s : Streams I O) (answer : Answer) → IsDueBy (texts_compiled rule) runs words shelf s answer → IsDueBy (texts_meant rule) runs words shelf s answer
 due_as_meant correct rule runs words shelf s answer h =
-    due_texts (texts_compiled rule) (texts_meant rule) (correct rule) (λ source written l. l) runs words shelf s answer h
+    due_texts (texts_compiled rule) (texts_meant rule) (λ passes. correct passes rule) (λ passes source written l. l) runs words shelf s answer h
 
 -- a machine that ran with nobody watching
 pub saw_nothing : {W I O : Type 0} (stands : W → List Seen → ℕ → Type 0) (report : W → Report) (watchers : List W)

@@ -7,11 +7,15 @@ use Rattle.tg_driver.specs.Answered.{AnswersBy}
 use Rattle.tg_driver.specs.Calls.{Call}
 use Rattle.tg_driver.specs.Writing.{Texts}
 
--- assembly texts that the source is compiled to by the rule of the call's policy, and listings by it
+-- assembly texts that the source is compiled to with the passes by the rule of the call's policy, and
+-- listings by it
 abbrev pub texts_compiled : SpillRule → Texts
-texts_compiled rule = record { assembly = Builds rule; listing = Lists rule }
+texts_compiled rule = record {
+  assembly = λ passes. Builds passes rule;
+  listing = λ passes. Lists passes rule;
+}
 
 -- what the program answers is due by these: so `build` writes, and `run` and `gen` run, what their
--- source is compiled to by the rule of the policy
+-- source is compiled to with the passes that are asked for, by the rule of the policy
 abbrev pub AnswersCompiled : {H I O E : Type 0} → Call H I O E → (status : ℕ) → Type 0
 AnswersCompiled c status = AnswersBy (texts_compiled c.rule) c status

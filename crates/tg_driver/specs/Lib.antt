@@ -5,6 +5,7 @@ pub mod OfFiles
 pub mod Runs
 pub mod Watching
 pub mod MeantRuns
+pub mod Passes
 pub mod CheckMode
 pub mod Writing
 pub mod BuildMode

@@ -7,6 +7,7 @@ use Rattle.tg_command.specs.declared.modes.Mode.TheVariants.{Format}
 use Rattle.tg_command.specs.Commands.{Asked}
 use Rattle.tg_driver.specs.declared.answers.Answer.{Answer}
 use Rattle.tg_driver.specs.Calls.{Shelved, Streams}
+use Rattle.tg_driver.specs.Passes.{passes_of}
 use Rattle.tg_driver.specs.Runs.{RunRelation}
 use Rattle.tg_driver.specs.CheckMode.{ByCheck}
 use Rattle.tg_driver.specs.Writing.{Texts}
@@ -18,19 +19,26 @@ use Rattle.tg_driver.specs.AllocMode.{Lists, ByAlloc}
 use Rattle.tg_driver.specs.GenMode.{ByGen}
 use Rattle.tg_driver.specs.FormatMode.{ByFormat}
 
--- the answer is due in the mode, by these texts of sources, and of the runs of `run` and of `exec`
--- this is said
+-- the answer is due in the mode, by these texts of sources with the passes that are asked for, and of
+-- the runs of `run` and of `exec` this is said
 abbrev pub InModeBy :
     {H I O : Type 0} → Texts → (runs : RunRelation) →
     Mode → Shelved H → Streams I O → Asked → Answer → Type 0
 InModeBy texts runs Check shelf s asked answer = ByCheck shelf s asked answer
-InModeBy texts runs Build shelf s asked answer = ByBuild texts.assembly shelf s asked answer
-InModeBy texts runs Run shelf s asked answer = ByRun texts.assembly runs shelf s asked answer
+InModeBy texts runs Build shelf s asked answer =
+    ByBuild (texts.assembly (passes_of asked)) shelf s asked answer
+InModeBy texts runs Run shelf s asked answer =
+    ByRun (texts.assembly (passes_of asked)) runs shelf s asked answer
 InModeBy texts runs Exec shelf s asked answer = ByExec runs shelf s asked answer
-InModeBy texts runs Alloc shelf s asked answer = ByAlloc texts.listing shelf s asked answer
-InModeBy texts runs Gen shelf s asked answer = ByGen texts.assembly shelf s asked answer
+InModeBy texts runs Alloc shelf s asked answer =
+    ByAlloc (texts.listing (passes_of asked)) shelf s asked answer
+InModeBy texts runs Gen shelf s asked answer =
+    ByGen (texts.assembly (passes_of asked)) shelf s asked answer
 InModeBy texts runs Format shelf s asked answer = ByFormat shelf s asked answer
 
 -- assembly texts that do what the source means, and listings by the rule of the call's policy
 abbrev pub texts_meant : SpillRule → Texts
-texts_meant rule = record { assembly = IsAsMeant; listing = Lists rule }
+texts_meant rule = record {
+  assembly = λ passes. IsAsMeant;
+  listing = λ passes. Lists passes rule;
+}

@@ -97,7 +97,8 @@ bad_line_text rule line = codes "line " ++ (decimal line ++ (codes ": " ++ asm_t
 -- each line is ended by byte 10; an exit, an accepted source and a text that was written have none
 abbrev pub line_of : Answer → List ℕ
 line_of Usage =
-    ended (codes "usage: tiger MODE FILE [--heap BYTES] [--stack BYTES] [--steps COUNT] [--watch]")
+    ended (codes "usage: tiger MODE FILE [--heap BYTES] [--stack BYTES] [--steps COUNT]"
+    ++ codes " [--watch] [--fold]")
 line_of (Faulty fault) = ended (fault_text fault)
 line_of (BadLine rule line) = ended (bad_line_text rule line)
 line_of TooLong = ended (codes "line 1: A10 file too long")

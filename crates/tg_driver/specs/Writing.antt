@@ -1,6 +1,7 @@
 -- Modes that read a source, and write a text of it to the output: what `build` and `alloc` share.
 use Rattle.std.specs.Prelude.{List, ℕ}
 use Rattle.tg_command.specs.Commands.{Asked}
+use Rattle.tg_compile.specs.declared.passes.Passes.{Passes}
 use Rattle.tg_driver.specs.declared.answers.Answer.{Answer}
 use Rattle.tg_driver.specs.declared.answers.Answer.TheVariants.{Faulty, Written, Unwritten}
 use Rattle.tg_driver.specs.Calls.{Shelved, Stream, Streams, Stays, Takes}
@@ -15,10 +16,11 @@ TakesText out text answer = Takes out text Written Unwritten answer
 abbrev pub TextRelation : Type 1
 TextRelation = (source written : List ℕ) → Type 0
 
--- which assembly texts a source may have, and which listings of what the allocator did
+-- which assembly texts a source may have, and which listings of what the allocator did, with the
+-- passes that are switched on
 pub record Texts : Type 1 where
-  pub assembly : TextRelation
-  pub listing : TextRelation
+  pub assembly : Passes → TextRelation
+  pub listing : Passes → TextRelation
 
 -- the sink took such a text of the source, or a write of it failed
 pub record WritesText {O : Type 0} (out : Stream O) (writes : TextRelation)

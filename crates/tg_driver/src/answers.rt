@@ -37,7 +37,10 @@ pub(crate) enum Answer {
 pub fn usage() -> &'static str
     ensures { result.now ≡ line_of Answer.Usage }
 {
-    "tiger: usage: tiger MODE FILE [--heap BYTES] [--stack BYTES] [--steps COUNT] [--watch]\n"
+    concat!(
+        "tiger: usage: tiger MODE FILE [--heap BYTES] [--stack BYTES] [--steps COUNT]",
+        " [--watch] [--fold]\n"
+    )
 }
 
 /// The line on the error sink of an answer whose line is a text of its own; an accepted source

@@ -18,9 +18,10 @@ ghost use Rattle.tg_driver.specs.glue.PrivateCalls.{
   OrMemory,
   StaysBeforeStart,
 };
+ghost use Rattle.tg_driver.specs.Passes.{passes_of};
 
 use crate::answers::Answer;
-use crate::compiling::compile_accepted;
+use crate::compiling::{compile_accepted, passes_of};
 use crate::endings::end_status;
 use crate::images::image_of;
 use std::alloc::Global;
@@ -43,7 +44,8 @@ pub(crate) fn answer_gen<O: Sink>(
 ) -> Answer
     requires limits { KeepsLimits (asked_of command.now) }
     requires number { IsWithin function_limits command.now.number }
-    ensures due { OrMemory ⊤ (IsGeneratedBy (Builds (rule policy.old))
+    ensures due { OrMemory ⊤ (IsGeneratedBy
+        (Builds (passes_of (asked_of command.now)) (rule policy.old))
         (stream_of O.taken O.faults out.old out.new) (asked_of command.now)) result }
     ensures before_start { StaysBeforeStart (stream_of O.taken O.faults out.old out.new) result }
 {
@@ -64,12 +66,12 @@ fn run_generated<O: Sink>(
 ) -> Answer
     requires limits { KeepsLimits (asked_of command.now) }
     requires source { IsSource text.now }
-    ensures due { OrMemory ⊤ (SumsUpBy (Builds (rule policy.old))
+    ensures due { OrMemory ⊤ (SumsUpBy (Builds (passes_of (asked_of command.now)) (rule policy.old))
         (stream_of O.taken O.faults out.old out.new) command.now.number text.now
         command.now.heap command.now.stack command.now.steps) result }
     ensures before_start { StaysBeforeStart (stream_of O.taken O.faults out.old out.new) result }
 {
-    match compile_accepted(alloc, text, policy) {
+    match compile_accepted(alloc, text, passes_of(command), policy) {
         Ok(compiled) => match image_of(alloc, &compiled.text) {
             Ok(image) => execute_generated(alloc, command, &image, text.len(), out),
             Err(_) => Answer::OutOfMemory,

@@ -2,6 +2,7 @@ ghost use Rattle.std.specs.Prelude.{◌≡◌, ◌⊎◌, ℕ, List, [], Some, t
 ghost use Rattle.tg_machine_state.specs.declared.ends.RunEnd.{RunEnd};
 ghost use Rattle.tg_isa.specs.declared.images.Image.{Image};
 ghost use Rattle.tg_profiler.specs.Watching.{Report};
+ghost use Rattle.tg_command.specs.declared.modes.Mode.{Mode};
 ghost use Rattle.tg_command.specs.Commands.{Asked};
 ghost use Rattle.tg_driver.specs.declared.answers.Answer.{Answer};
 ghost use Rattle.tg_driver.specs.declared.answers.Answer.TheVariants.{
@@ -26,15 +27,15 @@ ghost use Rattle.tg_driver.specs.laws.Safe.{IsSafe};
 
 use tg_compile_proof::{ends_are_as_meant, exits_are_words};
 
-/// The law that a command has at most one answer for a text, but where the streams were touched: an
-/// end of a run, which the input decides too, or whether the output took what was written. So each
-/// refusal comes exactly where its cause stands, whatever the policies, or it is out of memory. It
-/// does nothing.
+/// The law that the commands of a mode have at most one answer for a text, but where the streams
+/// were touched: an end of a run, which the input decides too, or whether the output took what was
+/// written. So each refusal comes exactly where its cause stands, whatever the policies, and
+/// whatever else the commands ask for, flags too; or it is out of memory. It does nothing.
 pub fn one_answer<I, O>()
     ensures { (s : Streams I O) (reporters others : List Report) (reports told : List ℕ)
-        (asked : Asked) (text : List ℕ) (a b : Answer)
-        → IsDueOfText (HasToldRun s reporters reports) asked.mode asked text a
-        → IsDueOfText (HasToldRun s others told) asked.mode asked text b
+        (mode : Mode) (one other : Asked) (text : List ℕ) (a b : Answer)
+        → IsDueOfText (HasToldRun s reporters reports) mode one text a
+        → IsDueOfText (HasToldRun s others told) mode other text b
         → (a ≡ b) ⊎ (HasStarted a × HasStarted b) }
 {}
 

@@ -31,7 +31,7 @@ pub use laws::{
     one_answer, reports_are_exact, runs_are_as_meant, runs_are_exact, sources_are_never_stuck,
 };
 pub use refusals::Refusal;
-pub use tg_compile::Compiled;
+pub use tg_compile::{Compiled, Passes};
 pub use tg_program_generator::generate;
 pub use tools::Tools;
 pub use top::tiger;

@@ -7,10 +7,11 @@ ghost use Rattle.tg_driver.specs.OfFiles.{OfFile, UntouchedBeforeStart};
 ghost use Rattle.tg_driver.specs.glue.PrivateCalls.{OrMemory, EndsAssembled};
 ghost use Rattle.tg_driver.specs.RunMode.{IsRunBy};
 ghost use Rattle.tg_driver.specs.glue.Watched.{HasWatchedRun};
+ghost use Rattle.tg_driver.specs.Passes.{passes_of};
 
 use crate::answers::{Answer, unread};
 use crate::checking::refused;
-use crate::compiling::compile;
+use crate::compiling::{compile, passes_of};
 use crate::executing::execute;
 use crate::images::image_of;
 use crate::reading::LONGEST;
@@ -33,7 +34,8 @@ pub(crate) fn answer_run<H: Shelf, I: Source, O: Sink>(
     requires { KeepsLimits (asked_of command.now) }
     ensures due { OrMemory ⊤ (OfFile (shelf_of H.files H.faults shelf.old shelf.new)
         (asked_of command.now).file 262145
-        (IsRunBy (Builds (rule policy.old)) (HasWatchedRun (λ w. stands w) (λ w. report w)
+        (IsRunBy (Builds (passes_of (asked_of command.now)) (rule policy.old))
+        (HasWatchedRun (λ w. stands w) (λ w. report w)
         watchers.old.items watchers.new.items (streams_of
         (stream_of I.left I.faults streams.entry.input.now streams.exit.0.now)
         (stream_of O.taken O.faults streams.entry.out.now streams.exit.1.0.now)))
@@ -59,7 +61,7 @@ fn run_text<I: Source, O: Sink>(
     watchers: &mut Vec<Box<dyn Watcher>>,
 ) -> Answer
     requires { KeepsLimits (asked_of command.now) }
-    ensures due { OrMemory ⊤ (IsRunBy (Builds (rule policy.old))
+    ensures due { OrMemory ⊤ (IsRunBy (Builds (passes_of (asked_of command.now)) (rule policy.old))
         (HasWatchedRun (λ w. stands w) (λ w. report w)
         watchers.old.items watchers.new.items (streams_of
         (stream_of I.left I.faults streams.entry.input.now streams.exit.0.now)
@@ -69,7 +71,7 @@ fn run_text<I: Source, O: Sink>(
         (stream_of I.left I.faults streams.entry.input.now streams.exit.0.now)
         (stream_of O.taken O.faults streams.entry.out.now streams.exit.1.0.now)) result }
 {
-    match compile(alloc, text, policy) {
+    match compile(alloc, text, passes_of(command), policy) {
         Ok(compiled) => run_assembly(alloc, command, &compiled.text, streams, watchers),
         Err(refusal) => refused(text, refusal),
     }

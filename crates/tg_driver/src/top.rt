@@ -16,6 +16,7 @@ ghost use Rattle.tg_driver.specs.glue.PrivateCalls.{
 ghost use Rattle.tg_driver.specs.OfFiles.{OfFile};
 ghost use Rattle.tg_driver.specs.Watching.{if_watched};
 ghost use Rattle.tg_driver.specs.glue.Watched.{HasWatchedRun};
+ghost use Rattle.tg_driver.specs.Passes.{passes_of};
 
 use crate::answers::Answer;
 use crate::checking::answer_check;
@@ -41,7 +42,7 @@ use tg_profiler::Watcher;
 ///
 /// The answer is due both by what sources mean and by what they are compiled to: what `build`
 /// writes, and what `run` and `gen` run, does what the source means, and is an assembly text that
-/// the source is compiled to by the rule of the policy.
+/// the source is compiled to with the passes that the words switch on, by the rule of the policy.
 pub fn tiger<H: Shelf, I: Source, O: Sink, E: Sink>(
     alloc: Global,
     words: &[String],
@@ -169,7 +170,8 @@ fn generate_to<I: Source, O: Sink>(
 ) -> Answer
     requires limits { KeepsLimits (asked_of command.now) }
     requires number { IsWithin function_limits command.now.number }
-    ensures due { OrMemory ⊤ (IsGeneratedBy (texts_compiled (rule policy.old)).assembly
+    ensures due { OrMemory ⊤ (IsGeneratedBy
+        ((texts_compiled (rule policy.old)).assembly (passes_of (asked_of command.now)))
         (stream_of O.taken O.faults streams.entry.out.now streams.exit.1.0.now)
         (asked_of command.now)) result }
     ensures before_start { StaysBeforeStart

@@ -3,18 +3,19 @@ ghost use Rattle.tg_command.specs.Commands.{asked_of};
 ghost use Rattle.tg_driver.specs.Calls.{shelf_of, stream_of};
 ghost use Rattle.tg_driver.specs.OfFiles.{OfFile};
 ghost use Rattle.tg_driver.specs.glue.PrivateCalls.{HasStarted, OrMemory, StaysBeforeStart};
+ghost use Rattle.tg_driver.specs.Passes.{passes_of};
 ghost use Rattle.tg_driver.specs.Writing.{IsWritten, TakesText};
 ghost use Rattle.tg_driver.specs.glue.Texts.{wanted_text, writes_of};
 
 use crate::answers::{Answer, unread};
 use crate::checking::refused;
-use crate::compiling::compile;
+use crate::compiling::{compile, passes_of};
 use crate::reading::LONGEST;
 use crate::streams::Streams;
 use std::alloc::Global;
 use tg_base::{Memory, Shelf, Sink, Source, write_all};
 use tg_command::Command;
-use tg_compile::Compiled;
+use tg_compile::{Compiled, Passes};
 use tg_irc_definition::SpillPolicy;
 use tg_regalloc_report::list;
 
@@ -39,7 +40,7 @@ pub(crate) fn answer_written<H: Shelf, I: Source, O: Sink>(
     ensures due { OrMemory ⊤ (OfFile (shelf_of H.files H.faults shelf.old shelf.new)
         (asked_of command.now).file 262145
         (IsWritten (stream_of O.taken O.faults streams.entry.out.now streams.exit.1.0.now)
-        (writes_of wanted (rule policy.old)))) result }
+        (writes_of wanted (passes_of (asked_of command.now)) (rule policy.old)))) result }
     ensures before_start { StaysBeforeStart
         (stream_of O.taken O.faults streams.entry.out.now streams.exit.1.0.now) result }
     ensures unread { streams.exit.0.now ≡ streams.entry.input.now }
@@ -61,12 +62,12 @@ fn write_file<H: Shelf, O: Sink>(
     ensures due { OrMemory ⊤ (OfFile (shelf_of H.files H.faults shelf.old shelf.new)
         (asked_of command.now).file 262145
         (IsWritten (stream_of O.taken O.faults out.old out.new)
-        (writes_of wanted (rule policy.old)))) result }
+        (writes_of wanted (passes_of (asked_of command.now)) (rule policy.old)))) result }
     ensures before_start { StaysBeforeStart (stream_of O.taken O.faults out.old out.new) result }
     ensures files { H.files shelf.new ≡ H.files shelf.old }
 {
     match shelf.read_file(alloc, command.file.as_str(), LONGEST + 1) {
-        Ok(text) => write_source(alloc, &text, out, policy, wanted),
+        Ok(text) => write_source(alloc, &text, out, passes_of(command), policy, wanted),
         Err(fault) => unread(fault),
     }
 }
@@ -76,14 +77,15 @@ fn write_source<O: Sink>(
     alloc: Global,
     text: &[u8],
     out: &mut O,
+    passes: Passes,
     policy: &mut dyn SpillPolicy,
     wanted: Wanted,
 ) -> Answer
     ensures due { OrMemory ⊤ (IsWritten (stream_of O.taken O.faults out.old out.new)
-        (writes_of wanted (rule policy.old)) text.now) result }
+        (writes_of wanted passes (rule policy.old)) text.now) result }
     ensures before_start { StaysBeforeStart (stream_of O.taken O.faults out.old out.new) result }
 {
-    match compile(alloc, text, policy) {
+    match compile(alloc, text, passes, policy) {
         Ok(compiled) => write_compiled(alloc, compiled, out, wanted),
         Err(refusal) => refused(text, refusal),
     }

@@ -13,6 +13,8 @@ mod failures;
 #[cfg(test)]
 mod faults;
 #[cfg(test)]
+mod folded;
+#[cfg(test)]
 mod formats;
 #[cfg(test)]
 mod languages;

@@ -6,7 +6,7 @@ use tg_command::{Command, Mode, read_words};
 use tg_driver::usage;
 
 // Command lines, with a `|` between their words, that are usage faults. FILE is there.
-static REFUSED: [&str; 85] = [
+static REFUSED: [&str; 90] = [
     "tiger",
     "tiger|run",
     "tiger|FILE",
@@ -39,7 +39,12 @@ static REFUSED: [&str; 85] = [
     "tiger|run|FILE|--hea|8",
     "tiger|run|FILE|--HEAP|8",
     "tiger|run|FILE|-heap|8",
-    "tiger|run|FILE|--fold",
+    "tiger|check|FILE|--fold",
+    "tiger|exec|FILE|--fold",
+    "tiger|format|FILE|--fold",
+    "tiger|run|FILE|--fold|--fold",
+    "tiger|run|FILE|--fold=1",
+    "tiger|run|FILE|--fol",
     "tiger|run|FILE|--help",
     "tiger|-h",
     "tiger|run|FILE|--version",
@@ -96,7 +101,7 @@ static REFUSED: [&str; 85] = [
 
 // A status, a blank, and a command line that has it, where FILE holds `exit(7)` and the output
 // takes 64 bytes.
-static LINES: [&str; 37] = [
+static LINES: [&str; 41] = [
     "7 tiger|run|FILE",
     "7 |run|FILE",
     "0 tiger|check|FILE",
@@ -128,6 +133,10 @@ static LINES: [&str; 37] = [
     "0 tiger|--steps|1|check|FILE",
     "66 tiger|run|MISSING",
     "66 tiger|check|MISSING",
+    "7 tiger|run|FILE|--fold",
+    "7 tiger|--fold|run|FILE|--heap|8",
+    "74 tiger|build|FILE|--fold",
+    "66 tiger|alloc|MISSING|--fold",
     "65 tiger|exec|FILE",
     "66 tiger|exec|MISSING",
     "66 tiger|run|",

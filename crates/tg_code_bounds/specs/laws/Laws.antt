@@ -40,6 +40,7 @@ use Rattle.tg_emit.specs.mirror.Lines.{
   assembly_of,
 }
 use Rattle.tg_code_bounds.specs.Allocating.{IsAllocationOf, has_small_frame}
+use Rattle.tg_code_bounds.specs.Reduced.{ReducesTo}
 
 -- The functions of a text. A declaration is a node of the body that it stands in, and so is each of
 -- its parameters; and the body that it declares is a node at least.
@@ -87,7 +88,8 @@ FramesAreSmall =
     size_of a.done.frame ≤ 4 * (tree_needs f + 2 * tree_length f) + besides_bytes
 
 -- And by the measures of its text, where functions are nested 32 deep at most: what a node of its
--- body pays for, what a parameter does, and what each function has besides.
+-- body pays for, what a parameter does, and what each function has besides. The tree may be one that
+-- a pass has made, no larger than what the text was translated to.
 abbrev pub node_words : ℕ
 node_words = length_words * node_length
 
@@ -114,17 +116,19 @@ pub record IsPaid (m : Measures) (code : Allocated) : Type 0 where
 
 abbrev pub FunctionsArePaid : Type 0
 FunctionsArePaid =
-    (rule : Rule) (m : Measures) (f : Function Ts) (a : Allocation) → m.level ≤ 32 →
-    FunctionIsWithin m f →
-    MayBeFlattened f → IsAllocationOf rule f a →
+    (rule : Rule) (m : Measures) (f g : Function Ts) (a : Allocation) → m.level ≤ 32 →
+    FunctionIsWithin m f → ReducesTo f g →
+    MayBeFlattened g → IsAllocationOf rule g a →
     IsPaid m a.done
 
--- Allocations of the functions of a program, and after them of the runtime's.
-abbrev pub AreAllocationsOf : Rule → CheckedProgram → FinSet nat_cmp → List Allocation → Type 0
-AreAllocationsOf rule p links allocations =
-    AllZip (IsAllocationOf rule)
-    (with_runtime (translated (findings_in p links) p.body)).functions
-    allocations
+-- Allocations of the functions of a program, and after them of the runtime's: of those themselves, or
+-- of functions in their places that are no larger.
+pub record AreAllocationsOf (rule : Rule) (p : CheckedProgram) (links : FinSet nat_cmp)
+    (allocations : List Allocation) : Type 0 where
+  pub functions : List (Function Ts)
+  pub reduced :
+      AllZip ReducesTo (with_runtime (translated (findings_in p links) p.body)).functions functions
+  pub allocated : AllZip (IsAllocationOf rule) functions allocations
 
 -- The most words of code that a node of a program takes, with what its functions have besides, and
 -- that the runtime takes.

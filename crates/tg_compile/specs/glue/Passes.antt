@@ -3,7 +3,9 @@ use Rattle.std.specs.Prelude.{◌<◌, ◌≤◌, ◌^◌, ℕ, nat_lt, Bool, tr
 use Rattle.std.specs.List.{Contains, list_all}
 use Rattle.tg_machine_state.specs.State.{most_words}
 use Rattle.tg_frame.specs.Homes.{slot_bound}
+use Rattle.tg_tree.specs.declared.fragments.Fragment.{Fragment}
 use Rattle.tg_tree.specs.declared.fragments.Literal.{Literal}
+use Rattle.tg_tree.specs.glue.Plain.{plain_fragment}
 use Rattle.tg_tree.specs.Tree.{Ts, Linear, Function}
 use Rattle.tg_tree.specs.Named.{Named, function, literal, fault, temporary, constant}
 use Rattle.tg_tree.specs.Named.{named_flat, HasItsTemps}
@@ -26,13 +28,25 @@ use Rattle.tg_emit_laws.specs.Programs.{
 }
 use Rattle.tg_code_bounds.specs.Allocating.{chosen, IsAllocationOf, has_small_frame}
 use Rattle.tg_canon_trace_proof.specs.Flattened.{flattened}
+use Rattle.tg_compile.specs.declared.passes.Passes.{Passes}
 use Rattle.tg_compile.specs.declared.programs.Placement.{Placement}
+use Rattle.tg_compile.specs.Prepared.{prepared_function}
 
 -- a function whose body is closed, whose temporaries its frame has drawn, and whose slots are few
 pub record IsWellFormed (f : Function Ts) : Type 0 where
   pub closed : IsClosed f.body
   pub drawn : HasItsTemps names f
   pub few : f.slots < 16777216
+
+-- a function of the code, prepared
+abbrev pub prepared_fragment : Passes → Fragment → Function Ts
+prepared_fragment passes one = prepared_function passes (plain_fragment one)
+
+-- the law that what passes over trees make of such a function is such a function
+abbrev pub PreparedIsWellFormed : Type 0
+PreparedIsWellFormed =
+    (passes : Passes) (f : Function Ts) →
+    IsWellFormed f → IsWellFormed (prepared_function passes f)
 
 -- a function whose flat code is well marked, and whose temporaries its frame has drawn
 pub record IsWellMarkedFunction (f : Function (List Linear)) : Type 0 where

@@ -4,6 +4,7 @@ use Rattle.std.specs.Prelude.{ℕ, ◌≡◌, ◌≤◌, List, [], map, Ok}
 use Rattle.std.specs.List.{Contains, sum}
 use Rattle.tg_syntax.specs.OfWords.{OfWords}
 use Rattle.tg_simulation.specs.Bytes.{AreBytes}
+use Rattle.tg_simulation.specs.Ran.{Ran}
 use Rattle.tg_simulation.specs.Runs.{Run}
 use Rattle.tg_simulation.specs.Preserving.{Preserves}
 use Rattle.tg_simulation.specs.Agreement.{Source, Follows, Agrees, FillsStack}
@@ -12,12 +13,16 @@ use Rattle.tg_semantics.specs.MachineRuns.{program_run}
 use Rattle.tg_typecheck.specs.Programs.{CheckedProgram, IsAccepted}
 use Rattle.tg_asm_text.specs.Assembly.{Assembled, assembled}
 use Rattle.tg_tree.specs.declared.fragments.Literal.{Literal}
-use Rattle.tg_tree.specs.Tree.{Ts, Function}
+use Rattle.tg_tree.specs.Tree.{Ts, Function, Code}
+use Rattle.tg_tree.specs.Units.{Trees}
+use Rattle.tg_tree.specs.Running.{tree_run}
 use Rattle.tg_tree.specs.Named.{named_ts, HasWords}
 use Rattle.tg_tree.specs.FrameSizes.{IsSizeOf, IsNested}
 use Rattle.tg_instr.specs.declared.instr.Instr.{Instr}
 use Rattle.tg_irc_definition.specs.Policies.{Rule}
 use Rattle.tg_regalloc.specs.declared.allocations.Allocation.{Allocation}
+use Rattle.tg_compile.specs.declared.passes.Passes.{Passes}
+use Rattle.tg_compile.specs.Prepared.{prepared}
 use Rattle.tg_compile.specs.Compiling.{fragments_of, Compiles}
 use Rattle.tg_emit_proof.specs.laws.Emission.{MayRun, FitRegions}
 use Rattle.tg_correctness.specs.laws.Laws.{tree_work, tree_besides, unit_words, kept_words}
@@ -77,28 +82,46 @@ CompiledAgrees =
     Agrees most_work most_besides source (machine_form p input heap stack)
     × FillsStack stack source (machine_form p input heap stack)
 
--- what an accepted program is compiled to
-abbrev pub compilation_of : Rule → CheckedProgram → List Allocation → List Literal → Compilation
-compilation_of rule p allocations literals = record {
+-- what an accepted program is compiled to, with the passes that are switched on
+abbrev pub compilation_of :
+    Passes → Rule → CheckedProgram → List Allocation → List Literal → Compilation
+compilation_of passes rule p allocations literals = record {
   rule = rule;
-  trees = fragments_of p.notes p.body;
+  trees = prepared passes (fragments_of p.notes p.body);
   allocations = allocations;
   literals = literals;
 }
 
--- Frames of the runtime's functions that are open at once, of which no one calls another, have
--- 4,096 bytes.
+-- What passes over trees make of a program does what it did, with no more work.
+abbrev pub PrepareIsCorrect : Type 0
+PrepareIsCorrect =
+    (passes : Passes) (code : Code Ts) (size : ℕ → ℕ) (floor room body : ℕ) (input : List ℕ) →
+    Preserves 1 0
+    (tree_run Trees code size floor room body input)
+    (tree_run Trees (prepared passes code) size floor room body input)
+
+-- Code that follows a source, and is preserved with no more work, is followed by what comes of it:
+-- a full stack cuts the one where it cuts the other.
+abbrev pub FollowingGoesOn : Type 0
+FollowingGoesOn =
+    (stack a r n : ℕ) (source : Run Source) (before after : Run Ran) →
+    Follows stack a r n source before → Preserves 1 0 before after →
+    Follows stack a r n source after
+
+-- Frames of the runtime's functions that are open at once, of which no one calls another before the
+-- passes or after them, have 4,096 bytes.
 abbrev pub RuntimeFramesFit : Type 0
 RuntimeFramesFit =
-    (rule : Rule) (program : CheckedProgram) (allocations : List Allocation)
+    (passes : Passes) (rule : Rule) (program : CheckedProgram) (allocations : List Allocation)
     (literals : List Literal) →
-    let p : Compilation = compilation_of rule program allocations literals in
+    let p : Compilation = compilation_of passes rule program allocations literals in
     IsCompiled p →
-    (fs : List (Function Ts)) → IsNested (λ body. named_ts body []) p.trees.functions fs →
+    (fs : List (Function Ts)) →
+    IsNested (λ body. named_ts body []) (fragments_of program.notes program.body).functions fs →
     sum (map (λ (f : Function Ts). frames p f.label) fs) ≤ 4096
 
--- What the translation of a program promises: its constants are words, and on every input and with
--- all sizes of heap and stack its trees follow the program.
+-- What the translation of a program promises, with the passes over its trees: the constants are
+-- words, and on every input and with all sizes of heap and stack the trees follow the program.
 pub record IsTranslated (program : CheckedProgram) (p : Compilation) : Type 0 where
   pub words : HasWords (λ body. named_ts body []) p.trees
   pub follows :
@@ -110,11 +133,11 @@ pub record IsTranslated (program : CheckedProgram) (p : Compilation) : Type 0 wh
 -- it does, where an accepted program's ints are words and it is compiled
 abbrev pub ProgramsAreTranslated : Type 0
 ProgramsAreTranslated =
-    (rule : Rule) (program : CheckedProgram) (allocations : List Allocation)
+    (passes : Passes) (rule : Rule) (program : CheckedProgram) (allocations : List Allocation)
     (literals : List Literal) →
     IsAccepted program → OfWords program.body →
-    IsCompiled (compilation_of rule program allocations literals) →
-    IsTranslated program (compilation_of rule program allocations literals)
+    IsCompiled (compilation_of passes rule program allocations literals) →
+    IsTranslated program (compilation_of passes rule program allocations literals)
 
 -- The constants of an accepted program's trees, with the runtime's, are words, where those of its
 -- text are.
@@ -124,12 +147,13 @@ FragmentsHaveWords =
     HasWords (λ body. named_ts body []) (fragments_of program.notes program.body)
 
 -- An accepted program whose ints are words is compiled to a text whose image does what the program
--- means.
+-- means, whatever passes are switched on.
 abbrev pub CompileIsCorrect : Type 0
 CompileIsCorrect =
-    (rule : Rule) (program : CheckedProgram) (allocations : List Allocation) (text : List ℕ) →
+    (passes : Passes) (rule : Rule) (program : CheckedProgram) (allocations : List Allocation)
+    (text : List ℕ) →
     IsAccepted program →
-    Compiles rule program.notes program.body allocations text →
+    Compiles passes rule program.notes program.body allocations text →
     OfWords program.body →
     (image : Assembled) × (assembled text ≡ Ok image)
     × DoesWhatIsMeant program.names program.body image

@@ -11,17 +11,18 @@ use Rattle.tg_isa.specs.Runs.{Execution, Running, Ended}
 use Rattle.tg_irc_definition.specs.Policies.{Rule as SpillRule}
 use Rattle.tg_machine_state.specs.declared.ends.RunEnd.TheVariants.{StepLimit}
 use Rattle.tg_correctness.specs.Images.{AreSizes, runs_to}
+use Rattle.tg_compile.specs.declared.passes.Passes.{Passes}
 use Rattle.tg_compile_proof.specs.Builds.{Builds}
 use Rattle.tg_correctness.specs.Ends.{EndIsMeant}
 use Rattle.tg_correctness.specs.Assemblies.{IsAsMeant}
 use Rattle.tg_correctness.specs.Sources.{IsSourceOf}
 
--- The headline: whatever the policy, an assembly text that a source is built to has an image that
--- does what the source means.
+-- The headline: whatever the passes that are switched on and the policy, an assembly text that a
+-- source is built to has an image that does what the source means.
 abbrev pub BuildIsCorrect : Type 0
 BuildIsCorrect =
-    (rule : SpillRule) (text assembly : List ℕ) →
-    Builds rule text assembly → IsAsMeant text assembly
+    (passes : Passes) (rule : SpillRule) (text assembly : List ℕ) →
+    Builds passes rule text assembly → IsAsMeant text assembly
 
 -- So the end of a run of it, on any input and with any sizes and steps, is as the source means: of
 -- one that ended, and of one that was running when its steps were used up.

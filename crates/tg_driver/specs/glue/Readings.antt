@@ -17,6 +17,7 @@ use Rattle.tg_driver.specs.declared.reading.NamedProgram.{NamedProgram}
 use Rattle.tg_driver.specs.declared.reading.NamedTokens.{NamedTokens}
 use Rattle.tg_driver.specs.declared.faults.Rule.{Rule}
 use Rattle.tg_compile.specs.declared.compiled.Compiled.{Compiled}
+use Rattle.tg_compile.specs.declared.passes.Passes.{Passes}
 use Rattle.tg_correctness.specs.Sources.{HasTokens, HasTree}
 use Rattle.tg_driver.specs.Faults.{HasFault, IsUntyped}
 use Rattle.tg_compile_proof.specs.Builds.{CompilesTo}
@@ -73,7 +74,10 @@ abbrev pub IsParsed : List ℕ → Result NamedProgram (Faulty Rule ℕ) → Typ
 IsParsed text (Ok s) = HasNamedTree text s.names (plain s.program.body)
 IsParsed text (Err why) = IsRefusalOf text why
 
--- what compiling a text by the rule of a policy answers: what it is compiled to, or its first fault
-abbrev pub IsCompiled : SpillRule → List ℕ → Result Compiled (Faulty Rule ℕ) → Type 0
-IsCompiled rule text (Ok c) = CompilesTo rule text c.allocations.items c.text.items
-IsCompiled rule text (Err why) = IsRefusalOf text why
+-- what compiling a text with some passes by the rule of a policy answers: what it is compiled to, or
+-- its first fault
+abbrev pub IsCompiled :
+    Passes → SpillRule → List ℕ → Result Compiled (Faulty Rule ℕ) → Type 0
+IsCompiled passes rule text (Ok c) =
+    CompilesTo passes rule text c.allocations.items c.text.items
+IsCompiled passes rule text (Err why) = IsRefusalOf text why

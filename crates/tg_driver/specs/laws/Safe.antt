@@ -21,6 +21,7 @@ use Rattle.tg_driver.specs.declared.answers.Answer.{Answer}
 use Rattle.tg_driver.specs.declared.answers.Answer.TheVariants.{Unreadable, Unwritten, Finished}
 use Rattle.tg_driver.specs.Calls.{Stays, HasFailed, Streams, Untouched, IsUnread, Call}
 use Rattle.tg_driver.specs.glue.PrivateCalls.{HasStarted}
+use Rattle.tg_driver.specs.Passes.{passes_of}
 use Rattle.tg_driver.specs.AllocMode.{Lists}
 use Rattle.tg_driver.specs.FormatMode.{Formats}
 use Rattle.tg_driver.specs.GenMode.{summary}
@@ -83,7 +84,7 @@ HasToWrite rule told Check asked text written = ⊥
 HasToWrite rule told Build asked text written = IsAsMeant text written
 HasToWrite rule told Run asked text written = IsOutput told Run asked text written
 HasToWrite rule told Exec asked text written = IsOutput told Exec asked text written
-HasToWrite rule told Alloc asked text written = Lists rule text written
+HasToWrite rule told Alloc asked text written = Lists (passes_of asked) rule text written
 HasToWrite rule told Gen asked text written = IsSummed asked text written
 HasToWrite rule told Format asked text written = Formats text written
 

@@ -41,7 +41,7 @@ abbrev pub FitsRuntime : Allocation → Type 0
 FitsRuntime a = size_of a.done.frame ≤ 4096
 
 -- The allocations of a program: those of its functions, in the order of the text, and those of the
--- runtime after them.
+-- runtime after them; of all these, or of what passes make of them that is no larger.
 pub record AreWithinWeight (ms : List Measures) (allocations : List Allocation) : Type 0 where
   pub own : List Allocation
   pub rest : List Allocation

@@ -1,10 +1,14 @@
-use Rattle.std.proofs.Common.{◌≡◌, ◌∙◌, List, Bool, false, sym, ap, codes, map, option_map, string_bytes, Option}
+use Rattle.std.proofs.Common.{◌≡◌, ◌∙◌, List, [], Bool, false, sym, ap, subst, codes, map, option_map, string_bytes, Option, inl, inr, Err}
+use Rattle.std.specs.Prelude.{Result}
 use Rattle.std.specs.Option.{option_map_or}
 use Rattle.std.specs.Str.{bytes_eq}
 use Rattle.std.specs.Borrow.{Bor}
-use Rattle.clap.specs.Words.{Text, first_of, first_value, found_of, is_simple, is_simple_and_free, fault_of, matches_of, rows_of}
+use Rattle.clap.specs.Words.{Text, app_of, first_of, first_value, found_of, is_simple, is_simple_and_free, fault_of, matches_of, rows_of, HasKind, Kinds}
 use Rattle.clap.proofs.WalkLemmas.{first_value-rows}
 use Rattle.tg_command.specs.Simple.{IsTaken, simple_command, value_of}
+use Rattle.tg_command.specs.declared.CommandFault.{CommandFault}
+use Rattle.tg_command.specs.declared.CommandFault.TheVariants.{Usage}
+use Rattle.tg_command.specs.declared.simple.Values.{Values}
 use Rattle.tg_command.proofs.simple.take_words.Goals as goal
 
 pub returns-clause-ok : goal.returns-clause-ok
@@ -24,5 +28,22 @@ returns-clause-ok c =
       heap = sym (given (codes "heap")) ∙ sym c.get_str-3.ensures;
       stack = sym (given (codes "stack")) ∙ sym c.get_str-4.ensures;
       steps = sym (given (codes "steps")) ∙ sym c.get_str-5.ensures;
-      flags = ap (λ (b : Bool). record { watch = b }) (c.has_flag.ensures ∙ ap set (given (codes "watch")));
+      flags =
+          let watch = c.has_flag.ensures ∙ ap set (given (codes "watch")) in
+          let fold = c.has_flag-2.ensures ∙ ap set (given (codes "fold")) in
+          λ i. record { watch = watch i; fold = fold i };
     }
+
+usage_is : (fault : CommandFault) → ◌≡◌ {A = Result Values CommandFault} (Err fault) (Err Usage) → fault ≡ Usage
+usage_is fault e = cc
+
+pub returns-in-Err-clause-refused : goal.returns-in-Err-clause-refused
+returns-in-Err-clause-refused c = λ refused taken.
+    let words : List Text = map string_bytes c.args.words.now in
+    let app = c.in_ok-command.ensures.app in
+    let none : fault_of (app_of c.in_ok-command.command) words ≡ [] = ap (λ a. fault_of a words) app ∙ taken in
+    let P : Kinds → Type 0 = λ kinds. HasKind kinds c.in-Err.error in
+    elim (subst P none (c.in-Err.ensures.kinds (ap is_simple_and_free app))) [
+      | inl memory ↦ c.fault_of.ensures (usage_is c.fault_of.result refused) memory
+      | inr among ↦ absurd among
+    ]

@@ -5,5 +5,5 @@ use Rattle.tg_compile.proofs.laws.compiled_is_small.Goals as goal
 
 pub returns : goal.returns
 returns c =
-    code_is_small c.programs_are_bounded.ensures.code c.programs_are_bounded.ensures.frames
-    (plain_checked c.args.checked.now) (subst (λ v. IsAccepted (plain_checked v)) c.checked.view_is c.checked.invariant)
+    code_is_small c.programs_are_bounded.ensures.code c.programs_are_bounded.ensures.frames c.prepared_is_reduced.ensures.reduced
+    c.args.passes (plain_checked c.args.checked.now) (subst (λ v. IsAccepted (plain_checked v)) c.checked.view_is c.checked.invariant)

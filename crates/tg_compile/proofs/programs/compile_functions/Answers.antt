@@ -7,7 +7,7 @@ use Rattle.tg_tree.specs.declared.fragments.Fragment.{Fragment}
 use Rattle.tg_tree.specs.glue.Plain.{plain_fragment}
 use Rattle.tg_irc_definition.specs.Policies.{Rule}
 use Rattle.tg_code_bounds.specs.Allocating.{IsAllocationOf}
-use Rattle.tg_compile.specs.glue.Passes.{CompileApart, IsWellFormed}
+use Rattle.tg_compile.specs.glue.Passes.{CompileApart, IsWellFormed, prepared_fragment}
 use Rattle.tg_compile.proofs.Chain.{compile_one_more}
 use Rattle.tg_compile.proofs.WellFormed.{one_is}
 use Rattle.tg_compile.proofs.programs.compile_functions.Goals as goal
@@ -23,9 +23,10 @@ compile_function-requires g c =
 pub loop-one-preserved : goal.loop-one-preserved
 loop-one-preserved g c =
     let rule = (goal.SpillPolicy-dyn g c.args.policy.now).rule c.args.policy.now.1 in
-    let F : Rule → Type 0 = λ r. IsAllocationOf r (plain_fragment c.in-Some.one) c.in_ok-done.field-0 in
+    let pass = prepared_fragment c.args.passes in
+    let F : Rule → Type 0 = λ r. IsAllocationOf r (pass c.in-Some.one) c.in_ok-done.field-0 in
     record {
-      compile = compile_one_more rule c.loop-one.yielded c.in-Some.one c.loop-one.codes.items c.push.new.self.items
+      compile = compile_one_more rule pass c.loop-one.yielded c.in-Some.one c.loop-one.codes.items c.push.new.self.items
           c.loop-one.placements.items c.push-in-loop-one.new.self.items c.in_ok-done.field-0 c.loop-one.invariant.compile
           (subst F c.loop-one.invariant.same c.in_ok-done.ensures.compiles) c.in_ok-push.ensures.items c.in_ok-push-2.ensures.items;
       same = c.in_ok-done.ensures.same ∙ c.loop-one.invariant.same;
@@ -38,5 +39,5 @@ returns-clause-compile g c =
     let all : c.loop-one.yielded ≡ first.rest.items =
     All-taken first c.loop-one.yielded (c.next.new.self, (c.loop-one.one-iterator, c.loop-one.yielded_by, c.in-None.ensures.steps)) in
     let given : first.rest.items ≡ c.args.bodies.items = c.into_iter-one-iterator.ensures.into_iter_gives.0 in
-    let P : List Fragment → Type 0 = λ xs. CompileApart rule (map plain_fragment xs) c.loop-one.codes.items c.loop-one.placements.items in
+    let P : List Fragment → Type 0 = λ xs. CompileApart rule (map (prepared_fragment c.args.passes) xs) c.loop-one.codes.items c.loop-one.placements.items in
     subst P (all ∙ given) c.loop-one.invariant.compile

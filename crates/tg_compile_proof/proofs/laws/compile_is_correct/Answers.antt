@@ -6,6 +6,6 @@ pub returns : goal.returns
 returns c =
     compile_is_correct c.compiled_agrees.ensures c.program_has_image.ensures.image c.image_agrees.ensures
     c.forms_agree.ensures c.programs_as_sources.ensures.full c.programs_as_sources.ensures.stuck c.never_stuck.ensures
-    c.programs_are_translated.ensures
+    c.programs_are_translated.ensures c.prepared_is_reduced.ensures.reduced
     (λ program accepted. functions_are program accepted c.bodies_are_closed.ensures.checked
     c.temporaries_are_drawn.ensures.checked c.translate_is_bounded.ensures.checked c.routines_are_closed.ensures.routines)

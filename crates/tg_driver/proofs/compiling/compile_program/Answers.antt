@@ -12,7 +12,7 @@ compile_checked-requires g c = rw c.in-Ok.ensures.program (literals_fit c.litera
 
 pub returns-in_ok-compile_checked-in-Ok-clause-compiled : goal.returns-in_ok-compile_checked-in-Ok-clause-compiled
 returns-in_ok-compile_checked-in-Ok-clause-compiled g c = λ text t.
-    compiles_to _ text _ _ _ _ _ t c.in-Ok.ensures.ok (rw c.in-Ok.ensures.program at c.in_ok-compile_checked-in-Ok.ensures.compiles)
+    compiles_to _ _ text _ _ _ _ _ t c.in-Ok.ensures.ok (rw c.in-Ok.ensures.program at c.in_ok-compile_checked-in-Ok.ensures.compiles)
 
 pub returns-in-Err-clause-compiled : goal.returns-in-Err-clause-compiled
 returns-in-Err-clause-compiled g c = λ text t. c.ill_typed.ensures text (typed_fault _ _ _ _ t c.in-Err.ensures.err)

@@ -12,4 +12,4 @@ run_generated-requires-clause-source g c =
 pub returns-in-Ok-clause-due : goal.returns-in-Ok-clause-due
 returns-in-Ok-clause-due g c =
     let out = stream_of g.O.Sink.taken g.O.Sink.faults c.args.out.now c.run_generated.new.out in
-    in_number (Builds _) out _ _ _ _ _ _ c.run_generated.result c.in-Ok.ensures (rw c.deref.ensures.value at c.run_generated.ensures.due)
+    in_number (Builds _ _) out _ _ _ _ _ _ c.run_generated.result c.in-Ok.ensures (rw c.deref.ensures.value at c.run_generated.ensures.due)

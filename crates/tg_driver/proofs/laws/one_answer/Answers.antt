@@ -3,4 +3,4 @@ use Rattle.tg_driver.proofs.ModesOnce.{due_alike}
 use Rattle.tg_driver.proofs.laws.one_answer.Goals as goal
 
 pub returns : goal.returns
-returns g c = λ s reporters others reports told asked. due_alike (HasToldRun s reporters reports) (HasToldRun s others told) asked.mode asked
+returns g c = λ s reporters others reports told. due_alike (HasToldRun s reporters reports) (HasToldRun s others told)

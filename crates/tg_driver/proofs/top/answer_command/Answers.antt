@@ -31,7 +31,7 @@ returns-in-Build-clause-due g c =
     let runs = HasWatchedRun (λ b. (goal.Watcher-dyn g (b.vtable, b.value)).stands b.value) (λ b. (goal.Watcher-dyn g (b.vtable, b.value)).report b.value)
     (if_watched c.args.command.now.flags c.args.watchers.now.items) c.keep_asked.new.watchers.items streams in
     in_mode _ runs Build shelf streams asked c.answer_written.result (no_gen Build tt) c.in-Build.is
-    (by_writing shelf streams (Builds _) asked c.answer_written.result c.answer_written.ensures.unread
+    (by_writing shelf streams (Builds _ _) asked c.answer_written.result c.answer_written.ensures.unread
     c.answer_written.ensures.before_start c.answer_written.ensures.due)
 
 pub returns-in-Run-clause-due : goal.returns-in-Run-clause-due
@@ -44,7 +44,7 @@ returns-in-Run-clause-due g c =
     let runs = HasWatchedRun (λ b. (goal.Watcher-dyn g (b.vtable, b.value)).stands b.value) (λ b. (goal.Watcher-dyn g (b.vtable, b.value)).report b.value)
     (if_watched c.args.command.now.flags c.args.watchers.now.items) c.answer_run.new.watchers.items streams in
     in_mode _ runs Run shelf streams asked c.answer_run.result (no_gen Run tt) c.in-Run.is
-    (by_run (Builds _) runs shelf streams asked c.answer_run.result c.answer_run.ensures.before_start (rw c.keep_asked.ensures at c.answer_run.ensures.due))
+    (by_run (Builds _ _) runs shelf streams asked c.answer_run.result c.answer_run.ensures.before_start (rw c.keep_asked.ensures at c.answer_run.ensures.due))
 
 pub returns-in-Exec-clause-due : goal.returns-in-Exec-clause-due
 returns-in-Exec-clause-due g c =
@@ -68,7 +68,7 @@ returns-in-Alloc-clause-due g c =
     let runs = HasWatchedRun (λ b. (goal.Watcher-dyn g (b.vtable, b.value)).stands b.value) (λ b. (goal.Watcher-dyn g (b.vtable, b.value)).report b.value)
     (if_watched c.args.command.now.flags c.args.watchers.now.items) c.keep_asked.new.watchers.items streams in
     in_mode _ runs Alloc shelf streams asked c.answer_written-in-Alloc.result (no_gen Alloc tt) c.in-Alloc.is
-    (by_writing shelf streams (Lists _) asked c.answer_written-in-Alloc.result c.answer_written-in-Alloc.ensures.unread
+    (by_writing shelf streams (Lists _ _) asked c.answer_written-in-Alloc.result c.answer_written-in-Alloc.ensures.unread
     c.answer_written-in-Alloc.ensures.before_start c.answer_written-in-Alloc.ensures.due)
 
 pub returns-in-Format-clause-due : goal.returns-in-Format-clause-due
@@ -93,7 +93,7 @@ returns-in-Gen-clause-due g c =
     let runs = HasWatchedRun (λ b. (goal.Watcher-dyn g (b.vtable, b.value)).stands b.value) (λ b. (goal.Watcher-dyn g (b.vtable, b.value)).report b.value)
     (if_watched c.args.command.now.flags c.args.watchers.now.items) c.keep_asked.new.watchers.items streams in
     in_mode _ runs Gen shelf streams asked c.generate_to.result (λ _. refl) c.in-Gen.is
-    (by_gen (Builds _) shelf streams asked c.generate_to.result refl c.generate_to.ensures.unread c.generate_to.ensures.before_start c.generate_to.ensures.due)
+    (by_gen (Builds _ _) shelf streams asked c.generate_to.result refl c.generate_to.ensures.unread c.generate_to.ensures.before_start c.generate_to.ensures.due)
 
 pub generate_to-requires-clause-number : goal.generate_to-requires-clause-number
 generate_to-requires-clause-number g c = c.requires.number c.in-Gen.is

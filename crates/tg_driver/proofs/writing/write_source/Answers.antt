@@ -12,8 +12,8 @@ returns-in-Ok-clause-due g c =
     let allocations = c.in-Ok.compiled.allocations.items in
     let assembly = c.in-Ok.compiled.text.items in
     let written = wanted_text c.args.wanted allocations assembly in
-    writes_text out (writes_of c.args.wanted rule) c.args.text.now written c.write_compiled.result
-    (writes_wanted c.args.wanted rule c.args.text.now allocations assembly c.in-Ok.ensures.compiled) c.write_compiled.ensures.takes
+    writes_text out (writes_of c.args.wanted c.args.passes rule) c.args.text.now written c.write_compiled.result
+    (writes_wanted c.args.wanted c.args.passes rule c.args.text.now allocations assembly c.in-Ok.ensures.compiled) c.write_compiled.ensures.takes
 
 pub returns-in-Err-clause-due : goal.returns-in-Err-clause-due
 returns-in-Err-clause-due g c =
