@@ -4,7 +4,7 @@ use Rattle.std.proofs.Common.{◌≤◌, ◌-◌, ◌∙◌, length, subst, arit
 use Rattle.std.specs.FinSet.{from_list}
 use Rattle.tg_machine_state.specs.State.{most_bytes, stack_top}
 use Rattle.tg_escape.specs.Links.{links_of}
-use Rattle.tg_semantics.specs.MachineEnds.{program_run}
+use Rattle.tg_semantics.specs.MachineRuns.{program_run}
 use Rattle.tg_tree.specs.Memory.{statics_of}
 use Rattle.tg_tree.specs.Units.{Trees}
 use Rattle.tg_tree.specs.Running.{tree_run}
