@@ -1,1 +1,2 @@
 mod Programs
+mod Routines

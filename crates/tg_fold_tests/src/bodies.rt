@@ -82,6 +82,7 @@ fn copies_go_through_a_long_body(rt: HostRuntime) -> Result<(), Fail> {
     Ok(())
 }
 
+// What each does before and after is computed in `proofs/Routines.antt`.
 #[test]
 fn the_runtime_folds(rt: HostRuntime) -> Result<(), Fail> {
     let alloc = rt.alloc();

@@ -1,4 +1,4 @@
-ghost use Rattle.std.specs.Prelude.{◌≡◌, ◌<◌, length, OnOk};
+ghost use Rattle.std.specs.Prelude.{◌≡◌, ◌<◌, length, IfOk, OnOk};
 ghost use Rattle.tg_live.specs.Live.{set_at};
 ghost use Rattle.tg_live.specs.glue.LiveChanges.{
   set_without_all,
@@ -9,6 +9,7 @@ ghost use Rattle.tg_live.specs.glue.LiveChanges.{
 
 use crate::changes::LiveChanges;
 use crate::rising::{leave_out, put_in_order};
+use std::alloc::Global;
 use std::marker::Model;
 use tg_base::Memory;
 use tg_instr::Opnd;
@@ -50,6 +51,28 @@ impl LiveSets {
         all_put_in_order(self.changes.comes(at as usize), set)?;
         Ok(())
     }
+
+    /// What is live out of the instruction at a place, made from the changes up to it: takes time for
+    /// each of them and the length of each set before. To go through a code in order use `advance`.
+    pub fn out(&self, alloc: Global, at: u32) -> Result<Vec<Opnd>, Memory>
+        requires { at < length self.now }
+        ensures { IfOk result (λ set. set.items ≡ set_at self.now at) }
+    {
+        set_out_of(self, alloc, at)
+    }
+}
+
+// What is live out of a place, from nothing before the first on.
+fn set_out_of(live: &LiveSets, alloc: Global, at: u32) -> Result<Vec<Opnd>, Memory>
+    requires { at < length live.now }
+    ensures { IfOk result (λ set. set.items ≡ set_at live.now at) }
+{
+    let mut set = Vec::new(alloc);
+    for place in 0..at {
+        live.advance(place, &mut set)?;
+    }
+    live.advance(at, &mut set)?;
+    Ok(set)
 }
 
 // Takes what goes out of a set.

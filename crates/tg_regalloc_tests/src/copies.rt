@@ -1,4 +1,4 @@
-ghost use Rattle.std.specs.Prelude.{◌≡◌, ◌<◌, IfOk, IsTrue};
+ghost use Rattle.std.specs.Prelude.{◌≡◌, ◌<◌, IfOk, IsTrue, length};
 ghost use Rattle.std.specs.List.{list_all};
 ghost use Rattle.tg_instr.specs.declared.operands.Opnd.TheVariants.{Reg as RegOf, Temp as TempOf};
 ghost use Rattle.tg_instr.specs.Codes.{has_slots_below, names_registers};
@@ -63,6 +63,7 @@ fn copied(alloc: Global) -> Result<Code, Memory>
         (λ code. IsTrue (list_all (names_registers is_fixed) code.list)) }
     ensures slots { IfOk result (λ code. IsTrue (list_all (has_slots_below 0) code.list)) }
     ensures temps { IfOk result (λ code. code.temps ≡ 3) }
+    ensures size { IfOk result (λ code. length code.list ≡ 5) }
 {
     let mut list = Vec::new(alloc);
     push_instr(&mut list, Instr::Move(temp(0), Opnd::Reg(Reg::A0)))?;
@@ -154,6 +155,20 @@ fn a_copy_does_not_interfere(rt: HostRuntime) -> Result<(), Fail> {
     let live = live(rt.alloc(), &code, &flow)?;
     let graph = interference(rt.alloc(), &code, &live)?;
     assert!(rt; !graph.interferes(25, 26));
+    Ok(())
+}
+
+#[test]
+fn live_sets_are_found_at_any_place(rt: HostRuntime) -> Result<(), Fail> {
+    let code = copied(rt.alloc())?;
+    let flow = flow(rt.alloc(), &code)?;
+    let live = live(rt.alloc(), &code, &flow)?;
+    let behind = live.out(rt.alloc(), 3)?;
+    let sum = live.out(rt.alloc(), 2)?;
+    let both = live.out(rt.alloc(), 1)?;
+    assert!(rt; !matches!(behind.last().copied(), Some(Opnd::Temp(_))));
+    assert!(rt; matches!(sum.last().copied(), Some(Opnd::Temp(Temp(2)))));
+    assert_eq!(rt; both.len(), sum.len().saturating_add(1));
     Ok(())
 }
 

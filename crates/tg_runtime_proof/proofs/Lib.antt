@@ -22,3 +22,4 @@ pub mod Sums
 pub mod Made
 pub mod Whole
 pub mod Running
+mod Examples

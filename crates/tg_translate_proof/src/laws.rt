@@ -4,6 +4,7 @@ ghost use Rattle.tg_translate_proof.specs.laws.Activations.{
 };
 ghost use Rattle.tg_translate_proof.specs.laws.Laws.{
   LinksOfCallsAreRight,
+  RunsGoOnAlike,
   TranslateIsCorrect,
   SizesTellNothing,
 };
@@ -15,10 +16,11 @@ pub fn translate_is_correct()
 {}
 
 /// What comes of it: the static link of each call is right, and runs with other sizes of frames end
-/// in the same way, but for a full stack.
+/// in the same way, or go on in the same way, but for a full stack.
 pub fn runs_are_alike()
     ensures links { LinksOfCallsAreRight }
     ensures sizes { SizesTellNothing }
+    ensures onward { RunsGoOnAlike }
 {
     translate_is_correct();
 }

@@ -20,7 +20,7 @@ module _ (p : CheckedProgram) (size : ℕ → ℕ) (heap stack : ℕ) (input : L
   never_ends_full : NeverEndsFull (source_run p heap stack input)
   never_ends_full n h = no_ending_is_full (evaluate_passing p.names p.body input heap stack n).end h
 
-  unstuck : NeverStuck (source_run p heap stack input)
+  pub unstuck : NeverStuck (source_run p heap stack input)
   unstuck n h =
       never_stuck p may.accepted input heap stack n
       (ap (λ o. o.end) (twins p.names p.body input heap stack n) ∙

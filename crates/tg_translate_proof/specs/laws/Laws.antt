@@ -8,7 +8,7 @@ use Rattle.tg_syntax.specs.OfWords.{OfWords}
 use Rattle.tg_syntax.specs.Functions.{Measures, program_functions}
 use Rattle.tg_simulation.specs.Runs.{Run}
 use Rattle.tg_simulation.specs.Bytes.{IsPrefix}
-use Rattle.tg_simulation.specs.Ran.{Ran, Ended}
+use Rattle.tg_simulation.specs.Ran.{Ran, Ended, WantsFuel}
 use Rattle.tg_simulation.specs.Agreement.{Source, Follows, Agrees, FillsStack}
 use Rattle.tg_semantics.specs.MachineRuns.{program_run}
 use Rattle.tg_typecheck.specs.Programs.{CheckedProgram, IsAccepted}
@@ -129,3 +129,18 @@ SizesTellNothing =
     (k : ℕ) ×
     (EndsAlike (trees_run p one heap stack input m) (trees_run p other heap stack input k) ⊎
     IsFullBefore (trees_run p one heap stack input m) (trees_run p other heap stack input k))
+
+-- As far as one likes, the second run goes on as the first does, with the same output and input
+-- left; or its stack is full, and what was written is a prefix.
+abbrev pub GoOnAlike : (n : ℕ) → Run Ran → Run Ran → Type 0
+GoOnAlike n c d =
+    (m : ℕ) × (n ≤ m) × (k : ℕ) × (EndsAlike (c m) (d k) ⊎ IsFullBefore (c m) (d k))
+
+-- So does a run that never ends, with other sizes of frames.
+abbrev pub RunsGoOnAlike : Type 0
+RunsGoOnAlike =
+    (p : CheckedProgram) (one other : ℕ → ℕ) (heap stack : ℕ) (input : List ℕ) →
+    MayRun p one heap stack input → MayRun p other heap stack input →
+    ((m : ℕ) → (trees_run p one heap stack input m).stop ≡ WantsFuel) →
+    (n : ℕ) →
+    GoOnAlike n (trees_run p one heap stack input) (trees_run p other heap stack input)
