@@ -1,11 +1,16 @@
 -- What a tree of the code draws, by what it is.
-use Rattle.std.proofs.Common.{◌≡◌, ℕ, Bool, ap, ◌∙◌}
+use Rattle.std.proofs.Common.{◌≡◌, ℕ, Bool, Result, Ok, Err, IfOk, ap, ◌∙◌}
 use Rattle.tg_tree.specs.declared.trees.Tx.{Tx as CodeTx, Call}
 use Rattle.tg_tree.specs.declared.trees.Ts.{Ts as CodeTs, Seq}
 use Rattle.tg_tree.specs.declared.trees.Cond.{Cond as CodeCond}
 use Rattle.tg_tree.specs.declared.trees.Txs.{Txs as CodeTxs}
 use Rattle.tg_tree.specs.declared.trees.Stms.{Stms as CodeStms}
 use Rattle.tg_base.specs.declared.ids.Label.{Label}
+use Rattle.tg_base.specs.declared.faults.Memory.{Memory}
+use Rattle.tg_canon.specs.declared.parts.Part.{Part as CodePart}
+use Rattle.tg_canon.specs.declared.hoisted.Hoisted.{Hoisted as CodeHoisted}
+use Rattle.tg_canon.specs.declared.tested.Tested.{Tested as CodeTested}
+use Rattle.tg_canon.specs.glue.Views.{plain_part, plain_hoisted, plain_tested}
 use Rattle.tg_tree.specs.Tree as tree
 use Rattle.tg_tree.specs.glue.Lists.{txs_of, stms_of}
 use Rattle.tg_tree.proofs.ListLaws.{plain_tx-Call, plain_ts-Seq}
@@ -48,3 +53,33 @@ call_as out label xs {k = k} e g = record { is = ap (λ x. hoist out x k) (ap pl
 pub sequence_as : (out : ℕ → ℕ) {s : CodeTs} (ss : CodeStms) {k l : ℕ} {p : Part} → s ≡ Seq ss →
     DrawsFrom (linear out (tree.Seq (stms_of ss.items.items))) k p l → DrawsFrom (linear out (plain_ts s)) k p l
 sequence_as out ss {k = k} e g = record { is = ap (λ s. linear out s k) (ap plain_ts e ∙ plain_ts-Seq ss) ∙ g.is }
+
+-- what is said of a call's answer, where there is one, goes over to what calls it
+pub if_ok : {A E : Type 0} {P Q : A → Type 0} (r : Result A E) → ((a : A) → P a → Q a) → IfOk r P → IfOk r Q
+if_ok (Ok a) f p = f a p
+if_ok (Err e) f p = p
+
+pub hoists_if : (out : ℕ → ℕ) {x y : CodeTx} (k l : ℕ) → x ≡ y → (r : Result CodeHoisted Memory) →
+    IfOk r (λ a. DrawsFrom (hoist out (plain_tx y)) k (plain_hoisted a) l) → IfOk r (λ a. DrawsFrom (hoist out (plain_tx x)) k (plain_hoisted a) l)
+hoists_if out k l e r p = if_ok r (λ a g. hoists_as out e g) p
+
+pub tests_if : (out : ℕ → ℕ) {c d : CodeCond} (k l : ℕ) → c ≡ d → (r : Result CodeTested Memory) →
+    IfOk r (λ t. DrawsFrom (condition out (plain_cond d)) k (plain_tested t) l) → IfOk r (λ t. DrawsFrom (condition out (plain_cond c)) k (plain_tested t) l)
+tests_if out k l e r p = if_ok r (λ t g. tests_as out e g) p
+
+pub leaves_if : (out : ℕ → ℕ) (w : Bool) (n : ℕ) {c d : CodeCond} (k l : ℕ) → c ≡ d → (r : Result CodePart Memory) →
+    IfOk r (λ p. DrawsFrom (leave out w n (plain_cond d)) k (plain_part p) l) → IfOk r (λ p. DrawsFrom (leave out w n (plain_cond c)) k (plain_part p) l)
+leaves_if out w n k l e r p = if_ok r (λ q g. leaves_as out w n e g) p
+
+pub goes_if : (out : ℕ → ℕ) {s t : CodeTs} (k l : ℕ) → s ≡ t → (r : Result CodePart Memory) →
+    IfOk r (λ p. DrawsFrom (linear out (plain_ts t)) k (plain_part p) l) → IfOk r (λ p. DrawsFrom (linear out (plain_ts s)) k (plain_part p) l)
+goes_if out k l e r p = if_ok r (λ q g. goes_as out e g) p
+
+pub calls_if : (out : ℕ → ℕ) {x : CodeTx} (label : Label) (xs : CodeTxs) (k l : ℕ) → x ≡ Call label xs → (r : Result CodeHoisted Memory) →
+    IfOk r (λ a. DrawsFrom (hoist out (tree.Call label.0 (txs_of xs.items.items))) k (plain_hoisted a) l) →
+    IfOk r (λ a. DrawsFrom (hoist out (plain_tx x)) k (plain_hoisted a) l)
+calls_if out label xs k l e r p = if_ok r (λ a g. call_as out label xs e g) p
+
+pub sequences_if : (out : ℕ → ℕ) {s : CodeTs} (ss : CodeStms) (k l : ℕ) → s ≡ Seq ss → (r : Result CodePart Memory) →
+    IfOk r (λ p. DrawsFrom (linear out (tree.Seq (stms_of ss.items.items))) k (plain_part p) l) → IfOk r (λ p. DrawsFrom (linear out (plain_ts s)) k (plain_part p) l)
+sequences_if out ss k l e r p = if_ok r (λ q g. sequence_as out ss e g) p

@@ -1,4 +1,5 @@
-ghost use Rattle.std.specs.Prelude.{◌≡◌, ◌<◌, IfOk};
+ghost use Rattle.std.specs.Prelude.{◌≡◌, ◌<◌, true, false, IfOk};
+ghost use Rattle.tg_tree.specs.Tree as tree;
 ghost use Rattle.tg_tree.specs.glue.Plain.{plain_tx, plain_cond, plain_ts};
 ghost use Rattle.tg_tree.specs.glue.Lists.{txs_of, stms_of};
 ghost use Rattle.tg_canon.specs.mirror.Canon as canon;
@@ -22,8 +23,8 @@ use crate::parts::{Part, Parts};
 use crate::statements::{drop_value, move_to, return_of, store, store_byte};
 use crate::supply::Supply;
 use crate::tested::{Tested, choose_by_parts, compare_both, is_whole};
-use tg_base::Memory;
-use tg_tree::{Cond, Stms, Ts, Tx, Txs};
+use tg_base::{Label, Memory, Temp};
+use tg_tree::{Bin, Cond, Rel, Stms, Ts, Tx, Txs};
 
 /// So deep trees may be nested, counting each walk into a part as one.
 const MOST_NESTED: u32 = 100_000;
@@ -39,7 +40,8 @@ fn descend(height: u32) -> Result<u32, Memory>
     }
 }
 
-// What is hoisted out of an expression, and what is left of it.
+// What is hoisted out of an expression, and what is left of it. Each kind of expression has a
+// function of its own, so that a walk into a part leaves only what it needs on the stack.
 #[cycle(canon)]
 fn hoist(x: Tx, supply: &mut Supply, breaks: &Breaks, height: u32) -> Result<Hoisted, Memory>
     ensures { IfOk result (λ a. DrawsFrom (canon.hoist (leads breaks.now) (plain_tx x))
@@ -51,33 +53,110 @@ fn hoist(x: Tx, supply: &mut Supply, breaks: &Breaks, height: u32) -> Result<Hoi
         Tx::Address(label) => Ok(whole(supply.alloc, Tx::Address(label))),
         Tx::Temp(temp) => Ok(whole(supply.alloc, Tx::Temp(temp))),
         Tx::FrameAddress => Ok(whole(supply.alloc, Tx::FrameAddress)),
-        Tx::Binary(op, x, y) => {
-            let (x, y) = (Box::into_inner(x), Box::into_inner(y));
-            let both = hoist_both(x, y, supply, breaks, lower)?;
-            Ok(operate(supply.alloc, op, both)?)
-        }
-        Tx::Load(x) => {
-            let a = hoist_word(Box::into_inner(x), supply, breaks, lower)?;
-            Ok(load_from(supply.alloc, a)?)
-        }
-        Tx::LoadByte(x) => {
-            let a = hoist_word(Box::into_inner(x), supply, breaks, lower)?;
-            Ok(load_byte_from(supply.alloc, a)?)
-        }
-        Tx::Call(label, xs) => {
-            let all = hoist_all(xs, supply, breaks, lower)?;
-            Ok(call_of(label, all))
-        }
-        Tx::Service(number, x) => {
-            let a = hoist_word(Box::into_inner(x), supply, breaks, lower)?;
-            Ok(serve(supply.alloc, number, a)?)
-        }
-        Tx::After(s, x) => {
-            let a = hoist(Box::into_inner(x), supply, breaks, lower)?;
-            let p = linear(Box::into_inner(s), supply, breaks, lower)?;
-            Ok(behind(supply.alloc, p, a)?)
-        }
+        Tx::Binary(op, x, y) => hoist_binary(op, x, y, supply, breaks, lower),
+        Tx::Load(x) => hoist_load(x, supply, breaks, lower),
+        Tx::LoadByte(x) => hoist_load_byte(x, supply, breaks, lower),
+        Tx::Call(label, xs) => hoist_call(label, xs, supply, breaks, lower),
+        Tx::Service(number, x) => hoist_service(number, x, supply, breaks, lower),
+        Tx::After(s, x) => hoist_after(s, x, supply, breaks, lower),
     }
+}
+
+#[cycle(canon)]
+fn hoist_binary(
+    op: Bin,
+    x: Box<Tx>,
+    y: Box<Tx>,
+    supply: &mut Supply,
+    breaks: &Breaks,
+    height: u32,
+) -> Result<Hoisted, Memory>
+    ensures { IfOk result (λ a. DrawsFrom
+        (canon.hoist (leads breaks.now) (tree.Binary op (plain_tx x.value) (plain_tx y.value)))
+        supply.old.next (plain_hoisted a) supply.new.next) }
+{
+    let (x, y) = (Box::into_inner(x), Box::into_inner(y));
+    let both = hoist_both(x, y, supply, breaks, height)?;
+    operate(supply.alloc, op, both)
+}
+
+#[cycle(canon)]
+fn hoist_load(
+    x: Box<Tx>,
+    supply: &mut Supply,
+    breaks: &Breaks,
+    height: u32,
+) -> Result<Hoisted, Memory>
+    ensures { IfOk result (λ a. DrawsFrom
+        (canon.hoist (leads breaks.now) (tree.Load (plain_tx x.value)))
+        supply.old.next (plain_hoisted a) supply.new.next) }
+{
+    let a = hoist_word(Box::into_inner(x), supply, breaks, height)?;
+    load_from(supply.alloc, a)
+}
+
+#[cycle(canon)]
+fn hoist_load_byte(
+    x: Box<Tx>,
+    supply: &mut Supply,
+    breaks: &Breaks,
+    height: u32,
+) -> Result<Hoisted, Memory>
+    ensures { IfOk result (λ a. DrawsFrom
+        (canon.hoist (leads breaks.now) (tree.LoadByte (plain_tx x.value)))
+        supply.old.next (plain_hoisted a) supply.new.next) }
+{
+    let a = hoist_word(Box::into_inner(x), supply, breaks, height)?;
+    load_byte_from(supply.alloc, a)
+}
+
+#[cycle(canon)]
+fn hoist_call(
+    label: Label,
+    xs: Txs,
+    supply: &mut Supply,
+    breaks: &Breaks,
+    height: u32,
+) -> Result<Hoisted, Memory>
+    ensures { IfOk result (λ a. DrawsFrom
+        (canon.hoist (leads breaks.now) (tree.Call label.0 (txs_of xs.items.items)))
+        supply.old.next (plain_hoisted a) supply.new.next) }
+{
+    let all = hoist_all(xs, supply, breaks, height)?;
+    Ok(call_of(label, all))
+}
+
+#[cycle(canon)]
+fn hoist_service(
+    number: u32,
+    x: Box<Tx>,
+    supply: &mut Supply,
+    breaks: &Breaks,
+    height: u32,
+) -> Result<Hoisted, Memory>
+    ensures { IfOk result (λ a. DrawsFrom
+        (canon.hoist (leads breaks.now) (tree.Service number (plain_tx x.value)))
+        supply.old.next (plain_hoisted a) supply.new.next) }
+{
+    let a = hoist_word(Box::into_inner(x), supply, breaks, height)?;
+    serve(supply.alloc, number, a)
+}
+
+#[cycle(canon)]
+fn hoist_after(
+    s: Box<Ts>,
+    x: Box<Tx>,
+    supply: &mut Supply,
+    breaks: &Breaks,
+    height: u32,
+) -> Result<Hoisted, Memory>
+    ensures { IfOk result (λ a. DrawsFrom
+        (canon.hoist (leads breaks.now) (tree.After (plain_ts s.value) (plain_tx x.value)))
+        supply.old.next (plain_hoisted a) supply.new.next) }
+{
+    let a = hoist(Box::into_inner(x), supply, breaks, height)?;
+    let p = linear(Box::into_inner(s), supply, breaks, height)?;
+    behind(supply.alloc, p, a)
 }
 
 // The same, as a word.
@@ -88,7 +167,7 @@ fn hoist_word(x: Tx, supply: &mut Supply, breaks: &Breaks, height: u32) -> Resul
 {
     let lower = descend(height)?;
     let a = hoist(x, supply, breaks, lower)?;
-    Ok(word(supply, a)?)
+    word(supply, a)
 }
 
 // Two words side by side, the right one hoisted first: this is no walk of its own into a part.
@@ -106,7 +185,7 @@ fn hoist_both(
 {
     let b = hoist_word(right, supply, breaks, height)?;
     let a = hoist_word(left, supply, breaks, height)?;
-    Ok(side_by_side(supply, a, b)?)
+    side_by_side(supply, a, b)
 }
 
 // A call's arguments, from the last to the first.
@@ -143,26 +222,78 @@ fn condition(
 {
     let lower = descend(height)?;
     match test {
-        Cond::Compare(rel, x, y) => {
-            let (x, y) = (Box::into_inner(x), Box::into_inner(y));
-            let both = hoist_both(x, y, supply, breaks, lower)?;
-            Ok(compare_both(supply.alloc, rel, both)?)
-        }
-        Cond::Not(c) => {
-            let t = condition(Box::into_inner(c), supply, breaks, lower)?;
-            Ok(t.opposite(supply.alloc)?)
-        }
-        Cond::Both(c, d) => {
-            let u = condition(Box::into_inner(d), supply, breaks, lower)?;
-            let t = condition(Box::into_inner(c), supply, breaks, lower)?;
-            Ok(t.and(supply.alloc, u)?)
-        }
-        Cond::Either(c, d) => {
-            let u = condition(Box::into_inner(d), supply, breaks, lower)?;
-            let t = condition(Box::into_inner(c), supply, breaks, lower)?;
-            Ok(t.or(supply.alloc, u)?)
-        }
+        Cond::Compare(rel, x, y) => comparison(rel, x, y, supply, breaks, lower),
+        Cond::Not(c) => negation(c, supply, breaks, lower),
+        Cond::Both(c, d) => conjunction(c, d, supply, breaks, lower),
+        Cond::Either(c, d) => disjunction(c, d, supply, breaks, lower),
     }
+}
+
+#[cycle(canon)]
+fn comparison(
+    rel: Rel,
+    x: Box<Tx>,
+    y: Box<Tx>,
+    supply: &mut Supply,
+    breaks: &Breaks,
+    height: u32,
+) -> Result<Tested, Memory>
+    ensures { IfOk result (λ t. DrawsFrom (canon.condition (leads breaks.now)
+        (tree.Compare rel (plain_tx x.value) (plain_tx y.value)))
+        supply.old.next (plain_tested t) supply.new.next) }
+{
+    let (x, y) = (Box::into_inner(x), Box::into_inner(y));
+    let both = hoist_both(x, y, supply, breaks, height)?;
+    compare_both(supply.alloc, rel, both)
+}
+
+#[cycle(canon)]
+fn negation(
+    c: Box<Cond>,
+    supply: &mut Supply,
+    breaks: &Breaks,
+    height: u32,
+) -> Result<Tested, Memory>
+    ensures { IfOk result (λ t. DrawsFrom
+        (canon.condition (leads breaks.now) (tree.Not (plain_cond c.value)))
+        supply.old.next (plain_tested t) supply.new.next) }
+{
+    let t = condition(Box::into_inner(c), supply, breaks, height)?;
+    t.opposite(supply.alloc)
+}
+
+#[cycle(canon)]
+fn conjunction(
+    c: Box<Cond>,
+    d: Box<Cond>,
+    supply: &mut Supply,
+    breaks: &Breaks,
+    height: u32,
+) -> Result<Tested, Memory>
+    ensures { IfOk result (λ t. DrawsFrom
+        (canon.condition (leads breaks.now) (tree.Both (plain_cond c.value) (plain_cond d.value)))
+        supply.old.next (plain_tested t) supply.new.next) }
+{
+    let u = condition(Box::into_inner(d), supply, breaks, height)?;
+    let t = condition(Box::into_inner(c), supply, breaks, height)?;
+    t.and(supply.alloc, u)
+}
+
+#[cycle(canon)]
+fn disjunction(
+    c: Box<Cond>,
+    d: Box<Cond>,
+    supply: &mut Supply,
+    breaks: &Breaks,
+    height: u32,
+) -> Result<Tested, Memory>
+    ensures { IfOk result (λ t. DrawsFrom
+        (canon.condition (leads breaks.now) (tree.Either (plain_cond c.value) (plain_cond d.value)))
+        supply.old.next (plain_tested t) supply.new.next) }
+{
+    let u = condition(Box::into_inner(d), supply, breaks, height)?;
+    let t = condition(Box::into_inner(c), supply, breaks, height)?;
+    t.or(supply.alloc, u)
 }
 
 // Leaves so many loops and one more where a condition comes out so, tested part by part.
@@ -181,42 +312,122 @@ fn leave(
 {
     let lower = descend(height)?;
     match test {
-        Cond::Compare(rel, x, y) => {
-            let (x, y) = (Box::into_inner(x), Box::into_inner(y));
-            let both = hoist_both(x, y, supply, breaks, lower)?;
-            let t = compare_both(supply.alloc, rel, both)?;
-            Ok(t.exit_where(supply.alloc, when, loops)?)
-        }
-        Cond::Not(c) => Ok(leave(Box::into_inner(c), supply, breaks, !when, loops, lower)?),
+        Cond::Compare(rel, x, y) => leave_where(rel, x, y, supply, breaks, when, loops, lower),
+        Cond::Not(c) => leave(Box::into_inner(c), supply, breaks, !when, loops, lower),
         Cond::Both(c, d) => {
             if when {
-                let inner = Breaks::Deeper(1, breaks);
-                let further = more_loops(loops, 1)?;
-                let q = leave(Box::into_inner(d), supply, &inner, true, further, lower)?;
-                let p = leave(Box::into_inner(c), supply, &inner, false, 0, lower)?;
-                let both = p.before(supply.alloc, q)?;
-                Ok(both.block(supply.alloc)?)
+                leave_if_both(c, d, supply, breaks, loops, lower)
             } else {
-                let q = leave(Box::into_inner(d), supply, breaks, false, loops, lower)?;
-                let p = leave(Box::into_inner(c), supply, breaks, false, loops, lower)?;
-                Ok(p.before(supply.alloc, q)?)
+                leave_unless_both(c, d, supply, breaks, loops, lower)
             }
         }
         Cond::Either(c, d) => {
             if when {
-                let q = leave(Box::into_inner(d), supply, breaks, true, loops, lower)?;
-                let p = leave(Box::into_inner(c), supply, breaks, true, loops, lower)?;
-                Ok(p.before(supply.alloc, q)?)
+                leave_if_either(c, d, supply, breaks, loops, lower)
             } else {
-                let inner = Breaks::Deeper(1, breaks);
-                let further = more_loops(loops, 1)?;
-                let q = leave(Box::into_inner(d), supply, &inner, false, further, lower)?;
-                let p = leave(Box::into_inner(c), supply, &inner, true, 0, lower)?;
-                let both = p.before(supply.alloc, q)?;
-                Ok(both.block(supply.alloc)?)
+                leave_unless_either(c, d, supply, breaks, loops, lower)
             }
         }
     }
+}
+
+#[cycle(canon)]
+fn leave_where(
+    rel: Rel,
+    x: Box<Tx>,
+    y: Box<Tx>,
+    supply: &mut Supply,
+    breaks: &Breaks,
+    when: bool,
+    loops: u32,
+    height: u32,
+) -> Result<Part, Memory>
+    ensures { IfOk result (λ p. DrawsFrom (canon.leave (leads breaks.now) when loops
+        (tree.Compare rel (plain_tx x.value) (plain_tx y.value)))
+        supply.old.next (plain_part p) supply.new.next) }
+{
+    let (x, y) = (Box::into_inner(x), Box::into_inner(y));
+    let both = hoist_both(x, y, supply, breaks, height)?;
+    let t = compare_both(supply.alloc, rel, both)?;
+    t.exit_where(supply.alloc, when, loops)
+}
+
+#[cycle(canon)]
+fn leave_if_both(
+    c: Box<Cond>,
+    d: Box<Cond>,
+    supply: &mut Supply,
+    breaks: &Breaks,
+    loops: u32,
+    height: u32,
+) -> Result<Part, Memory>
+    ensures { IfOk result (λ p. DrawsFrom (canon.leave (leads breaks.now) true loops
+        (tree.Both (plain_cond c.value) (plain_cond d.value)))
+        supply.old.next (plain_part p) supply.new.next) }
+{
+    let inner = Breaks::Deeper(1, &*breaks);
+    let further = more_loops(loops, 1)?;
+    let q = leave(Box::into_inner(d), supply, &inner, true, further, height)?;
+    let p = leave(Box::into_inner(c), supply, &inner, false, 0, height)?;
+    let both = p.before(supply.alloc, q)?;
+    both.block(supply.alloc)
+}
+
+#[cycle(canon)]
+fn leave_unless_both(
+    c: Box<Cond>,
+    d: Box<Cond>,
+    supply: &mut Supply,
+    breaks: &Breaks,
+    loops: u32,
+    height: u32,
+) -> Result<Part, Memory>
+    ensures { IfOk result (λ p. DrawsFrom (canon.leave (leads breaks.now) false loops
+        (tree.Both (plain_cond c.value) (plain_cond d.value)))
+        supply.old.next (plain_part p) supply.new.next) }
+{
+    let q = leave(Box::into_inner(d), supply, breaks, false, loops, height)?;
+    let p = leave(Box::into_inner(c), supply, breaks, false, loops, height)?;
+    p.before(supply.alloc, q)
+}
+
+#[cycle(canon)]
+fn leave_if_either(
+    c: Box<Cond>,
+    d: Box<Cond>,
+    supply: &mut Supply,
+    breaks: &Breaks,
+    loops: u32,
+    height: u32,
+) -> Result<Part, Memory>
+    ensures { IfOk result (λ p. DrawsFrom (canon.leave (leads breaks.now) true loops
+        (tree.Either (plain_cond c.value) (plain_cond d.value)))
+        supply.old.next (plain_part p) supply.new.next) }
+{
+    let q = leave(Box::into_inner(d), supply, breaks, true, loops, height)?;
+    let p = leave(Box::into_inner(c), supply, breaks, true, loops, height)?;
+    p.before(supply.alloc, q)
+}
+
+#[cycle(canon)]
+fn leave_unless_either(
+    c: Box<Cond>,
+    d: Box<Cond>,
+    supply: &mut Supply,
+    breaks: &Breaks,
+    loops: u32,
+    height: u32,
+) -> Result<Part, Memory>
+    ensures { IfOk result (λ p. DrawsFrom (canon.leave (leads breaks.now) false loops
+        (tree.Either (plain_cond c.value) (plain_cond d.value)))
+        supply.old.next (plain_part p) supply.new.next) }
+{
+    let inner = Breaks::Deeper(1, &*breaks);
+    let further = more_loops(loops, 1)?;
+    let q = leave(Box::into_inner(d), supply, &inner, false, further, height)?;
+    let p = leave(Box::into_inner(c), supply, &inner, true, 0, height)?;
+    let both = p.before(supply.alloc, q)?;
+    both.block(supply.alloc)
 }
 
 // A statement in canonical form.
@@ -227,58 +438,191 @@ fn linear(s: Ts, supply: &mut Supply, breaks: &Breaks, height: u32) -> Result<Pa
 {
     let lower = descend(height)?;
     match s {
-        Ts::Move(temp, x) => {
-            let a = hoist(x, supply, breaks, lower)?;
-            Ok(move_to(supply.alloc, temp, a)?)
-        }
-        Ts::Store(x, y) => {
-            let both = hoist_both(x, y, supply, breaks, lower)?;
-            Ok(store(supply.alloc, both)?)
-        }
-        Ts::StoreByte(x, y) => {
-            let both = hoist_both(x, y, supply, breaks, lower)?;
-            Ok(store_byte(supply.alloc, both)?)
-        }
-        Ts::Do(x) => {
-            let a = hoist(x, supply, breaks, lower)?;
-            Ok(drop_value(supply.alloc, a)?)
-        }
-        Ts::If(test, this, other) => {
-            let this = Box::into_inner(this);
-            let other = Box::into_inner(other);
-            if is_whole(&test) {
-                let q = linear(other, supply, breaks, lower)?;
-                let p = linear(this, supply, breaks, lower)?;
-                let t = condition(test, supply, breaks, lower)?;
-                Ok(t.choose(supply.alloc, p, q)?)
-            } else {
-                let once = Breaks::Deeper(1, breaks);
-                let twice = Breaks::Deeper(2, breaks);
-                let q = linear(other, supply, &once, lower)?;
-                let p = linear(this, supply, &twice, lower)?;
-                let t = leave(test, supply, &twice, false, 0, lower)?;
-                Ok(choose_by_parts(supply.alloc, t, p, q)?)
-            }
-        }
-        Ts::Loop(s) => {
-            let inner = Breaks::Inside(breaks);
-            let p = linear(Box::into_inner(s), supply, &inner, lower)?;
-            Ok(p.repeated(supply.alloc)?)
-        }
+        Ts::Move(temp, x) => linear_move(temp, x, supply, breaks, lower),
+        Ts::Store(x, y) => linear_store(x, y, supply, breaks, lower),
+        Ts::StoreByte(x, y) => linear_store_byte(x, y, supply, breaks, lower),
+        Ts::Do(x) => linear_do(x, supply, breaks, lower),
+        Ts::If(test, this, other) => linear_if(test, this, other, supply, breaks, lower),
+        Ts::Loop(s) => linear_loop(s, supply, breaks, lower),
         Ts::Break(loops) => {
             let further = target(breaks, loops)?;
             Ok(Part::still(Ts::Break(further)))
         }
         Ts::Fault(number) => Ok(Part::still(Ts::Fault(number))),
-        Ts::Seq(ss) => {
-            let all = linear_all(ss, supply, breaks, lower)?;
-            Ok(all.in_turn())
-        }
-        Ts::Return(x) => {
-            let a = hoist_word(x, supply, breaks, lower)?;
-            Ok(return_of(supply.alloc, a)?)
-        }
+        Ts::Seq(ss) => linear_sequence(ss, supply, breaks, lower),
+        Ts::Return(x) => linear_return(x, supply, breaks, lower),
     }
+}
+
+#[cycle(canon)]
+fn linear_move(
+    temp: Temp,
+    x: Tx,
+    supply: &mut Supply,
+    breaks: &Breaks,
+    height: u32,
+) -> Result<Part, Memory>
+    ensures { IfOk result (λ p. DrawsFrom
+        (canon.linear (leads breaks.now) (tree.Move temp.0 (plain_tx x)))
+        supply.old.next (plain_part p) supply.new.next) }
+{
+    let a = hoist(x, supply, breaks, height)?;
+    move_to(supply.alloc, temp, a)
+}
+
+#[cycle(canon)]
+fn linear_store(
+    x: Tx,
+    y: Tx,
+    supply: &mut Supply,
+    breaks: &Breaks,
+    height: u32,
+) -> Result<Part, Memory>
+    ensures { IfOk result (λ p. DrawsFrom
+        (canon.linear (leads breaks.now) (tree.Store (plain_tx x) (plain_tx y)))
+        supply.old.next (plain_part p) supply.new.next) }
+{
+    let both = hoist_both(x, y, supply, breaks, height)?;
+    store(supply.alloc, both)
+}
+
+#[cycle(canon)]
+fn linear_store_byte(
+    x: Tx,
+    y: Tx,
+    supply: &mut Supply,
+    breaks: &Breaks,
+    height: u32,
+) -> Result<Part, Memory>
+    ensures { IfOk result (λ p. DrawsFrom
+        (canon.linear (leads breaks.now) (tree.StoreByte (plain_tx x) (plain_tx y)))
+        supply.old.next (plain_part p) supply.new.next) }
+{
+    let both = hoist_both(x, y, supply, breaks, height)?;
+    store_byte(supply.alloc, both)
+}
+
+#[cycle(canon)]
+fn linear_do(
+    x: Tx,
+    supply: &mut Supply,
+    breaks: &Breaks,
+    height: u32,
+) -> Result<Part, Memory>
+    ensures { IfOk result (λ p. DrawsFrom
+        (canon.linear (leads breaks.now) (tree.Do (plain_tx x)))
+        supply.old.next (plain_part p) supply.new.next) }
+{
+    let a = hoist(x, supply, breaks, height)?;
+    drop_value(supply.alloc, a)
+}
+
+#[cycle(canon)]
+fn linear_if(
+    test: Cond,
+    this: Box<Ts>,
+    other: Box<Ts>,
+    supply: &mut Supply,
+    breaks: &Breaks,
+    height: u32,
+) -> Result<Part, Memory>
+    ensures { IfOk result (λ p. DrawsFrom (canon.linear (leads breaks.now)
+        (tree.If (plain_cond test) (plain_ts this.value) (plain_ts other.value)))
+        supply.old.next (plain_part p) supply.new.next) }
+{
+    if is_whole(&test) {
+        choose_whole(test, this, other, supply, breaks, height)
+    } else {
+        choose_in_parts(test, this, other, supply, breaks, height)
+    }
+}
+
+#[cycle(canon)]
+fn choose_whole(
+    test: Cond,
+    this: Box<Ts>,
+    other: Box<Ts>,
+    supply: &mut Supply,
+    breaks: &Breaks,
+    height: u32,
+) -> Result<Part, Memory>
+    ensures { IfOk result (λ p. canon.is_whole (plain_cond test) ≡ true → DrawsFrom
+        (canon.linear (leads breaks.now)
+        (tree.If (plain_cond test) (plain_ts this.value) (plain_ts other.value)))
+        supply.old.next (plain_part p) supply.new.next) }
+{
+    let q = linear(Box::into_inner(other), supply, breaks, height)?;
+    let p = linear(Box::into_inner(this), supply, breaks, height)?;
+    let t = condition(test, supply, breaks, height)?;
+    t.choose(supply.alloc, p, q)
+}
+
+#[cycle(canon)]
+fn choose_in_parts(
+    test: Cond,
+    this: Box<Ts>,
+    other: Box<Ts>,
+    supply: &mut Supply,
+    breaks: &Breaks,
+    height: u32,
+) -> Result<Part, Memory>
+    ensures { IfOk result (λ p. canon.is_whole (plain_cond test) ≡ false → DrawsFrom
+        (canon.linear (leads breaks.now)
+        (tree.If (plain_cond test) (plain_ts this.value) (plain_ts other.value)))
+        supply.old.next (plain_part p) supply.new.next) }
+{
+    let once = Breaks::Deeper(1, &*breaks);
+    let twice = Breaks::Deeper(2, &*breaks);
+    let q = linear(Box::into_inner(other), supply, &once, height)?;
+    let p = linear(Box::into_inner(this), supply, &twice, height)?;
+    let t = leave(test, supply, &twice, false, 0, height)?;
+    choose_by_parts(supply.alloc, t, p, q)
+}
+
+#[cycle(canon)]
+fn linear_loop(
+    s: Box<Ts>,
+    supply: &mut Supply,
+    breaks: &Breaks,
+    height: u32,
+) -> Result<Part, Memory>
+    ensures { IfOk result (λ p. DrawsFrom
+        (canon.linear (leads breaks.now) (tree.Loop (plain_ts s.value)))
+        supply.old.next (plain_part p) supply.new.next) }
+{
+    let inner = Breaks::Inside(&*breaks);
+    let p = linear(Box::into_inner(s), supply, &inner, height)?;
+    p.repeated(supply.alloc)
+}
+
+#[cycle(canon)]
+fn linear_return(
+    x: Tx,
+    supply: &mut Supply,
+    breaks: &Breaks,
+    height: u32,
+) -> Result<Part, Memory>
+    ensures { IfOk result (λ p. DrawsFrom
+        (canon.linear (leads breaks.now) (tree.Return (plain_tx x)))
+        supply.old.next (plain_part p) supply.new.next) }
+{
+    let a = hoist_word(x, supply, breaks, height)?;
+    return_of(supply.alloc, a)
+}
+
+#[cycle(canon)]
+fn linear_sequence(
+    ss: Stms,
+    supply: &mut Supply,
+    breaks: &Breaks,
+    height: u32,
+) -> Result<Part, Memory>
+    ensures { IfOk result (λ p. DrawsFrom
+        (canon.linear (leads breaks.now) (tree.Seq (stms_of ss.items.items)))
+        supply.old.next (plain_part p) supply.new.next) }
+{
+    let all = linear_all(ss, supply, breaks, height)?;
+    Ok(all.in_turn())
 }
 
 // Statements, from the last to the first.
@@ -308,5 +652,5 @@ pub(crate) fn linear_body(body: Ts, supply: &mut Supply) -> Result<Part, Memory>
         supply.old.next (plain_part p) supply.new.next) }
 {
     let breaks = Breaks::Body;
-    Ok(linear(body, supply, &breaks, MOST_NESTED)?)
+    linear(body, supply, &breaks, MOST_NESTED)
 }
