@@ -1,4 +1,4 @@
-ghost use Rattle.std.specs.Prelude.{◌≡◌, IfOk};
+ghost use Rattle.std.specs.Prelude.{◌≡◌, ◌∷◌, ◌++◌, [], IfOk};
 ghost use Rattle.tg_tree.specs.Tree as tree;
 ghost use Rattle.tg_tree.specs.glue.Plain.{plain_tx};
 ghost use Rattle.tg_canon.specs.glue.Views.{plain_part, plain_hoisted, plain_two, plain_arguments};
@@ -8,7 +8,7 @@ ghost use Rattle.tg_canon.specs.mirror.Drawing.{DrawsFrom};
 use crate::parts::{Part, is_nothing, nothing};
 use crate::supply::Supply;
 use std::alloc::Global;
-use tg_base::{Label, Memory, keep_with};
+use tg_base::{Label, Memory, Temp, keep_with};
 use tg_tree::{Bin, Ts, Tx, Txs, binary, call, load, load_byte, service};
 
 /// What is left of an expression, a flat one or a call or service of flat ones, after what is
@@ -44,25 +44,70 @@ pub(crate) fn whole(alloc: Global, x: Tx) -> Hoisted
     }
 }
 
-/// No argument.
-pub(crate) fn no_arguments(alloc: Global) -> Arguments
-    ensures { plain_arguments result ≡ canon.no_arguments }
+/// A constant, as what is left.
+#[inline(never)]
+pub(crate) fn constant(alloc: Global, n: u32) -> Result<Box<Hoisted>, Memory>
+    ensures { IfOk result (λ a. plain_hoisted a.value ≡ canon.whole (tree.Const n)) }
 {
-    Arguments {
+    Ok(Box::new(alloc, whole(alloc, Tx::Const(n)))?)
+}
+
+/// A literal's address, as what is left.
+#[inline(never)]
+pub(crate) fn address(alloc: Global, label: Label) -> Result<Box<Hoisted>, Memory>
+    ensures { IfOk result (λ a. plain_hoisted a.value ≡ canon.whole (tree.Address label.0)) }
+{
+    Ok(Box::new(alloc, whole(alloc, Tx::Address(label)))?)
+}
+
+/// A temporary, as what is left.
+#[inline(never)]
+pub(crate) fn temporary(alloc: Global, temp: Temp) -> Result<Box<Hoisted>, Memory>
+    ensures { IfOk result (λ a. plain_hoisted a.value ≡ canon.whole (tree.Temp temp.0)) }
+{
+    Ok(Box::new(alloc, whole(alloc, Tx::Temp(temp)))?)
+}
+
+/// The frame address, as what is left.
+#[inline(never)]
+pub(crate) fn frame_address(alloc: Global) -> Result<Box<Hoisted>, Memory>
+    ensures { IfOk result (λ a. plain_hoisted a.value ≡ canon.whole tree.FrameAddress) }
+{
+    Ok(Box::new(alloc, whole(alloc, Tx::FrameAddress))?)
+}
+
+/// No argument.
+#[inline(never)]
+pub(crate) fn no_arguments(alloc: Global) -> Result<Box<Arguments>, Memory>
+    ensures { IfOk result (λ all. plain_arguments all.value ≡ canon.no_arguments) }
+{
+    let none = Arguments {
         front: Part::still(nothing(alloc)),
         reversed: Vec::new(alloc),
-    }
+    };
+    Ok(Box::new(alloc, none)?)
+}
+
+// An expression after one more part.
+fn behind(alloc: Global, first: Part, a: Hoisted) -> Result<Box<Hoisted>, Memory>
+    ensures { IfOk result (λ b.
+        plain_hoisted b.value ≡ canon.behind (plain_part first) (plain_hoisted a)) }
+{
+    let (rest, front) = keep_with(a.rest, first.before(alloc, a.front))?;
+    Ok(Box::new(alloc, Hoisted { front, rest })?)
 }
 
 /// An expression after one more part.
-pub(crate) fn behind(alloc: Global, first: Part, a: Hoisted) -> Result<Hoisted, Memory>
+#[inline(never)]
+pub(crate) fn behind_part(
+    alloc: Global,
+    first: Box<Part>,
+    a: Box<Hoisted>,
+) -> Result<Box<Hoisted>, Memory>
     ensures { IfOk result (λ b.
-        plain_hoisted b ≡ canon.behind (plain_part first) (plain_hoisted a)) }
+        plain_hoisted b.value ≡ canon.behind (plain_part first.value) (plain_hoisted a.value)) }
 {
-    Ok(Hoisted {
-        front: first.before(alloc, a.front)?,
-        rest: a.rest,
-    })
+    behind(alloc, Box::into_inner(first), Box::into_inner(a))
 }
 
 // An expression is held in a fresh temporary.
@@ -84,15 +129,16 @@ fn is_effect(x: &Tx) -> bool
 }
 
 /// The word of a call or service is held.
-pub(crate) fn word(supply: &mut Supply, a: Hoisted) -> Result<Hoisted, Memory>
+#[inline(never)]
+pub(crate) fn word(supply: &mut Supply, a: Box<Hoisted>) -> Result<Box<Hoisted>, Memory>
     ensures { IfOk result (λ b. DrawsFrom
-        (canon.hold_effect (canon.is_effect (plain_tx a.rest)) (plain_hoisted a))
-        supply.old.next (plain_hoisted b) supply.new.next) }
+        (canon.hold_effect (canon.is_effect (plain_tx a.value.rest)) (plain_hoisted a.value))
+        supply.old.next (plain_hoisted b.value) supply.new.next) }
 {
     if is_effect(&a.rest) {
-        let Hoisted { front, rest } = a;
-        let held = hold(supply, rest)?;
-        Ok(behind(supply.alloc, front, held)?)
+        let Hoisted { front, rest } = Box::into_inner(a);
+        let (front, held) = keep_with(front, hold(supply, rest))?;
+        behind(supply.alloc, front, held)
     } else {
         Ok(a)
     }
@@ -172,99 +218,123 @@ fn hold_for(supply: &mut Supply, part: &Part, x: Tx) -> Result<Hoisted, Memory>
 }
 
 // An expression in front of a part.
-fn in_front_of(supply: &mut Supply, part: &Part, a: Hoisted) -> Result<Hoisted, Memory>
+fn in_front_of(supply: &mut Supply, part: &Part, a: Box<Hoisted>) -> Result<Box<Hoisted>, Memory>
     ensures { IfOk result (λ b.
-        DrawsFrom (canon.in_front_of (plain_part part.now) (plain_hoisted a))
-        supply.old.next (plain_hoisted b) supply.new.next) }
+        DrawsFrom (canon.in_front_of (plain_part part.now) (plain_hoisted a.value))
+        supply.old.next (plain_hoisted b.value) supply.new.next) }
 {
     if is_nothing(&part.statement) {
         Ok(a)
     } else {
-        let Hoisted { front, rest } = a;
-        let held = hold_for(supply, part, rest)?;
-        Ok(behind(supply.alloc, front, held)?)
+        let Hoisted { front, rest } = Box::into_inner(a);
+        let (front, held) = keep_with(front, hold_for(supply, part, rest))?;
+        behind(supply.alloc, front, held)
     }
 }
 
 /// Two expressions, of which the right one is hoisted before the left one.
+#[inline(never)]
 pub(crate) fn side_by_side(
     supply: &mut Supply,
-    left: Hoisted,
-    right: Hoisted,
-) -> Result<Two, Memory>
+    left: Box<Hoisted>,
+    right: Box<Hoisted>,
+) -> Result<Box<Two>, Memory>
     ensures { IfOk result (λ both. DrawsFrom
-        (canon.side_by_side (plain_hoisted left) (plain_hoisted right))
-        supply.old.next (plain_two both) supply.new.next) }
+        (canon.side_by_side (plain_hoisted left.value) (plain_hoisted right.value))
+        supply.old.next (plain_two both.value) supply.new.next) }
 {
-    let held = in_front_of(supply, &right.front, left)?;
-    Ok(Two {
-        front: held.front.before(supply.alloc, right.front)?,
-        left: held.rest,
-        right: right.rest,
-    })
+    let left = in_front_of(supply, &right.front, left)?;
+    let (left, right) = (Box::into_inner(left), Box::into_inner(right));
+    let words = (left.rest, right.rest);
+    let (words, front) = keep_with(words, left.front.before(supply.alloc, right.front))?;
+    let (left, right) = words;
+    Ok(Box::new(supply.alloc, Two { front, left, right })?)
+}
+
+fn one_more(mut xs: Vec<Tx>, x: Tx) -> Result<Vec<Tx>, Memory>
+    ensures { IfOk result (λ ys. ys.items ≡ xs.items ++ x ∷ []) }
+{
+    xs.push(x)?;
+    Ok(xs)
 }
 
 /// One more argument in front of the others.
+#[inline(never)]
 pub(crate) fn argument(
     supply: &mut Supply,
-    first: Hoisted,
-    others: Arguments,
-) -> Result<Arguments, Memory>
+    first: Box<Hoisted>,
+    others: Box<Arguments>,
+) -> Result<Box<Arguments>, Memory>
     ensures { IfOk result (λ all. DrawsFrom
-        (canon.argument (plain_hoisted first) (plain_arguments others))
-        supply.old.next (plain_arguments all) supply.new.next) }
+        (canon.argument (plain_hoisted first.value) (plain_arguments others.value))
+        supply.old.next (plain_arguments all.value) supply.new.next) }
 {
-    let held = in_front_of(supply, &others.front, first)?;
-    let mut reversed = others.reversed;
-    reversed.push(held.rest)?;
-    Ok(Arguments {
-        front: held.front.before(supply.alloc, others.front)?,
-        reversed,
-    })
+    let first = in_front_of(supply, &others.front, first)?;
+    let (first, others) = (Box::into_inner(first), Box::into_inner(others));
+    let (rest, front) = keep_with(first.rest, first.front.before(supply.alloc, others.front))?;
+    let (front, reversed) = keep_with(front, one_more(others.reversed, rest))?;
+    Ok(Box::new(supply.alloc, Arguments { front, reversed })?)
 }
 
 /// An operator over two hoisted expressions.
-pub(crate) fn operate(alloc: Global, op: Bin, both: Two) -> Result<Hoisted, Memory>
+#[inline(never)]
+pub(crate) fn operate(alloc: Global, op: Bin, both: Box<Two>) -> Result<Box<Hoisted>, Memory>
     ensures { IfOk result (λ a.
-        plain_hoisted a ≡ canon.over_two (tree.Binary op) (plain_two both)) }
+        plain_hoisted a.value ≡ canon.over_two (tree.Binary op) (plain_two both.value)) }
 {
+    let both = Box::into_inner(both);
     let (front, rest) = keep_with(both.front, binary(alloc, op, both.left, both.right))?;
-    Ok(Hoisted { front, rest })
+    Ok(Box::new(alloc, Hoisted { front, rest })?)
 }
 
 /// The word at a hoisted address.
-pub(crate) fn load_from(alloc: Global, a: Hoisted) -> Result<Hoisted, Memory>
-    ensures { IfOk result (λ b. plain_hoisted b ≡ canon.over tree.Load (plain_hoisted a)) }
+#[inline(never)]
+pub(crate) fn load_from(alloc: Global, a: Box<Hoisted>) -> Result<Box<Hoisted>, Memory>
+    ensures { IfOk result (λ b.
+        plain_hoisted b.value ≡ canon.over tree.Load (plain_hoisted a.value)) }
 {
+    let a = Box::into_inner(a);
     let (front, rest) = keep_with(a.front, load(alloc, a.rest))?;
-    Ok(Hoisted { front, rest })
+    Ok(Box::new(alloc, Hoisted { front, rest })?)
 }
 
 /// The byte at a hoisted address.
-pub(crate) fn load_byte_from(alloc: Global, a: Hoisted) -> Result<Hoisted, Memory>
-    ensures { IfOk result (λ b. plain_hoisted b ≡ canon.over tree.LoadByte (plain_hoisted a)) }
+#[inline(never)]
+pub(crate) fn load_byte_from(alloc: Global, a: Box<Hoisted>) -> Result<Box<Hoisted>, Memory>
+    ensures { IfOk result (λ b.
+        plain_hoisted b.value ≡ canon.over tree.LoadByte (plain_hoisted a.value)) }
 {
+    let a = Box::into_inner(a);
     let (front, rest) = keep_with(a.front, load_byte(alloc, a.rest))?;
-    Ok(Hoisted { front, rest })
+    Ok(Box::new(alloc, Hoisted { front, rest })?)
 }
 
 /// A service with a hoisted argument.
-pub(crate) fn serve(alloc: Global, number: u32, a: Hoisted) -> Result<Hoisted, Memory>
+#[inline(never)]
+pub(crate) fn serve(alloc: Global, number: u32, a: Box<Hoisted>) -> Result<Box<Hoisted>, Memory>
     ensures { IfOk result (λ b.
-        plain_hoisted b ≡ canon.over (tree.Service number) (plain_hoisted a)) }
+        plain_hoisted b.value ≡ canon.over (tree.Service number) (plain_hoisted a.value)) }
 {
+    let a = Box::into_inner(a);
     let (front, rest) = keep_with(a.front, service(alloc, number, a.rest))?;
-    Ok(Hoisted { front, rest })
+    Ok(Box::new(alloc, Hoisted { front, rest })?)
 }
 
 /// A call with hoisted arguments.
-pub(crate) fn call_of(label: Label, all: Arguments) -> Hoisted
-    ensures { plain_hoisted result ≡ canon.over_all (tree.Call label.0) (plain_arguments all) }
+#[inline(never)]
+pub(crate) fn call_of(
+    alloc: Global,
+    label: Label,
+    all: Box<Arguments>,
+) -> Result<Box<Hoisted>, Memory>
+    ensures { IfOk result (λ a.
+        plain_hoisted a.value ≡ canon.over_all (tree.Call label.0) (plain_arguments all.value)) }
 {
-    let mut arguments = all.reversed;
-    arguments.reverse();
-    Hoisted {
-        front: all.front,
-        rest: call(label, arguments),
-    }
+    let Arguments {
+        front,
+        mut reversed,
+    } = Box::into_inner(all);
+    reversed.reverse();
+    let rest = call(label, reversed);
+    Ok(Box::new(alloc, Hoisted { front, rest })?)
 }

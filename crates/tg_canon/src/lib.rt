@@ -9,6 +9,7 @@ mod bodies;
 mod breaks;
 mod hoisted;
 mod laws;
+mod opened;
 mod parts;
 mod pass;
 mod statements;

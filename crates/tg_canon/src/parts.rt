@@ -96,28 +96,78 @@ impl Part {
             statement: first_then(alloc, self.statement, next.statement)?,
         })
     }
+}
 
-    /// This one again and again.
-    pub(crate) fn repeated(self, alloc: Global) -> Result<Part, Memory>
-        ensures { IfOk result (λ p. plain_part p ≡ canon.loop_of (plain_part self)) }
-    {
-        Ok(Part {
-            least: self.least,
-            greatest: self.greatest,
-            statement: repeat(alloc, self.statement)?,
-        })
-    }
+/// A statement that leaves so many loops and one more.
+#[inline(never)]
+pub(crate) fn leaves(alloc: Global, loops: u32) -> Result<Box<Part>, Memory>
+    ensures { IfOk result (λ p. plain_part p.value ≡ canon.still (tree.Break loops)) }
+{
+    Ok(Box::new(alloc, Part::still(Ts::Break(loops)))?)
+}
 
-    /// This one in a loop that is left at its end: a break leads to what comes after it.
-    pub(crate) fn block(self, alloc: Global) -> Result<Part, Memory>
-        ensures { IfOk result (λ p. plain_part p ≡ canon.block (plain_part self)) }
-    {
-        Ok(Part {
-            least: self.least,
-            greatest: self.greatest,
-            statement: repeat(alloc, pair(alloc, self.statement, Ts::Break(0))?)?,
-        })
-    }
+/// A fault.
+#[inline(never)]
+pub(crate) fn faults(alloc: Global, number: u32) -> Result<Box<Part>, Memory>
+    ensures { IfOk result (λ p. plain_part p.value ≡ canon.still (tree.Fault number)) }
+{
+    Ok(Box::new(alloc, Part::still(Ts::Fault(number)))?)
+}
+
+/// A part, and then another.
+#[inline(never)]
+pub(crate) fn both_parts(
+    alloc: Global,
+    first: Box<Part>,
+    next: Box<Part>,
+) -> Result<Box<Part>, Memory>
+    ensures { IfOk result (λ p.
+        plain_part p.value ≡ plain_part first.value before plain_part next.value) }
+{
+    let first = Box::into_inner(first);
+    Ok(Box::new(alloc, first.before(alloc, Box::into_inner(next))?)?)
+}
+
+/// A part again and again.
+#[inline(never)]
+pub(crate) fn repeated(alloc: Global, part: Box<Part>) -> Result<Box<Part>, Memory>
+    ensures { IfOk result (λ p. plain_part p.value ≡ canon.loop_of (plain_part part.value)) }
+{
+    let Part {
+        statement,
+        least,
+        greatest,
+    } = Box::into_inner(part);
+    let statement = repeat(alloc, statement)?;
+    Ok(Box::new(
+        alloc,
+        Part {
+            statement,
+            least,
+            greatest,
+        },
+    )?)
+}
+
+/// A part in a loop that is left at its end: a break leads to what comes after it.
+#[inline(never)]
+pub(crate) fn block(alloc: Global, part: Box<Part>) -> Result<Box<Part>, Memory>
+    ensures { IfOk result (λ p. plain_part p.value ≡ canon.block (plain_part part.value)) }
+{
+    let Part {
+        statement,
+        least,
+        greatest,
+    } = Box::into_inner(part);
+    let statement = repeat(alloc, pair(alloc, statement, Ts::Break(0))?)?;
+    Ok(Box::new(
+        alloc,
+        Part {
+            statement,
+            least,
+            greatest,
+        },
+    )?)
 }
 
 /// Statements in turn, the first one last, as they are found from the right.
@@ -130,38 +180,51 @@ pub(crate) struct Parts {
 
 impl Parts {
     /// None.
-    pub(crate) fn new(alloc: Global) -> Parts
-        ensures { plain_parts result ≡ canon.no_parts }
+    #[inline(never)]
+    pub(crate) fn new(alloc: Global) -> Result<Box<Parts>, Memory>
+        ensures { IfOk result (λ all. plain_parts all.value ≡ canon.no_parts) }
     {
-        Parts {
+        let none = Parts {
             reversed: Vec::new(alloc),
             least: u32::MAX,
             greatest: 0,
-        }
+        };
+        Ok(Box::new(alloc, none)?)
     }
 
     /// One more in front of them.
-    pub(crate) fn put_in_front(&mut self, part: Part) -> Result<(), Memory>
+    #[inline(never)]
+    pub(crate) fn put_in_front(&mut self, part: Box<Part>) -> Result<(), Memory>
         ensures { OnOk result
-            (plain_parts self.new ≡ canon.in_front (plain_part part) (plain_parts self.old)) }
+            (plain_parts self.new ≡ canon.in_front (plain_part part.value) (plain_parts self.old)) }
     {
+        let part = Box::into_inner(part);
         self.least = self.least.min(part.least);
         self.greatest = self.greatest.max(part.greatest);
         push_unless_nothing(&mut self.reversed, part.statement)
     }
+}
 
-    /// All of them as one.
-    pub(crate) fn in_turn(self) -> Part
-        ensures { plain_part result ≡ canon.in_turn (plain_parts self) }
-    {
-        let mut list = self.reversed;
-        list.reverse();
+/// All of them as one.
+#[inline(never)]
+pub(crate) fn in_turn(alloc: Global, all: Box<Parts>) -> Result<Box<Part>, Memory>
+    ensures { IfOk result (λ p. plain_part p.value ≡ canon.in_turn (plain_parts all.value)) }
+{
+    let Parts {
+        mut reversed,
+        least,
+        greatest,
+    } = Box::into_inner(all);
+    reversed.reverse();
+    let statement = sequence(reversed);
+    Ok(Box::new(
+        alloc,
         Part {
-            statement: sequence(list),
-            least: self.least,
-            greatest: self.greatest,
-        }
-    }
+            statement,
+            least,
+            greatest,
+        },
+    )?)
 }
 
 fn push_unless_nothing(reversed: &mut Vec<Ts>, statement: Ts) -> Result<(), Memory>

@@ -1,4 +1,5 @@
-ghost use Rattle.std.specs.Prelude.{◌≡◌, ◌<◌, IfOk};
+ghost use Rattle.std.specs.Prelude.{◌≡◌, ◌<◌, true, false, IfOk};
+ghost use Rattle.tg_tree.specs.Tree as tree;
 ghost use Rattle.tg_tree.specs.glue.Plain.{plain_tx, plain_cond, plain_ts};
 ghost use Rattle.tg_tree.specs.glue.Lists.{txs_of, stms_of};
 ghost use Rattle.tg_canon.specs.mirror.Canon as canon;
@@ -15,15 +16,22 @@ ghost use Rattle.tg_canon.specs.glue.Views.{
 
 use crate::breaks::{Breaks, more_loops, target};
 use crate::hoisted::{
-    Arguments, Hoisted, Two, argument, behind, call_of, load_byte_from, load_from, no_arguments,
-    operate, serve, side_by_side, whole, word,
+    Arguments, Hoisted, Two, address, argument, behind_part, call_of, constant, frame_address,
+    load_byte_from, load_from, no_arguments, operate, serve, side_by_side, temporary, word,
 };
-use crate::parts::{Part, Parts};
+use crate::opened::{Opened, beside, parts_of};
+use crate::parts::{Part, Parts, block, both_parts, faults, in_turn, leaves, repeated};
 use crate::statements::{drop_value, move_to, return_of, store, store_byte};
 use crate::supply::Supply;
-use crate::tested::{Tested, choose_by_parts, compare_both, is_whole};
+use crate::tested::{
+    Tested, and, choose, choose_by_parts, compare_both, exit_where, is_whole, opposite, or,
+};
 use tg_base::Memory;
 use tg_tree::{Cond, Stms, Ts, Tx, Txs};
+
+// Trees are as deep as their source, and each level of a walk stays on the process's stack while
+// its parts are walked. So what the walks hand on is in boxes, and what is done behind a part is
+// never inlined: a level holds some hundred bytes.
 
 /// So deep trees may be nested, counting each walk into a part as one.
 const MOST_NESTED: u32 = 100_000;
@@ -41,89 +49,122 @@ fn descend(height: u32) -> Result<u32, Memory>
 
 // What is hoisted out of an expression, and what is left of it.
 #[cycle(canon)]
-fn hoist(x: Tx, supply: &mut Supply, breaks: &Breaks, height: u32) -> Result<Hoisted, Memory>
-    ensures { IfOk result (λ a. DrawsFrom (canon.hoist (leads breaks.now) (plain_tx x))
-        supply.old.next (plain_hoisted a) supply.new.next) }
+#[inline(never)]
+fn hoist(
+    x: Box<Tx>,
+    supply: &mut Supply,
+    breaks: &Breaks,
+    height: u32,
+) -> Result<Box<Hoisted>, Memory>
+    ensures { IfOk result (λ a. DrawsFrom (canon.hoist (leads breaks.now) (plain_tx x.value))
+        supply.old.next (plain_hoisted a.value) supply.new.next) }
 {
     let lower = descend(height)?;
-    match x {
-        Tx::Const(n) => Ok(whole(supply.alloc, Tx::Const(n))),
-        Tx::Address(label) => Ok(whole(supply.alloc, Tx::Address(label))),
-        Tx::Temp(temp) => Ok(whole(supply.alloc, Tx::Temp(temp))),
-        Tx::FrameAddress => Ok(whole(supply.alloc, Tx::FrameAddress)),
+    match Box::into_inner(x) {
+        Tx::Const(n) => constant(supply.alloc, n),
+        Tx::Address(label) => address(supply.alloc, label),
+        Tx::Temp(temp) => temporary(supply.alloc, temp),
+        Tx::FrameAddress => frame_address(supply.alloc),
         Tx::Binary(op, x, y) => {
-            let (x, y) = (Box::into_inner(x), Box::into_inner(y));
             let both = hoist_both(x, y, supply, breaks, lower)?;
-            Ok(operate(supply.alloc, op, both)?)
+            operate(supply.alloc, op, both)
         }
         Tx::Load(x) => {
-            let a = hoist_word(Box::into_inner(x), supply, breaks, lower)?;
-            Ok(load_from(supply.alloc, a)?)
+            let a = hoist_word(x, supply, breaks, lower)?;
+            load_from(supply.alloc, a)
         }
         Tx::LoadByte(x) => {
-            let a = hoist_word(Box::into_inner(x), supply, breaks, lower)?;
-            Ok(load_byte_from(supply.alloc, a)?)
+            let a = hoist_word(x, supply, breaks, lower)?;
+            load_byte_from(supply.alloc, a)
         }
         Tx::Call(label, xs) => {
             let all = hoist_all(xs, supply, breaks, lower)?;
-            Ok(call_of(label, all))
+            call_of(supply.alloc, label, all)
         }
         Tx::Service(number, x) => {
-            let a = hoist_word(Box::into_inner(x), supply, breaks, lower)?;
-            Ok(serve(supply.alloc, number, a)?)
+            let a = hoist_word(x, supply, breaks, lower)?;
+            serve(supply.alloc, number, a)
         }
-        Tx::After(s, x) => {
-            let a = hoist(Box::into_inner(x), supply, breaks, lower)?;
-            let p = linear(Box::into_inner(s), supply, breaks, lower)?;
-            Ok(behind(supply.alloc, p, a)?)
-        }
+        Tx::After(s, x) => hoist_after(s, x, supply, breaks, lower),
     }
+}
+
+#[cycle(canon)]
+#[inline(never)]
+fn hoist_after(
+    s: Box<Ts>,
+    x: Box<Tx>,
+    supply: &mut Supply,
+    breaks: &Breaks,
+    height: u32,
+) -> Result<Box<Hoisted>, Memory>
+    ensures { IfOk result (λ a. DrawsFrom
+        (canon.hoist (leads breaks.now) (tree.After (plain_ts s.value) (plain_tx x.value)))
+        supply.old.next (plain_hoisted a.value) supply.new.next) }
+{
+    let a = hoist(x, supply, breaks, height);
+    let first = beside(s, a)?;
+    let p = linear(first.0, supply, breaks, height);
+    let both = beside(first.1, p)?;
+    behind_part(supply.alloc, both.1, both.0)
 }
 
 // The same, as a word.
 #[cycle(canon)]
-fn hoist_word(x: Tx, supply: &mut Supply, breaks: &Breaks, height: u32) -> Result<Hoisted, Memory>
-    ensures { IfOk result (λ a. DrawsFrom (canon.word (canon.hoist (leads breaks.now) (plain_tx x)))
-        supply.old.next (plain_hoisted a) supply.new.next) }
+#[inline(never)]
+fn hoist_word(
+    x: Box<Tx>,
+    supply: &mut Supply,
+    breaks: &Breaks,
+    height: u32,
+) -> Result<Box<Hoisted>, Memory>
+    ensures { IfOk result (λ a. DrawsFrom
+        (canon.word (canon.hoist (leads breaks.now) (plain_tx x.value)))
+        supply.old.next (plain_hoisted a.value) supply.new.next) }
 {
     let lower = descend(height)?;
     let a = hoist(x, supply, breaks, lower)?;
-    Ok(word(supply, a)?)
+    word(supply, a)
 }
 
 // Two words side by side, the right one hoisted first: this is no walk of its own into a part.
 #[cycle(canon)]
+#[inline(never)]
 fn hoist_both(
-    left: Tx,
-    right: Tx,
+    left: Box<Tx>,
+    right: Box<Tx>,
     supply: &mut Supply,
     breaks: &Breaks,
     height: u32,
-) -> Result<Two, Memory>
+) -> Result<Box<Two>, Memory>
     ensures { IfOk result (λ both. DrawsFrom
-        (canon.operands (leads breaks.now) (plain_tx left) (plain_tx right))
-        supply.old.next (plain_two both) supply.new.next) }
+        (canon.operands (leads breaks.now) (plain_tx left.value) (plain_tx right.value))
+        supply.old.next (plain_two both.value) supply.new.next) }
 {
     let b = hoist_word(right, supply, breaks, height)?;
-    let a = hoist_word(left, supply, breaks, height)?;
-    Ok(side_by_side(supply, a, b)?)
+    let a = hoist_word(left, supply, breaks, height);
+    let both = beside(b, a)?;
+    side_by_side(supply, both.1, both.0)
 }
 
 // A call's arguments, from the last to the first.
 #[cycle(canon)]
+#[inline(never)]
 fn hoist_all(
     mut xs: Txs,
     supply: &mut Supply,
     breaks: &Breaks,
     height: u32,
-) -> Result<Arguments, Memory>
+) -> Result<Box<Arguments>, Memory>
     ensures { IfOk result (λ all. DrawsFrom (canon.hoist_all (leads breaks.now)
         (txs_of xs.items.items))
-        supply.old.next (plain_arguments all) supply.new.next) }
+        supply.old.next (plain_arguments all.value) supply.new.next) }
 {
     let lower = descend(height)?;
-    let mut all = no_arguments(supply.alloc);
+    let none = no_arguments(supply.alloc)?;
+    let mut all = none;
     while let Some(x) = xs.items.pop() {
+        let x = Box::new(supply.alloc, x)?;
         let a = hoist_word(x, supply, breaks, lower)?;
         all = argument(supply, a, all)?;
     }
@@ -132,88 +173,89 @@ fn hoist_all(
 
 // A condition that stays whole.
 #[cycle(canon)]
+#[inline(never)]
 fn condition(
-    test: Cond,
+    test: Box<Cond>,
     supply: &mut Supply,
     breaks: &Breaks,
     height: u32,
-) -> Result<Tested, Memory>
-    ensures { IfOk result (λ t. DrawsFrom (canon.condition (leads breaks.now) (plain_cond test))
-        supply.old.next (plain_tested t) supply.new.next) }
+) -> Result<Box<Tested>, Memory>
+    ensures { IfOk result (λ t. DrawsFrom
+        (canon.condition (leads breaks.now) (plain_cond test.value))
+        supply.old.next (plain_tested t.value) supply.new.next) }
 {
     let lower = descend(height)?;
-    match test {
+    match Box::into_inner(test) {
         Cond::Compare(rel, x, y) => {
-            let (x, y) = (Box::into_inner(x), Box::into_inner(y));
             let both = hoist_both(x, y, supply, breaks, lower)?;
-            Ok(compare_both(supply.alloc, rel, both)?)
+            compare_both(supply.alloc, rel, both)
         }
         Cond::Not(c) => {
-            let t = condition(Box::into_inner(c), supply, breaks, lower)?;
-            Ok(t.opposite(supply.alloc)?)
+            let t = condition(c, supply, breaks, lower)?;
+            opposite(supply.alloc, t)
         }
         Cond::Both(c, d) => {
-            let u = condition(Box::into_inner(d), supply, breaks, lower)?;
-            let t = condition(Box::into_inner(c), supply, breaks, lower)?;
-            Ok(t.and(supply.alloc, u)?)
+            let u = condition(d, supply, breaks, lower)?;
+            let t = condition(c, supply, breaks, lower);
+            let both = beside(u, t)?;
+            and(supply.alloc, both.1, both.0)
         }
         Cond::Either(c, d) => {
-            let u = condition(Box::into_inner(d), supply, breaks, lower)?;
-            let t = condition(Box::into_inner(c), supply, breaks, lower)?;
-            Ok(t.or(supply.alloc, u)?)
+            let u = condition(d, supply, breaks, lower)?;
+            let t = condition(c, supply, breaks, lower);
+            let both = beside(u, t)?;
+            or(supply.alloc, both.1, both.0)
         }
     }
 }
 
 // Leaves so many loops and one more where a condition comes out so, tested part by part.
 #[cycle(canon)]
+#[inline(never)]
 fn leave(
-    test: Cond,
+    test: Box<Cond>,
     supply: &mut Supply,
     breaks: &Breaks,
     when: bool,
     loops: u32,
     height: u32,
-) -> Result<Part, Memory>
-    ensures { IfOk result (λ p. DrawsFrom (canon.leave (leads breaks.now) when loops
-        (plain_cond test))
-        supply.old.next (plain_part p) supply.new.next) }
+) -> Result<Box<Part>, Memory>
+    ensures { IfOk result (λ p. DrawsFrom
+        (canon.leave (leads breaks.now) when loops (plain_cond test.value))
+        supply.old.next (plain_part p.value) supply.new.next) }
 {
     let lower = descend(height)?;
-    match test {
+    match Box::into_inner(test) {
         Cond::Compare(rel, x, y) => {
-            let (x, y) = (Box::into_inner(x), Box::into_inner(y));
             let both = hoist_both(x, y, supply, breaks, lower)?;
             let t = compare_both(supply.alloc, rel, both)?;
-            Ok(t.exit_where(supply.alloc, when, loops)?)
+            exit_where(supply.alloc, t, when, loops)
         }
-        Cond::Not(c) => Ok(leave(Box::into_inner(c), supply, breaks, !when, loops, lower)?),
+        Cond::Not(c) => leave(c, supply, breaks, !when, loops, lower),
         Cond::Both(c, d) => {
             if when {
-                let inner = Breaks::Deeper(1, breaks);
+                let inner = Breaks::Deeper(1, &*breaks);
                 let further = more_loops(loops, 1)?;
-                let q = leave(Box::into_inner(d), supply, &inner, true, further, lower)?;
-                let p = leave(Box::into_inner(c), supply, &inner, false, 0, lower)?;
-                let both = p.before(supply.alloc, q)?;
-                Ok(both.block(supply.alloc)?)
+                let q = leave(d, supply, &inner, true, further, lower)?;
+                let p = leave(c, supply, &inner, false, 0, lower)?;
+                block(supply.alloc, both_parts(supply.alloc, p, q)?)
             } else {
-                let q = leave(Box::into_inner(d), supply, breaks, false, loops, lower)?;
-                let p = leave(Box::into_inner(c), supply, breaks, false, loops, lower)?;
-                Ok(p.before(supply.alloc, q)?)
+                let q = leave(d, supply, breaks, false, loops, lower)?;
+                let p = leave(c, supply, breaks, false, loops, lower)?;
+                both_parts(supply.alloc, p, q)
             }
         }
         Cond::Either(c, d) => {
             if when {
-                let q = leave(Box::into_inner(d), supply, breaks, true, loops, lower)?;
-                let p = leave(Box::into_inner(c), supply, breaks, true, loops, lower)?;
-                Ok(p.before(supply.alloc, q)?)
+                let q = leave(d, supply, breaks, true, loops, lower)?;
+                let p = leave(c, supply, breaks, true, loops, lower)?;
+                both_parts(supply.alloc, p, q)
             } else {
-                let inner = Breaks::Deeper(1, breaks);
+                let inner = Breaks::Deeper(1, &*breaks);
                 let further = more_loops(loops, 1)?;
-                let q = leave(Box::into_inner(d), supply, &inner, false, further, lower)?;
-                let p = leave(Box::into_inner(c), supply, &inner, true, 0, lower)?;
-                let both = p.before(supply.alloc, q)?;
-                Ok(both.block(supply.alloc)?)
+                let q = leave(d, supply, &inner, false, further, lower)?;
+                let p = leave(c, supply, &inner, true, 0, lower)?;
+                block(supply.alloc, both_parts(supply.alloc, p, q)?)
             }
         }
     }
@@ -221,81 +263,124 @@ fn leave(
 
 // A statement in canonical form.
 #[cycle(canon)]
-fn linear(s: Ts, supply: &mut Supply, breaks: &Breaks, height: u32) -> Result<Part, Memory>
-    ensures { IfOk result (λ p. DrawsFrom (canon.linear (leads breaks.now) (plain_ts s))
-        supply.old.next (plain_part p) supply.new.next) }
+#[inline(never)]
+fn linear(
+    s: Box<Ts>,
+    supply: &mut Supply,
+    breaks: &Breaks,
+    height: u32,
+) -> Result<Box<Part>, Memory>
+    ensures { IfOk result (λ p. DrawsFrom (canon.linear (leads breaks.now) (plain_ts s.value))
+        supply.old.next (plain_part p.value) supply.new.next) }
 {
-    let lower = descend(height)?;
-    match s {
-        Ts::Move(temp, x) => {
+    let opened = parts_of(supply.alloc, s, height)?;
+    let lower = height - 1;
+    match opened {
+        Opened::Move(temp, x) => {
             let a = hoist(x, supply, breaks, lower)?;
-            Ok(move_to(supply.alloc, temp, a)?)
+            move_to(supply.alloc, temp, a)
         }
-        Ts::Store(x, y) => {
+        Opened::Store(x, y) => {
             let both = hoist_both(x, y, supply, breaks, lower)?;
-            Ok(store(supply.alloc, both)?)
+            store(supply.alloc, both)
         }
-        Ts::StoreByte(x, y) => {
+        Opened::StoreByte(x, y) => {
             let both = hoist_both(x, y, supply, breaks, lower)?;
-            Ok(store_byte(supply.alloc, both)?)
+            store_byte(supply.alloc, both)
         }
-        Ts::Do(x) => {
+        Opened::Do(x) => {
             let a = hoist(x, supply, breaks, lower)?;
-            Ok(drop_value(supply.alloc, a)?)
+            drop_value(supply.alloc, a)
         }
-        Ts::If(test, this, other) => {
-            let this = Box::into_inner(this);
-            let other = Box::into_inner(other);
+        Opened::If(test, this, other) => {
             if is_whole(&test) {
-                let q = linear(other, supply, breaks, lower)?;
-                let p = linear(this, supply, breaks, lower)?;
-                let t = condition(test, supply, breaks, lower)?;
-                Ok(t.choose(supply.alloc, p, q)?)
+                choose_whole(test, this, other, supply, breaks, lower)
             } else {
-                let once = Breaks::Deeper(1, breaks);
-                let twice = Breaks::Deeper(2, breaks);
-                let q = linear(other, supply, &once, lower)?;
-                let p = linear(this, supply, &twice, lower)?;
-                let t = leave(test, supply, &twice, false, 0, lower)?;
-                Ok(choose_by_parts(supply.alloc, t, p, q)?)
+                choose_in_parts(test, this, other, supply, breaks, lower)
             }
         }
-        Ts::Loop(s) => {
-            let inner = Breaks::Inside(breaks);
-            let p = linear(Box::into_inner(s), supply, &inner, lower)?;
-            Ok(p.repeated(supply.alloc)?)
+        Opened::Loop(s) => {
+            let inner = Breaks::Inside(&*breaks);
+            let p = linear(s, supply, &inner, lower)?;
+            repeated(supply.alloc, p)
         }
-        Ts::Break(loops) => {
+        Opened::Break(loops) => {
             let further = target(breaks, loops)?;
-            Ok(Part::still(Ts::Break(further)))
+            leaves(supply.alloc, further)
         }
-        Ts::Fault(number) => Ok(Part::still(Ts::Fault(number))),
-        Ts::Seq(ss) => {
+        Opened::Fault(number) => faults(supply.alloc, number),
+        Opened::Seq(ss) => {
             let all = linear_all(ss, supply, breaks, lower)?;
-            Ok(all.in_turn())
+            in_turn(supply.alloc, all)
         }
-        Ts::Return(x) => {
+        Opened::Return(x) => {
             let a = hoist_word(x, supply, breaks, lower)?;
-            Ok(return_of(supply.alloc, a)?)
+            return_of(supply.alloc, a)
         }
     }
 }
 
+#[cycle(canon)]
+#[inline(never)]
+fn choose_whole(
+    test: Box<Cond>,
+    this: Box<Ts>,
+    other: Box<Ts>,
+    supply: &mut Supply,
+    breaks: &Breaks,
+    height: u32,
+) -> Result<Box<Part>, Memory>
+    ensures { IfOk result (λ p. canon.is_whole (plain_cond test.value) ≡ true → DrawsFrom
+        (canon.linear (leads breaks.now)
+        (tree.If (plain_cond test.value) (plain_ts this.value) (plain_ts other.value)))
+        supply.old.next (plain_part p.value) supply.new.next) }
+{
+    let q = linear(other, supply, breaks, height)?;
+    let p = linear(this, supply, breaks, height)?;
+    let t = condition(test, supply, breaks, height)?;
+    choose(supply.alloc, t, p, q)
+}
+
+#[cycle(canon)]
+#[inline(never)]
+fn choose_in_parts(
+    test: Box<Cond>,
+    this: Box<Ts>,
+    other: Box<Ts>,
+    supply: &mut Supply,
+    breaks: &Breaks,
+    height: u32,
+) -> Result<Box<Part>, Memory>
+    ensures { IfOk result (λ p. canon.is_whole (plain_cond test.value) ≡ false → DrawsFrom
+        (canon.linear (leads breaks.now)
+        (tree.If (plain_cond test.value) (plain_ts this.value) (plain_ts other.value)))
+        supply.old.next (plain_part p.value) supply.new.next) }
+{
+    let once = Breaks::Deeper(1, &*breaks);
+    let twice = Breaks::Deeper(2, &*breaks);
+    let q = linear(other, supply, &once, height)?;
+    let p = linear(this, supply, &twice, height)?;
+    let t = leave(test, supply, &twice, false, 0, height)?;
+    choose_by_parts(supply.alloc, t, p, q)
+}
+
 // Statements, from the last to the first.
 #[cycle(canon)]
+#[inline(never)]
 fn linear_all(
     mut ss: Stms,
     supply: &mut Supply,
     breaks: &Breaks,
     height: u32,
-) -> Result<Parts, Memory>
+) -> Result<Box<Parts>, Memory>
     ensures { IfOk result (λ all.
         DrawsFrom (canon.linear_all (leads breaks.now) (stms_of ss.items.items))
-        supply.old.next (plain_parts all) supply.new.next) }
+        supply.old.next (plain_parts all.value) supply.new.next) }
 {
     let lower = descend(height)?;
-    let mut all = Parts::new(supply.alloc);
+    let mut all = Parts::new(supply.alloc)?;
     while let Some(s) = ss.items.pop() {
+        let s = Box::new(supply.alloc, s)?;
         let p = linear(s, supply, breaks, lower)?;
         all.put_in_front(p)?;
     }
@@ -308,5 +393,7 @@ pub(crate) fn linear_body(body: Ts, supply: &mut Supply) -> Result<Part, Memory>
         supply.old.next (plain_part p) supply.new.next) }
 {
     let breaks = Breaks::Body;
-    Ok(linear(body, supply, &breaks, MOST_NESTED)?)
+    let body = Box::new(supply.alloc, body)?;
+    let p = linear(body, supply, &breaks, MOST_NESTED)?;
+    Ok(Box::into_inner(p))
 }

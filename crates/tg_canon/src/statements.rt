@@ -11,37 +11,45 @@ use tg_base::{Memory, Temp};
 use tg_tree::{Bin, Ts, Tx};
 
 /// A temporary becomes the value of a hoisted expression.
-pub(crate) fn move_to(alloc: Global, temp: Temp, a: Hoisted) -> Result<Part, Memory>
-    ensures { IfOk result (λ p. plain_part p ≡
-        canon.with_one (λ v. canon.assigning temp.0 (tree.Move temp.0 v)) (plain_hoisted a)) }
+#[inline(never)]
+pub(crate) fn move_to(alloc: Global, temp: Temp, a: Box<Hoisted>) -> Result<Box<Part>, Memory>
+    ensures { IfOk result (λ p. plain_part p.value ≡
+        canon.with_one (λ v. canon.assigning temp.0 (tree.Move temp.0 v)) (plain_hoisted a.value)) }
 {
+    let a = Box::into_inner(a);
     let assigned = Part::assigning(temp, Ts::Move(temp, a.rest));
-    Ok(a.front.before(alloc, assigned)?)
+    Ok(Box::new(alloc, a.front.before(alloc, assigned)?)?)
 }
 
 /// The value of a hoisted expression is returned.
-pub(crate) fn return_of(alloc: Global, a: Hoisted) -> Result<Part, Memory>
-    ensures { IfOk result (λ p. plain_part p ≡
-        canon.with_one (λ v. canon.still (tree.Return v)) (plain_hoisted a)) }
+#[inline(never)]
+pub(crate) fn return_of(alloc: Global, a: Box<Hoisted>) -> Result<Box<Part>, Memory>
+    ensures { IfOk result (λ p. plain_part p.value ≡
+        canon.with_one (λ v. canon.still (tree.Return v)) (plain_hoisted a.value)) }
 {
+    let a = Box::into_inner(a);
     let returned = Part::still(Ts::Return(a.rest));
-    Ok(a.front.before(alloc, returned)?)
+    Ok(Box::new(alloc, a.front.before(alloc, returned)?)?)
 }
 
 /// A hoisted word is stored at a hoisted address.
-pub(crate) fn store(alloc: Global, both: Two) -> Result<Part, Memory>
-    ensures { IfOk result (λ p. plain_part p ≡ canon.with_two tree.Store (plain_two both)) }
+#[inline(never)]
+pub(crate) fn store(alloc: Global, both: Box<Two>) -> Result<Box<Part>, Memory>
+    ensures { IfOk result (λ p. plain_part p.value ≡ canon.with_two tree.Store (plain_two both.value)) }
 {
+    let both = Box::into_inner(both);
     let stored = Part::still(Ts::Store(both.left, both.right));
-    Ok(both.front.before(alloc, stored)?)
+    Ok(Box::new(alloc, both.front.before(alloc, stored)?)?)
 }
 
 /// The low byte of a hoisted word is stored at a hoisted address.
-pub(crate) fn store_byte(alloc: Global, both: Two) -> Result<Part, Memory>
-    ensures { IfOk result (λ p. plain_part p ≡ canon.with_two tree.StoreByte (plain_two both)) }
+#[inline(never)]
+pub(crate) fn store_byte(alloc: Global, both: Box<Two>) -> Result<Box<Part>, Memory>
+    ensures { IfOk result (λ p. plain_part p.value ≡ canon.with_two tree.StoreByte (plain_two both.value)) }
 {
+    let both = Box::into_inner(both);
     let stored = Part::still(Ts::StoreByte(both.left, both.right));
-    Ok(both.front.before(alloc, stored)?)
+    Ok(Box::new(alloc, both.front.before(alloc, stored)?)?)
 }
 
 fn is_trapping(op: Bin) -> bool
@@ -73,9 +81,11 @@ fn dropped(alloc: Global, x: Tx) -> Part
 }
 
 /// The value of a hoisted expression isn't wanted.
-pub(crate) fn drop_value(alloc: Global, a: Hoisted) -> Result<Part, Memory>
-    ensures { IfOk result (λ p. plain_part p ≡ canon.with_one canon.dropped (plain_hoisted a)) }
+#[inline(never)]
+pub(crate) fn drop_value(alloc: Global, a: Box<Hoisted>) -> Result<Box<Part>, Memory>
+    ensures { IfOk result (λ p. plain_part p.value ≡ canon.with_one canon.dropped (plain_hoisted a.value)) }
 {
+    let a = Box::into_inner(a);
     let done = dropped(alloc, a.rest);
-    Ok(a.front.before(alloc, done)?)
+    Ok(Box::new(alloc, a.front.before(alloc, done)?)?)
 }

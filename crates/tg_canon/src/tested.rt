@@ -6,7 +6,7 @@ ghost use Rattle.tg_canon.specs.glue.Views.{plain_part, plain_two, plain_tested}
 ghost use Rattle.tg_canon.specs.mirror.Canon as canon;
 
 use crate::hoisted::Two;
-use crate::parts::{Part, nothing};
+use crate::parts::{Part, block, both_parts, leaves, nothing, repeated};
 use std::alloc::Global;
 use tg_base::{Memory, keep_with};
 use tg_tree::{Cond, Rel, Ts, Tx, both, compare, either, if_else, negate};
@@ -54,92 +54,127 @@ pub(crate) fn is_whole(test: &Cond) -> bool
 }
 
 /// A comparison of two hoisted expressions.
-pub(crate) fn compare_both(alloc: Global, rel: Rel, operands: Two) -> Result<Tested, Memory>
+#[inline(never)]
+pub(crate) fn compare_both(
+    alloc: Global,
+    rel: Rel,
+    operands: Box<Two>,
+) -> Result<Box<Tested>, Memory>
     ensures { IfOk result (λ t.
-        plain_tested t ≡ canon.compared (tree.Compare rel) (plain_two operands)) }
+        plain_tested t.value ≡ canon.compared (tree.Compare rel) (plain_two operands.value)) }
 {
+    let operands = Box::into_inner(operands);
     let test = compare(alloc, rel, operands.left, operands.right);
     let (front, condition) = keep_with(operands.front, test)?;
-    Ok(Tested { front, condition })
+    Ok(Box::new(alloc, Tested { front, condition })?)
 }
 
-impl Tested {
-    /// The opposite.
-    pub(crate) fn opposite(self, alloc: Global) -> Result<Tested, Memory>
-        ensures { IfOk result (λ t. plain_tested t ≡ canon.opposite (plain_tested self)) }
-    {
-        let (front, condition) = keep_with(self.front, negate(alloc, self.condition))?;
-        Ok(Tested { front, condition })
-    }
+/// The opposite.
+#[inline(never)]
+pub(crate) fn opposite(alloc: Global, test: Box<Tested>) -> Result<Box<Tested>, Memory>
+    ensures { IfOk result (λ t. plain_tested t.value ≡ canon.opposite (plain_tested test.value)) }
+{
+    let test = Box::into_inner(test);
+    let (front, condition) = keep_with(test.front, negate(alloc, test.condition))?;
+    Ok(Box::new(alloc, Tested { front, condition })?)
+}
 
-    /// Whether this one and another hold.
-    pub(crate) fn and(self, alloc: Global, other: Tested) -> Result<Tested, Memory>
-        ensures { IfOk result (λ t.
-            plain_tested t ≡ canon.joined tree.Both (plain_tested self) (plain_tested other)) }
-    {
-        let tests = (self.condition, other.condition);
-        let ((left, right), front) = keep_with(tests, self.front.before(alloc, other.front))?;
-        let (front, condition) = keep_with(front, both(alloc, left, right))?;
-        Ok(Tested { front, condition })
-    }
+/// Whether both hold.
+#[inline(never)]
+pub(crate) fn and(
+    alloc: Global,
+    left: Box<Tested>,
+    right: Box<Tested>,
+) -> Result<Box<Tested>, Memory>
+    ensures { IfOk result (λ t. plain_tested t.value
+        ≡ canon.joined tree.Both (plain_tested left.value) (plain_tested right.value)) }
+{
+    let (left, right) = (Box::into_inner(left), Box::into_inner(right));
+    let tests = (left.condition, right.condition);
+    let (tests, front) = keep_with(tests, left.front.before(alloc, right.front))?;
+    let (front, condition) = keep_with(front, both(alloc, tests.0, tests.1))?;
+    Ok(Box::new(alloc, Tested { front, condition })?)
+}
 
-    /// Whether this one or another holds.
-    pub(crate) fn or(self, alloc: Global, other: Tested) -> Result<Tested, Memory>
-        ensures { IfOk result (λ t.
-            plain_tested t ≡ canon.joined tree.Either (plain_tested self) (plain_tested other)) }
-    {
-        let tests = (self.condition, other.condition);
-        let ((left, right), front) = keep_with(tests, self.front.before(alloc, other.front))?;
-        let (front, condition) = keep_with(front, either(alloc, left, right))?;
-        Ok(Tested { front, condition })
-    }
+/// Whether one of them holds.
+#[inline(never)]
+pub(crate) fn or(
+    alloc: Global,
+    left: Box<Tested>,
+    right: Box<Tested>,
+) -> Result<Box<Tested>, Memory>
+    ensures { IfOk result (λ t. plain_tested t.value
+        ≡ canon.joined tree.Either (plain_tested left.value) (plain_tested right.value)) }
+{
+    let (left, right) = (Box::into_inner(left), Box::into_inner(right));
+    let tests = (left.condition, right.condition);
+    let (tests, front) = keep_with(tests, left.front.before(alloc, right.front))?;
+    let (front, condition) = keep_with(front, either(alloc, tests.0, tests.1))?;
+    Ok(Box::new(alloc, Tested { front, condition })?)
+}
 
-    /// One of two statements, by the condition.
-    pub(crate) fn choose(self, alloc: Global, this: Part, other: Part) -> Result<Part, Memory>
-        ensures { IfOk result (λ p. plain_part p ≡
-            canon.choice (plain_tested self) (plain_part this) (plain_part other)) }
-    {
-        let least = this.least.min(other.least);
-        let greatest = this.greatest.max(other.greatest);
-        let choice = if_else(alloc, self.condition, this.statement, other.statement);
-        let (front, statement) = keep_with(self.front, choice)?;
-        let chosen = Part {
-            statement,
-            least,
-            greatest,
-        };
-        front.before(alloc, chosen)
-    }
+/// One of two statements, by a condition.
+#[inline(never)]
+pub(crate) fn choose(
+    alloc: Global,
+    test: Box<Tested>,
+    this: Box<Part>,
+    other: Box<Part>,
+) -> Result<Box<Part>, Memory>
+    ensures { IfOk result (λ p. plain_part p.value ≡
+        canon.choice (plain_tested test.value) (plain_part this.value) (plain_part other.value)) }
+{
+    let least = this.least.min(other.least);
+    let greatest = this.greatest.max(other.greatest);
+    let (this, other) = (Box::into_inner(this), Box::into_inner(other));
+    let Tested { front, condition } = Box::into_inner(test);
+    let choice = if_else(alloc, condition, this.statement, other.statement);
+    let (front, statement) = keep_with(front, choice)?;
+    let chosen = Part {
+        statement,
+        least,
+        greatest,
+    };
+    Ok(Box::new(alloc, front.before(alloc, chosen)?)?)
+}
 
-    /// Leaves so many loops and one more where the condition comes out so, and goes on where it
-    /// doesn't.
-    pub(crate) fn exit_where(self, alloc: Global, when: bool, loops: u32) -> Result<Part, Memory>
-        ensures { IfOk result (λ p. plain_part p ≡
-            canon.exit_where when loops (plain_tested self)) }
-    {
-        let exit = Part::still(Ts::Break(loops));
-        let on = Part::still(nothing(alloc));
-        if when {
-            Ok(self.choose(alloc, exit, on)?)
-        } else {
-            Ok(self.choose(alloc, on, exit)?)
-        }
+/// Leaves so many loops and one more where a condition comes out so, and goes on where it doesn't.
+#[inline(never)]
+pub(crate) fn exit_where(
+    alloc: Global,
+    test: Box<Tested>,
+    when: bool,
+    loops: u32,
+) -> Result<Box<Part>, Memory>
+    ensures { IfOk result (λ p. plain_part p.value ≡
+        canon.exit_where when loops (plain_tested test.value)) }
+{
+    let exit = leaves(alloc, loops)?;
+    let on = Box::new(alloc, Part::still(nothing(alloc)))?;
+    if when {
+        choose(alloc, test, exit, on)
+    } else {
+        choose(alloc, test, on, exit)
     }
 }
 
 /// One of two statements, where a condition is tested part by part: the first one stands in two
 /// loops after the test, which leaves the inner one where it fails, and the second one in the
 /// outer one after that.
+#[inline(never)]
 pub(crate) fn choose_by_parts(
     alloc: Global,
-    test: Part,
-    this: Part,
-    other: Part,
-) -> Result<Part, Memory>
-    ensures { IfOk result (λ p. plain_part p ≡
-        canon.wide_choice (plain_part test) (plain_part this) (plain_part other)) }
+    test: Box<Part>,
+    this: Box<Part>,
+    other: Box<Part>,
+) -> Result<Box<Part>, Memory>
+    ensures { IfOk result (λ p. plain_part p.value ≡ canon.wide_choice
+        (plain_part test.value) (plain_part this.value) (plain_part other.value)) }
 {
-    let exit = Part::still(Ts::Break(1));
-    let inner = test.before(alloc, this)?.before(alloc, exit)?;
-    Ok(inner.repeated(alloc)?.before(alloc, other)?.block(alloc)?)
+    let exit = leaves(alloc, 1)?;
+    let tested = both_parts(alloc, test, this)?;
+    let inner = both_parts(alloc, tested, exit)?;
+    let inner = repeated(alloc, inner)?;
+    let all = both_parts(alloc, inner, other)?;
+    block(alloc, all)
 }

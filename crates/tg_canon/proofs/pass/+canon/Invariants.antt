@@ -5,13 +5,16 @@ use Rattle.tg_canon.proofs.Walks.{StatementsWalked, ArgumentsWalked}
 use Rattle.tg_canon.proofs.pass.+canon.Given as goal
 
 abbrev pub invariant-hoist_all-loop-x : goal.invariant-hoist_all-loop-x
-invariant-hoist_all-loop-x l = ArgumentsWalked (leads l.breaks) l.fn.xs.items.items l.fn.supply.next l.xs.items.items (plain_arguments l.all) l.supply.next
+invariant-hoist_all-loop-x l = ArgumentsWalked (leads l.breaks) l.fn.xs.items.items l.fn.supply.next l.xs.items.items (plain_arguments l.all.value) l.supply.next
 
 abbrev pub invariant-linear_all-loop-s : goal.invariant-linear_all-loop-s
-invariant-linear_all-loop-s l = StatementsWalked (leads l.breaks) l.fn.ss.items.items l.fn.supply.next l.ss.items.items (plain_parts l.all) l.supply.next
+invariant-linear_all-loop-s l = StatementsWalked (leads l.breaks) l.fn.ss.items.items l.fn.supply.next l.ss.items.items (plain_parts l.all.value) l.supply.next
 
 abbrev pub decreases-hoist : goal.decreases-hoist
 decreases-hoist l = 2 * l.height
+
+abbrev pub decreases-hoist_after : goal.decreases-hoist_after
+decreases-hoist_after l = 2 * l.height + 1
 
 abbrev pub decreases-hoist_word : goal.decreases-hoist_word
 decreases-hoist_word l = 2 * l.height
@@ -30,6 +33,12 @@ decreases-leave l = 2 * l.height
 
 abbrev pub decreases-linear : goal.decreases-linear
 decreases-linear l = 2 * l.height
+
+abbrev pub decreases-choose_whole : goal.decreases-choose_whole
+decreases-choose_whole l = 2 * l.height + 1
+
+abbrev pub decreases-choose_in_parts : goal.decreases-choose_in_parts
+decreases-choose_in_parts l = 2 * l.height + 1
 
 abbrev pub decreases-linear_all : goal.decreases-linear_all
 decreases-linear_all l = 2 * l.height
