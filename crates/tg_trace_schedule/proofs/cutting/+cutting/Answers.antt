@@ -28,7 +28,8 @@ cut_loop-returns t c =
           turned_is exits (plain_ts c.args.turn.value) (plain_cut c.args.before.now) (plain_cut c.seal.new.cut)
           (plain_cut c.draw.new.cut) opened _ _ exit c.in_ok-head.head
           c.in_ok-exit.ensures.mark c.in_ok-exit.ensures.cut.cut c.in_ok-head.ensures.mark c.in_ok-head.ensures.cut.cut c.jump_to.ensures.cut
-          (c.in_ok-cut.ensures.cut ∙ ap (λ es. cutting.cut es (plain_ts c.args.turn.value) opened) pushed) c.in_ok-put_head.ensures.cut;
+          (c.in_ok-cut.ensures.cut ∙ (ap (λ b. cutting.cut c.jump_to.new.cut.exits.items (plain_ts b) opened) c.into_inner.ensures
+          ∙ ap (λ es. cutting.cut es (plain_ts c.args.turn.value) opened) pushed)) c.in_ok-put_head.ensures.cut;
     }
 
 pub cut_all-loop-statement-preserved-in-Continue-1 : goal.cut_all-loop-statement-preserved-in-Continue-1
