@@ -1,5 +1,6 @@
 ghost use Rattle.std.specs.Prelude.{OnOk};
-ghost use Rattle.tg_tree.specs.glue.Plain.{plain_cond};
+ghost use Rattle.tg_tree.specs.glue.Plain.{plain_tx, plain_cond};
+ghost use Rattle.tg_tree.specs.Tree as tree;
 ghost use Rattle.tg_trace_schedule.specs.glue.Plains.{Cuts};
 ghost use Rattle.tg_trace_schedule.specs.mirror.Cutting as cutting;
 
@@ -7,9 +8,10 @@ use crate::cuts::{Cut, open_at, seal};
 use crate::flows::End;
 use std::alloc::Global;
 use tg_base::Memory;
-use tg_tree::Cond;
+use tg_tree::{Cond, Rel, Tx};
 
 /// Cuts a condition, by the marks where it leads where it holds and where it doesn't.
+#[inline(never)]
 pub(crate) fn branch(
     alloc: Global,
     cut: &mut Cut,
@@ -21,9 +23,7 @@ pub(crate) fn branch(
 {
     match test {
         Cond::Compare(rel, left, right) => {
-            let left = Box::into_inner(left);
-            let right = Box::into_inner(right);
-            open_at(cut, End::Branch(rel, left, right, yes, no));
+            branch_compare(cut, rel, left, right, yes, no);
             Ok(())
         }
         Cond::Not(test) => branch(alloc, cut, Box::into_inner(test), no, yes),
@@ -38,4 +38,15 @@ pub(crate) fn branch(
             branch(alloc, cut, Box::into_inner(first), yes, next)
         }
     }
+}
+
+/// Cuts a comparison.
+#[inline(never)]
+fn branch_compare(cut: &mut Cut, rel: Rel, left: Box<Tx>, right: Box<Tx>, yes: u32, no: u32)
+    ensures { Cuts cut.old cut.new (cutting.branch
+        (tree.Compare rel (plain_tx left.value) (plain_tx right.value)) yes no) }
+{
+    let left = Box::into_inner(left);
+    let right = Box::into_inner(right);
+    open_at(cut, End::Branch(rel, left, right, yes, no));
 }

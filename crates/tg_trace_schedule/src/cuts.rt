@@ -2,6 +2,7 @@ ghost use Rattle.std.specs.Prelude.{◌≡◌, [], reverse, length, slice_set, I
 ghost use Rattle.tg_tree.specs.glue.Plain.{plain_ts};
 ghost use Rattle.tg_tree.specs.glue.Lists.{stms_of};
 ghost use Rattle.tg_tree.specs.Tree.{no_stms};
+ghost use Rattle.tg_trace_schedule.specs.Block.{Jump};
 ghost use Rattle.tg_trace_schedule.specs.glue.Plains.{plain_end, plain_cut, Cuts};
 ghost use Rattle.tg_trace_schedule.specs.mirror.Cutting as cutting;
 
@@ -46,7 +47,16 @@ pub(crate) fn open_at(cut: &mut Cut, end: End)
     cut.end = end;
 }
 
+/// What comes in front goes on at a mark.
+#[inline(never)]
+pub(crate) fn jump_to(cut: &mut Cut, mark: u32)
+    ensures { Cuts cut.old cut.new (cutting.open_at (Jump mark)) }
+{
+    open_at(cut, End::Jump(mark));
+}
+
 /// Puts a statement in front.
+#[inline(never)]
 pub(crate) fn put_in_front(cut: &mut Cut, statement: Ts) -> Result<(), Memory>
     ensures { OnOk result (Cuts cut.old cut.new (cutting.in_front (plain_ts statement))) }
 {
@@ -110,6 +120,7 @@ fn target(end: &End) -> Option<u32>
 }
 
 /// The mark of what comes next, which is laid unless it only jumps.
+#[inline(never)]
 pub(crate) fn seal(alloc: Global, cut: &mut Cut) -> Result<u32, Memory>
     ensures mark { IfOk result (λ mark. mark ≡ cutting.next_mark (plain_cut cut.old)) }
     ensures cut { OnOk result (Cuts cut.old cut.new cutting.seal) }
@@ -142,6 +153,7 @@ fn stand(places: &mut [u32], mark: u32, place: u32)
 }
 
 /// Lets a loop's head stand at the open block, which is laid.
+#[inline(never)]
 pub(crate) fn put_head(alloc: Global, cut: &mut Cut, mark: u32) -> Result<(), Memory>
     ensures { OnOk result (Cuts cut.old cut.new (cutting.head mark)) }
 {

@@ -1,17 +1,17 @@
 ghost use Rattle.std.specs.Prelude.{◌≡◌, IfOk, OnOk};
-ghost use Rattle.tg_tree.specs.glue.Plain.{plain_ts};
+ghost use Rattle.tg_tree.specs.glue.Plain.{plain_tx, plain_ts};
 ghost use Rattle.tg_tree.specs.glue.Lists.{stms_of};
 ghost use Rattle.tg_tree.specs.Tree as tree;
 ghost use Rattle.tg_trace_schedule.specs.glue.Plains.{plain_blocks, plain_cut, Cuts, come_to as come_to_in};
 ghost use Rattle.tg_trace_schedule.specs.mirror.Cutting as cutting;
 
 use crate::conditions::branch;
-use crate::cuts::{Cut, draw, open_at, put_head, put_in_front, seal, start};
+use crate::cuts::{Cut, draw, jump_to, open_at, put_head, put_in_front, seal, start};
 use crate::flows::{Blocks, End};
 use crate::placing::{enter, place_all};
 use std::alloc::Global;
 use tg_base::Memory;
-use tg_tree::{Stms, Ts};
+use tg_tree::{Stms, Ts, Tx};
 
 /// Cuts canonical statements into basic blocks. It fails only where memory runs out.
 pub fn blocks(alloc: Global, stms: Vec<Ts>) -> Result<Blocks, Memory>
@@ -24,8 +24,10 @@ pub fn blocks(alloc: Global, stms: Vec<Ts>) -> Result<Blocks, Memory>
     Ok(Blocks::from_vec(items))
 }
 
-/// Cuts a statement.
+/// Cuts a statement. What else is done than to go on into its parts is done by functions of their
+/// own, so that a statement in another leaves little on the stack.
 #[cycle(cutting)]
+#[inline(never)]
 fn cut(alloc: Global, before: &mut Cut, statement: Ts) -> Result<(), Memory>
     ensures { OnOk result (Cuts before.old before.new
         (cutting.cut before.old.exits.items (plain_ts statement))) }
@@ -33,24 +35,23 @@ fn cut(alloc: Global, before: &mut Cut, statement: Ts) -> Result<(), Memory>
     match statement {
         Ts::If(test, this, other) => {
             let join = seal(alloc, before)?;
-            let no = cut_side(alloc, before, Box::into_inner(other), join)?;
-            let yes = cut_side(alloc, before, Box::into_inner(this), join)?;
+            let no = cut_side(alloc, before, other, join)?;
+            let yes = cut_side(alloc, before, this, join)?;
             branch(alloc, before, test, yes, no)?;
             Ok(())
         }
-        Ts::Loop(turn) => cut_loop(alloc, before, Box::into_inner(turn)),
+        Ts::Loop(turn) => cut_loop(alloc, before, turn),
         Ts::Break(loops) => {
-            let exit = exit_of(&before.exits, loops);
-            open_at(before, End::Jump(exit));
+            leave_loops(before, loops);
             Ok(())
         }
         Ts::Fault(code) => {
-            open_at(before, End::Fault(code));
+            end_in_fault(before, code);
             Ok(())
         }
         Ts::Seq(all) => cut_all(alloc, before, all),
         Ts::Return(value) => {
-            open_at(before, End::Return(value));
+            end_in_return(before, value);
             Ok(())
         }
         flat => put_in_front(before, flat),
@@ -59,31 +60,33 @@ fn cut(alloc: Global, before: &mut Cut, statement: Ts) -> Result<(), Memory>
 
 /// Cuts a side of a choice, after which both sides join, and gives its mark.
 #[cycle(cutting)]
-fn cut_side(alloc: Global, before: &mut Cut, side: Ts, join: u32) -> Result<u32, Memory>
+#[inline(never)]
+fn cut_side(alloc: Global, before: &mut Cut, side: Box<Ts>, join: u32) -> Result<u32, Memory>
     ensures mark { IfOk result (λ mark. mark ≡
         cutting.next_mark (cutting.before_join join
-        (cutting.cut before.old.exits.items (plain_ts side)) (plain_cut before.old))) }
+        (cutting.cut before.old.exits.items (plain_ts side.value)) (plain_cut before.old))) }
     ensures cut { OnOk result (Cuts before.old before.new (λ c.
         cutting.seal (cutting.before_join join
-        (cutting.cut before.old.exits.items (plain_ts side)) c))) }
+        (cutting.cut before.old.exits.items (plain_ts side.value)) c))) }
 {
-    open_at(before, End::Jump(join));
-    cut(alloc, before, side)?;
+    jump_to(before, join);
+    cut(alloc, before, Box::into_inner(side))?;
     let mark = seal(alloc, before)?;
     Ok(mark)
 }
 
 /// Cuts a loop by what it does again and again.
 #[cycle(cutting)]
-fn cut_loop(alloc: Global, before: &mut Cut, turn: Ts) -> Result<(), Memory>
+#[inline(never)]
+fn cut_loop(alloc: Global, before: &mut Cut, turn: Box<Ts>) -> Result<(), Memory>
     ensures { OnOk result (Cuts before.old before.new
-        (λ c. cutting.cut before.old.exits.items (tree.Loop (plain_ts turn)) c)) }
+        (λ c. cutting.cut before.old.exits.items (tree.Loop (plain_ts turn.value)) c)) }
 {
     let exit = seal(alloc, before)?;
     let head = draw(before, 0)?;
     before.exits.push(exit)?;
-    open_at(before, End::Jump(head));
-    cut(alloc, before, turn)?;
+    jump_to(before, head);
+    cut(alloc, before, Box::into_inner(turn))?;
     before.exits.pop();
     put_head(alloc, before, head)?;
     Ok(())
@@ -91,6 +94,7 @@ fn cut_loop(alloc: Global, before: &mut Cut, turn: Ts) -> Result<(), Memory>
 
 /// Cuts statements in turn, from the last that is come to.
 #[cycle(cutting)]
+#[inline(never)]
 fn cut_all(alloc: Global, before: &mut Cut, mut all: Stms) -> Result<(), Memory>
     ensures { OnOk result (Cuts before.old before.new
         (cutting.cut_all before.old.exits.items (stms_of all.items.items))) }
@@ -107,6 +111,7 @@ fn cut_all(alloc: Global, before: &mut Cut, mut all: Stms) -> Result<(), Memory>
 }
 
 /// Lets go of a statement that is never come to.
+#[inline(never)]
 fn forget(_statement: Ts) {}
 
 /// How many statements are come to, the first of them that leaves the sequence among them.
@@ -135,4 +140,32 @@ fn exit_of(exits: &[u32], loops: u32) -> u32
     let behind = loops as usize + 1;
     let place = exits.len().saturating_sub(behind);
     if place < exits.len() { exits[place] } else { 0 }
+}
+
+/// What comes in front leaves so many loops and one more.
+#[inline(never)]
+fn leave_loops(before: &mut Cut, loops: u32)
+    ensures { Cuts before.old before.new
+        (cutting.cut before.old.exits.items (tree.Break loops)) }
+{
+    let exit = exit_of(&before.exits, loops);
+    open_at(before, End::Jump(exit));
+}
+
+/// What comes in front ends in a fault.
+#[inline(never)]
+fn end_in_fault(before: &mut Cut, code: u32)
+    ensures { Cuts before.old before.new
+        (cutting.cut before.old.exits.items (tree.Fault code)) }
+{
+    open_at(before, End::Fault(code));
+}
+
+/// What comes in front returns a value.
+#[inline(never)]
+fn end_in_return(before: &mut Cut, value: Tx)
+    ensures { Cuts before.old before.new
+        (cutting.cut before.old.exits.items (tree.Return (plain_tx value))) }
+{
+    open_at(before, End::Return(value));
 }

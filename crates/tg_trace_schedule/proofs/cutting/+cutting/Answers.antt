@@ -19,16 +19,17 @@ pub cut_loop-returns : goal.cut_loop-returns
 cut_loop-returns t c =
     let exits = c.args.before.now.exits.items in
     let exit = c.in_ok-exit.exit in
-    let opened = plain_cut c.open_at.new.cut in
-    let pushed : c.open_at.new.cut.exits.items ≡ exits ++ exit ∷ [] =
-    c.open_at.ensures.exits ∙ (c.in_ok-push.ensures.items ∙ ap (λ es. es ++ exit ∷ []) (c.in_ok-head.ensures.cut.exits ∙ c.in_ok-exit.ensures.cut.exits)) in
+    let opened = plain_cut c.jump_to.new.cut in
+    let pushed : c.jump_to.new.cut.exits.items ≡ exits ++ exit ∷ [] =
+    c.jump_to.ensures.exits ∙ (c.in_ok-push.ensures.items ∙ ap (λ es. es ++ exit ∷ []) (c.in_ok-head.ensures.cut.exits ∙ c.in_ok-exit.ensures.cut.exits)) in
     record {
       exits = c.in_ok-put_head.ensures.exits ∙ popped _ _ _ exits exit c.pop.ensures.rest c.cut.new.before.exits.ok.0 (c.in_ok-cut.ensures.exits ∙ pushed);
       cut =
-          turned_is exits (plain_ts c.args.turn) (plain_cut c.args.before.now) (plain_cut c.seal.new.cut)
+          turned_is exits (plain_ts c.args.turn.value) (plain_cut c.args.before.now) (plain_cut c.seal.new.cut)
           (plain_cut c.draw.new.cut) opened _ _ exit c.in_ok-head.head
-          c.in_ok-exit.ensures.mark c.in_ok-exit.ensures.cut.cut c.in_ok-head.ensures.mark c.in_ok-head.ensures.cut.cut c.open_at.ensures.cut
-          (c.in_ok-cut.ensures.cut ∙ ap (λ es. cutting.cut es (plain_ts c.args.turn) opened) pushed) c.in_ok-put_head.ensures.cut;
+          c.in_ok-exit.ensures.mark c.in_ok-exit.ensures.cut.cut c.in_ok-head.ensures.mark c.in_ok-head.ensures.cut.cut c.jump_to.ensures.cut
+          (c.in_ok-cut.ensures.cut ∙ (ap (λ b. cutting.cut c.jump_to.new.cut.exits.items (plain_ts b) opened) c.into_inner.ensures
+          ∙ ap (λ es. cutting.cut es (plain_ts c.args.turn.value) opened) pushed)) c.in_ok-put_head.ensures.cut;
     }
 
 pub cut_all-loop-statement-preserved-in-Continue-1 : goal.cut_all-loop-statement-preserved-in-Continue-1
