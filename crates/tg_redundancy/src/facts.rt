@@ -2,8 +2,9 @@ ghost use Rattle.std.specs.Prelude.{◌≡◌, OnOk};
 ghost use Rattle.tg_redundancy.specs.mirror.Readings as readings;
 ghost use Rattle.tg_redundancy.specs.mirror.Facts as facts;
 ghost use Rattle.tg_redundancy.specs.mirror.Known.{most_facts};
+ghost use Rattle.tg_redundancy.specs.glue.Facts as turns;
 
-use crate::readings::{Reading, is_same, reads, reads_memory, same_reading};
+use crate::readings::{Reading, is_one_of, is_same, reads, reads_memory, same_reading};
 use tg_base::{Memory, Temp};
 use tg_instr::Opnd;
 use tg_tree::Rel;
@@ -27,12 +28,12 @@ pub(crate) fn temp(number: u32) -> Opnd
     Opnd::Temp(Temp(number))
 }
 
-// What an operand is known to have, by one fact.
-fn moved_by(fact: Fact, operand: Opnd) -> Option<Opnd>
-    ensures { result ≡ facts.moved_by fact operand }
+// What an operand has, if it is this holder of what is read so, and that is moved from another.
+fn moved_from(holder: u32, reading: Reading, operand: Opnd) -> Option<Opnd>
+    ensures { result ≡ turns.moved_from holder reading operand }
 {
-    match fact {
-        Fact::Has(holder, Reading::Moved(from)) => if is_same(temp(holder), operand) {
+    match reading {
+        Reading::Moved(from) => if is_same(temp(holder), operand) {
             Some(from)
         } else {
             None
@@ -41,61 +42,71 @@ fn moved_by(fact: Fact, operand: Opnd) -> Option<Opnd>
     }
 }
 
-/// The operand that was known to have what this one has, or itself.
-pub(crate) fn stands(list: &[Fact], operand: Opnd) -> Opnd
-    ensures { result ≡ facts.stands list.now operand }
+// What an operand is known to have, by one fact.
+fn moved_by(fact: Fact, operand: Opnd) -> Option<Opnd>
+    ensures { result ≡ turns.moved_by fact operand }
 {
-    let mut rest = list;
-    while let Some((fact, behind)) = rest.split_first() {
-        if let Some(from) = moved_by(*fact, operand) {
+    match fact {
+        Fact::Has(holder, reading) => moved_from(holder, reading, operand),
+        Fact::Untrue(_, _, _) => None,
+    }
+}
+
+/// The operand that was known to have what this one has, or itself.
+pub(crate) fn stands(list: &[Fact], operand: &Opnd) -> Opnd
+    ensures { result ≡ facts.stands list.now operand.now }
+{
+    for fact in list {
+        if let Some(from) = moved_by(*fact, *operand) {
             return from;
         }
-        rest = behind;
     }
-    operand
+    *operand
 }
 
 /// A reading with the operands for which its own stand.
-pub(crate) fn reread(list: &[Fact], reading: Reading) -> Reading
-    ensures { result ≡ readings.reread (facts.stands list.now) reading }
+pub(crate) fn reread(list: &[Fact], reading: &Reading) -> Reading
+    ensures { result ≡ readings.reread (facts.stands list.now) reading.now }
 {
     match reading {
         Reading::Moved(from) => Reading::Moved(stands(list, from)),
-        Reading::Loaded(bytes, base) => Reading::Loaded(bytes, stands(list, base)),
-        Reading::InSlot(slot) => Reading::InSlot(slot),
+        Reading::Loaded(bytes, base) => Reading::Loaded(*bytes, stands(list, base)),
+        Reading::InSlot(slot) => Reading::InSlot(*slot),
         Reading::Sum(x, y) => Reading::Sum(stands(list, x), stands(list, y)),
-        Reading::Plus(x, number) => Reading::Plus(stands(list, x), number),
+        Reading::Plus(x, number) => Reading::Plus(stands(list, x), *number),
         Reading::ExactSum(x, y) => Reading::ExactSum(stands(list, x), stands(list, y)),
-        Reading::ExactPlus(x, number) => Reading::ExactPlus(stands(list, x), number),
-        Reading::Shifted(x, by) => Reading::Shifted(stands(list, x), by),
+        Reading::ExactPlus(x, number) => Reading::ExactPlus(stands(list, x), *number),
+        Reading::Shifted(x, by) => Reading::Shifted(stands(list, x), *by),
         Reading::Lower(x, y) => Reading::Lower(stands(list, x), stands(list, y)),
     }
 }
 
 // The temporary that has a word, by one fact, other than one.
 fn held_by(to: u32, reading: Reading, fact: Fact) -> Option<u32>
-    ensures { result ≡ facts.held_by to reading fact }
+    ensures { result ≡ turns.held_by to reading fact }
 {
     match fact {
-        Fact::Has(holder, had) => if same_reading(had, reading) && holder != to {
-            Some(holder)
-        } else {
-            None
-        },
+        Fact::Has(holder, had) => {
+            if holder == to {
+                None
+            } else if same_reading(had, reading) {
+                Some(holder)
+            } else {
+                None
+            }
+        }
         Fact::Untrue(_, _, _) => None,
     }
 }
 
 /// A temporary other than this one that has what is read so.
-pub(crate) fn found(list: &[Fact], to: u32, reading: Reading) -> Option<u32>
-    ensures { result ≡ facts.found to reading list.now }
+pub(crate) fn found(list: &[Fact], to: u32, reading: &Reading) -> Option<u32>
+    ensures { result ≡ facts.found to reading.now list.now }
 {
-    let mut rest = list;
-    while let Some((fact, behind)) = rest.split_first() {
-        if let Some(holder) = held_by(to, reading, *fact) {
+    for fact in list {
+        if let Some(holder) = held_by(to, *reading, *fact) {
             return Some(holder);
         }
-        rest = behind;
     }
     None
 }
@@ -103,12 +114,21 @@ pub(crate) fn found(list: &[Fact], to: u32, reading: Reading) -> Option<u32>
 fn same_rel(one: Rel, other: Rel) -> bool
     ensures { result ≡ facts.same_rel one other }
 {
-    one == other
+    match one {
+        Rel::Equal => matches!(other, Rel::Equal),
+        Rel::NotEqual => matches!(other, Rel::NotEqual),
+        Rel::Less => matches!(other, Rel::Less),
+        Rel::LessEqual => matches!(other, Rel::LessEqual),
+        Rel::Greater => matches!(other, Rel::Greater),
+        Rel::GreaterEqual => matches!(other, Rel::GreaterEqual),
+        Rel::Below => matches!(other, Rel::Below),
+        Rel::NotBelow => matches!(other, Rel::NotBelow),
+    }
 }
 
 // Whether a fact says that a comparison doesn't hold.
 fn denies(rel: Rel, left: Opnd, right: Opnd, fact: Fact) -> bool
-    ensures { result ≡ facts.denies rel left right fact }
+    ensures { result ≡ turns.denies rel left right fact }
 {
     match fact {
         Fact::Has(_, _) => false,
@@ -119,26 +139,24 @@ fn denies(rel: Rel, left: Opnd, right: Opnd, fact: Fact) -> bool
 }
 
 /// Whether a comparison is known not to hold.
-pub(crate) fn is_untrue(list: &[Fact], rel: Rel, left: Opnd, right: Opnd) -> bool
-    ensures { result ≡ facts.is_untrue rel left right list.now }
+pub(crate) fn is_untrue(list: &[Fact], rel: Rel, left: &Opnd, right: &Opnd) -> bool
+    ensures { result ≡ facts.is_untrue rel left.now right.now list.now }
 {
-    let mut rest = list;
-    while let Some((fact, behind)) = rest.split_first() {
-        if denies(rel, left, right, *fact) {
+    for fact in list {
+        if denies(rel, *left, *right, *fact) {
             return true;
         }
-        rest = behind;
     }
     false
 }
 
 // Whether a fact names an operand.
-fn is_of(operand: Opnd, fact: Fact) -> bool
-    ensures { result ≡ facts.is_of operand fact }
+fn is_of(operand: &Opnd, fact: &Fact) -> bool
+    ensures { result ≡ facts.is_of operand.now fact.now }
 {
     match fact {
-        Fact::Has(holder, reading) => is_same(temp(holder), operand) || reads(operand, reading),
-        Fact::Untrue(_, left, right) => is_same(left, operand) || is_same(right, operand),
+        Fact::Has(holder, reading) => is_same(temp(*holder), *operand) || reads(operand, reading),
+        Fact::Untrue(_, left, right) => is_one_of(operand, left, right),
     }
 }
 
@@ -153,20 +171,18 @@ fn is_of_memory(fact: Fact) -> bool
 }
 
 /// Forgets what names an operand, which is defined.
-pub(crate) fn forget(list: &mut Vec<Fact>, operand: Opnd)
-    ensures { list.new.items ≡ facts.forget operand list.old.items }
+pub(crate) fn forget(list: &mut Vec<Fact>, operand: &Opnd)
+    ensures { list.new.items ≡ facts.forget operand.now list.old.items }
 {
-    list.retain(|fact| !is_of(operand, *fact));
+    list.retain(|fact| !is_of(operand, fact));
 }
 
 /// Forgets what names one of these operands.
 pub(crate) fn forget_each(list: &mut Vec<Fact>, operands: &[Opnd])
     ensures { list.new.items ≡ facts.forget_each operands.now list.old.items }
 {
-    let mut rest = operands;
-    while let Some((operand, behind)) = rest.split_first() {
-        forget(list, *operand);
-        rest = behind;
+    for operand in operands {
+        forget(list, operand);
     }
 }
 
@@ -183,6 +199,7 @@ pub(crate) fn note(list: &mut Vec<Fact>, fact: Fact) -> Result<(), Memory>
 {
     // (the borrow checker has to be told of the types that a fact holds)
     let _opnd: Option<Opnd> = None;
+    let _reading: Option<Reading> = None;
     list.truncate(MOST_FACTS - 1);
     list.insert(0, fact)?;
     Ok(())

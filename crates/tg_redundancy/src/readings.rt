@@ -1,5 +1,6 @@
-ghost use Rattle.std.specs.Prelude.{◌≡◌, ◌&&◌, ◌==◌};
+ghost use Rattle.std.specs.Prelude.{◌≡◌, ◌&&◌, ◌==◌, ◌∷◌, []};
 ghost use Rattle.tg_instr.specs.Operands.{is_same};
+ghost use Rattle.tg_redundancy.specs.declared.readings.Reading.TheVariants.{InSlot};
 ghost use Rattle.tg_redundancy.specs.mirror.Readings as readings;
 ghost use Rattle.tg_redundancy.specs.mirror.Facts.{names_one};
 
@@ -11,17 +12,19 @@ use tg_isa::Bits;
 pub enum Reading {
     /// What an operand holds.
     Moved(Opnd),
-    /// The word of memory at so many bytes after what an operand holds.
+    /// The word of memory at so many bytes after what an operand holds, with the sign of 16 bits.
     Loaded(Bits<16>, Opnd),
-    /// What a slot of the frame holds.
+    /// What a slot of the frame holds, by its number.
     InSlot(u32),
-    /// The wrapping sum of two operands, and of one with a number.
+    /// The wrapping sum of two operands.
     Sum(Opnd, Opnd),
+    /// The wrapping sum of an operand and a number of 16 bits with its sign.
     Plus(Opnd, Bits<16>),
-    /// The same sums, which end the run by overflow where they are out of 32 bits.
+    /// The sum of two operands, which ends the run by overflow where it is out of 32 bits.
     ExactSum(Opnd, Opnd),
+    /// The sum of an operand and a number of 16 bits with its sign, which ends the run so too.
     ExactPlus(Opnd, Bits<16>),
-    /// An operand, shifted to the left.
+    /// An operand, shifted to the left by so many bits.
     Shifted(Opnd, Bits<5>),
     /// Whether the first is below the second, without sign.
     Lower(Opnd, Opnd),
@@ -81,50 +84,94 @@ pub(crate) fn reads_memory(reading: Reading) -> bool
     }
 }
 
+fn is_that(operand: &Opnd, x: &Opnd) -> bool
+    ensures { result ≡ names_one operand.now (x.now ∷ []) }
+{
+    is_same(*x, *operand)
+}
+
+/// Whether an operand is one of two.
+pub(crate) fn is_one_of(operand: &Opnd, x: &Opnd, y: &Opnd) -> bool
+    ensures { result ≡ names_one operand.now (x.now ∷ y.now ∷ []) }
+{
+    is_same(*x, *operand) || is_same(*y, *operand)
+}
+
 /// Whether a reading reads an operand.
-pub(crate) fn reads(operand: Opnd, reading: Reading) -> bool
-    ensures { result ≡ names_one operand (readings.read_by reading) }
+pub(crate) fn reads(operand: &Opnd, reading: &Reading) -> bool
+    ensures { result ≡ names_one operand.now (readings.read_by reading.now) }
 {
     match reading {
+        Reading::Moved(x) => is_that(operand, x),
+        Reading::Loaded(_, x) => is_that(operand, x),
         Reading::InSlot(_) => false,
-        Reading::Moved(x) | Reading::Loaded(_, x) => is_same(x, operand),
-        Reading::Plus(x, _) | Reading::ExactPlus(x, _) | Reading::Shifted(x, _) => {
-            is_same(x, operand)
-        }
-        Reading::Sum(x, y) | Reading::ExactSum(x, y) | Reading::Lower(x, y) => {
-            is_same(x, operand) || is_same(y, operand)
-        }
+        Reading::Sum(x, y) => is_one_of(operand, x, y),
+        Reading::Plus(x, _) => is_that(operand, x),
+        Reading::ExactSum(x, y) => is_one_of(operand, x, y),
+        Reading::ExactPlus(x, _) => is_that(operand, x),
+        Reading::Shifted(x, _) => is_that(operand, x),
+        Reading::Lower(x, y) => is_one_of(operand, x, y),
     }
 }
 
-fn same_two(one: (Opnd, Opnd), other: (Opnd, Opnd)) -> bool
-    ensures { result ≡ (is_same one.0 other.0 && is_same one.1 other.1) }
+fn same_two(x: Opnd, y: Opnd, u: Opnd, v: Opnd) -> bool
+    ensures { result ≡ (is_same x u && is_same y v) }
 {
-    is_same(one.0, other.0) && is_same(one.1, other.1)
+    is_same(x, u) && is_same(y, v)
 }
 
-fn same_with(one: (u32, Opnd), other: (u32, Opnd)) -> bool
-    ensures { result ≡ (one.0 == other.0 && is_same one.1 other.1) }
+fn same_with(n: u32, x: Opnd, m: u32, y: Opnd) -> bool
+    ensures { result ≡ (n == m && is_same x y) }
 {
-    one.0 == other.0 && is_same(one.1, other.1)
+    n == m && is_same(x, y)
+}
+
+fn is_slot(slot: u32, other: Reading) -> bool
+    ensures { result ≡ readings.same_reading (InSlot slot) other }
+{
+    match other {
+        Reading::InSlot(number) => slot == number,
+        _ => false,
+    }
 }
 
 /// Whether two readings are one.
 pub(crate) fn same_reading(one: Reading, other: Reading) -> bool
     ensures { result ≡ readings.same_reading one other }
 {
-    match (one, other) {
-        (Reading::Moved(x), Reading::Moved(y)) => is_same(x, y),
-        (Reading::Loaded(n, x), Reading::Loaded(m, y)) => same_with((n.get(), x), (m.get(), y)),
-        (Reading::InSlot(n), Reading::InSlot(m)) => n == m,
-        (Reading::Sum(x, y), Reading::Sum(u, v)) => same_two((x, y), (u, v)),
-        (Reading::Plus(x, n), Reading::Plus(y, m)) => same_with((n.get(), x), (m.get(), y)),
-        (Reading::ExactSum(x, y), Reading::ExactSum(u, v)) => same_two((x, y), (u, v)),
-        (Reading::ExactPlus(x, n), Reading::ExactPlus(y, m)) => {
-            same_with((n.get(), x), (m.get(), y))
-        }
-        (Reading::Shifted(x, n), Reading::Shifted(y, m)) => same_with((n.get(), x), (m.get(), y)),
-        (Reading::Lower(x, y), Reading::Lower(u, v)) => same_two((x, y), (u, v)),
-        _ => false,
+    match one {
+        Reading::Moved(x) => match other {
+            Reading::Moved(y) => is_same(x, y),
+            _ => false,
+        },
+        Reading::Loaded(n, x) => match other {
+            Reading::Loaded(m, y) => same_with(n.get(), x, m.get(), y),
+            _ => false,
+        },
+        Reading::InSlot(slot) => is_slot(slot, other),
+        Reading::Sum(x, y) => match other {
+            Reading::Sum(u, v) => same_two(x, y, u, v),
+            _ => false,
+        },
+        Reading::Plus(x, n) => match other {
+            Reading::Plus(y, m) => same_with(n.get(), x, m.get(), y),
+            _ => false,
+        },
+        Reading::ExactSum(x, y) => match other {
+            Reading::ExactSum(u, v) => same_two(x, y, u, v),
+            _ => false,
+        },
+        Reading::ExactPlus(x, n) => match other {
+            Reading::ExactPlus(y, m) => same_with(n.get(), x, m.get(), y),
+            _ => false,
+        },
+        Reading::Shifted(x, n) => match other {
+            Reading::Shifted(y, m) => same_with(n.get(), x, m.get(), y),
+            _ => false,
+        },
+        Reading::Lower(x, y) => match other {
+            Reading::Lower(u, v) => same_two(x, y, u, v),
+            _ => false,
+        },
     }
 }

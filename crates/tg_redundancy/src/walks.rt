@@ -1,10 +1,22 @@
-ghost use Rattle.std.specs.Prelude.{◌≡◌, ◌++◌, take, IfOk, OnOk};
+ghost use Rattle.std.specs.Prelude.{◌≡◌, ◌<◌, [], take, if◌then◌else◌, IfOk, OnOk};
 ghost use Rattle.tg_tree.specs.Operators.{opposite};
 ghost use Rattle.tg_redundancy.specs.declared.facts.Fact.TheVariants.{Untrue};
-ghost use Rattle.tg_redundancy.specs.mirror.Facts as facts;
+ghost use Rattle.tg_redundancy.specs.mirror.Facts.{found, noted};
 ghost use Rattle.tg_redundancy.specs.mirror.Known as known;
 ghost use Rattle.tg_redundancy.specs.mirror.Known.{most_facts, most_moves};
-ghost use Rattle.tg_redundancy.specs.glue.Walks.{changed, given, if_room, learnt, passed, stepped, tested_by};
+ghost use Rattle.tg_redundancy.specs.glue.Walks.{
+  HasStepped,
+  changed,
+  given,
+  if_room,
+  learnt,
+  moves,
+  passed,
+  reads,
+  state_of,
+  stepped,
+  tested_by,
+};
 
 use crate::changes::{copy, get, keep, move_to};
 use crate::copies::push_same;
@@ -12,7 +24,6 @@ use crate::facts::{Fact, forget_each, forget_memory, found, is_untrue, note, rer
 use crate::readings::{Reading, reading_of};
 use std::alloc::Global;
 use std::collections::HashMap;
-use std::marker::Model;
 use tg_base::{ListOf, Memory};
 use tg_instr::{Instr, Opnd, Test, push_instr};
 use tg_tree::{Rel, opposite};
@@ -36,27 +47,8 @@ pub(crate) struct Walk {
     room: u32,
 }
 
-impl Model for Walk {
-    ghost use Rattle.std.specs.Prelude.{nat_eq};
-    ghost use Rattle.std.specs.HashMap.{get};
-    ghost use Rattle.tg_redundancy.specs.mirror.Known.{State};
-
-    ghost Value = { State };
-
-    ghost view = { λ w. record {
-      comes = w.comes;
-      claims = λ mark. get nat_eq w.claims mark;
-      room = w.room;
-    } };
-}
-
 // What is known behind a mark, by what comes from in front and what was met.
-fn arrival(
-    alloc: Global,
-    from_behind: bool,
-    comes: Option<Facts>,
-    met: Option<Facts>,
-) -> Facts
+fn arrival(alloc: Global, from_behind: bool, comes: Option<Facts>, met: Option<Facts>) -> Facts
     ensures { result ≡ known.arrival from_behind comes met }
 {
     if from_behind {
@@ -80,7 +72,7 @@ fn change(alloc: Global, facts: &mut Vec<Fact>, one: &Instr) -> Result<(), Memor
     ensures { OnOk result (facts.new.items ≡ changed one.now facts.old.items) }
 {
     match one {
-        Instr::Move(to, from) => move_to(facts, *to, *from),
+        Instr::Move(to, from) => move_to(facts, to, from),
         Instr::Sb(_, _, _) | Instr::Sw(_, _, _) => {
             forget_memory(facts);
             Ok(())
@@ -98,18 +90,23 @@ fn change(alloc: Global, facts: &mut Vec<Fact>, one: &Instr) -> Result<(), Memor
     }
 }
 
-// The last facts, as many as are claimed.
-fn last_facts(alloc: Global, list: &[Fact]) -> Result<Facts, Memory>
-    ensures { IfOk result (λ facts. facts ≡ take known.most_claimed list.now) }
+// What is claimed for a mark: the last facts, and of a second way nothing.
+fn claimed(alloc: Global, is_second: bool, facts: &[Fact]) -> Result<Facts, Memory>
+    ensures { IfOk result (λ claimed.
+        claimed ≡ (if is_second then [] else take known.most_claimed facts.now)) }
 {
-    let few = list.len().min(MOST_CLAIMED);
-    Ok(Facts::from_vec(Vec::from_slice(alloc, &list[..few])?))
+    if is_second {
+        return Ok(Facts::from_vec(Vec::new(alloc)));
+    }
+    let few = MOST_CLAIMED.min(facts.len());
+    let claimed = Vec::from_slice(alloc, &facts[..few])?;
+    Ok(Facts::from_vec(claimed))
 }
 
 impl Walk {
     /// Where a function is entered.
     pub(crate) fn new(alloc: Global) -> Walk
-        ensures { result ≡ known.at_start most_moves }
+        ensures { state_of result ≡ known.at_start most_moves }
     {
         Walk {
             alloc,
@@ -119,10 +116,10 @@ impl Walk {
         }
     }
 
-    // What is known here, and nothing comes.
+    // What is known here; and nothing comes.
     fn take_known(&mut self) -> Vec<Fact>
-        ensures facts { result.items ≡ known.known self.old }
-        ensures left { self.new ≡ known.nothing_comes self.old }
+        ensures facts { result.items ≡ known.known (state_of self.old) }
+        ensures left { state_of self.new ≡ known.nothing_comes (state_of self.old) }
     {
         match self.comes.take() {
             Some(facts) => facts.into_vec(),
@@ -131,26 +128,24 @@ impl Walk {
     }
 
     fn go_on(&mut self, facts: Vec<Fact>)
-        ensures { self.new ≡ known.goes_on facts.items self.old }
+        ensures { state_of self.new ≡ known.goes_on facts.items (state_of self.old) }
     {
         self.comes = Some(Facts::from_vec(facts));
     }
 
     // Facts for a mark, by a way to it.
     fn claim(&mut self, mark: u32, facts: &[Fact]) -> Result<(), Memory>
-        ensures { OnOk result (self.new ≡ known.with_claim mark facts.now self.old) }
+        ensures { OnOk result (state_of self.new ≡
+            known.with_claim mark facts.now (state_of self.old)) }
     {
-        let claimed = if self.claims.contains_key(&mark) {
-            Facts::from_vec(Vec::new(self.alloc))
-        } else {
-            last_facts(self.alloc, facts)?
-        };
+        let is_second = self.claims.contains_key(&mark);
+        let claimed = claimed(self.alloc, is_second, facts)?;
         let _ = self.claims.insert(mark, claimed)?;
         Ok(())
     }
 
     fn arrive(&mut self, mark: u32, from_behind: bool)
-        ensures { self.new ≡ known.at_mark mark from_behind self.old }
+        ensures { state_of self.new ≡ known.at_mark mark from_behind (state_of self.old) }
     {
         let met = self.claims.remove(&mark);
         let comes = self.comes.take();
@@ -165,36 +160,61 @@ impl Walk {
         to: u32,
         reading: Reading,
     ) -> Result<(), Memory>
-        ensures state { OnOk result (self.new ≡ (given to reading one.now self.old).state) }
-        ensures list { OnOk result (list.new.items ≡ list.old.items ++
-            (given to reading one.now self.old).block) }
+        ensures { OnOk result (HasStepped self.new list.old.items list.new.items
+            (given to reading one.now (state_of self.old))) }
     {
-        let mut facts = self.take_known();
-        let reading = reread(&facts, reading);
-        match self.holder(&facts, to, reading) {
-            Some(holder) => {
-                self.room -= 1;
-                copy(&mut facts, to, temp(holder))?;
-                push_instr(list, Instr::Move(temp(to), temp(holder)))?;
-            }
-            None => {
-                get(&mut facts, to, reading)?;
-                push_same(list, one)?;
-            }
+        let facts = self.take_known();
+        let stood = reread(&facts, &reading);
+        let held = self.holder(&facts, to, &stood);
+        match held {
+            Some(holder) => self.move_word(list, facts, to, holder),
+            None => self.read_word(list, facts, one, to, stood),
         }
-        self.go_on(facts);
-        Ok(())
     }
 
     // A temporary that has a word, if there is room for a move.
-    fn holder(&self, facts: &[Fact], to: u32, reading: Reading) -> Option<u32>
-        ensures holder { result ≡ if_room self.now.room (facts.found to reading facts.now) }
+    fn holder(&self, facts: &[Fact], to: u32, reading: &Reading) -> Option<u32>
+        ensures { result ≡ if_room self.now.room (found to reading.now facts.now) }
     {
-        if self.room > 0 {
-            found(facts, to, reading)
-        } else {
-            None
+        if self.room == 0 {
+            return None;
         }
+        found(facts, to, reading)
+    }
+
+    // A move of a word from its holder.
+    fn move_word(
+        &mut self,
+        list: &mut Vec<Instr>,
+        mut facts: Vec<Fact>,
+        to: u32,
+        holder: u32,
+    ) -> Result<(), Memory>
+        requires { 0 < self.old.room }
+        ensures { OnOk result (HasStepped self.new list.old.items list.new.items
+            (moves to holder facts.items (state_of self.old))) }
+    {
+        self.room -= 1;
+        copy(&mut facts, to, &temp(holder))?;
+        self.go_on(facts);
+        push_instr(list, Instr::Move(temp(to), temp(holder)))
+    }
+
+    // An instruction that stays, and what it gives is known.
+    fn read_word(
+        &mut self,
+        list: &mut Vec<Instr>,
+        mut facts: Vec<Fact>,
+        one: &Instr,
+        to: u32,
+        reading: Reading,
+    ) -> Result<(), Memory>
+        ensures { OnOk result (HasStepped self.new list.old.items list.new.items
+            (reads to reading facts.items one.now (state_of self.old))) }
+    {
+        get(&mut facts, to, &reading)?;
+        self.go_on(facts);
+        push_same(list, one)
     }
 
     // A test, which goes where it is known to fall through, and is a jump where it is known to be
@@ -206,22 +226,23 @@ impl Walk {
         test: &Test,
         mark: u32,
     ) -> Result<(), Memory>
-        ensures state { OnOk result (self.new ≡ (tested_by test.now mark one.now self.old).state) }
-        ensures list { OnOk result (list.new.items ≡ list.old.items ++
-            (tested_by test.now mark one.now self.old).block) }
+        ensures { OnOk result (HasStepped self.new list.old.items list.new.items
+            (tested_by test.now mark one.now (state_of self.old))) }
     {
         let facts = self.take_known();
-        let left = stands(&facts, test.left);
-        let right = stands(&facts, test.right);
-        if is_untrue(&facts, test.rel, left, right) {
+        let left = stands(&facts, &test.left);
+        let right = stands(&facts, &test.right);
+        let falls = is_untrue(&facts, test.rel, &left, &right);
+        if falls {
             self.go_on(facts);
             return Ok(());
         }
-        if is_untrue(&facts, opposite(test.rel), left, right) {
+        let jumps = is_untrue(&facts, opposite(test.rel), &left, &right);
+        if jumps {
             self.claim(mark, &facts)?;
             return push_instr(list, Instr::Jump(mark));
         }
-        self.part(facts, test.rel, (left, right), mark)?;
+        self.part(facts, test.rel, &left, &right, mark)?;
         push_same(list, one)
     }
 
@@ -230,17 +251,18 @@ impl Walk {
         &mut self,
         mut facts: Vec<Fact>,
         rel: Rel,
-        sides: (Opnd, Opnd),
+        left: &Opnd,
+        right: &Opnd,
         mark: u32,
     ) -> Result<(), Memory>
-        ensures { OnOk result (self.new ≡
-            known.goes_on (facts.noted most_facts (Untrue rel sides.0 sides.1) facts.items)
-            (known.with_claim mark (facts.noted most_facts (Untrue (opposite rel) sides.0 sides.1)
-            facts.items) self.old)) }
+        ensures { OnOk result (state_of self.new ≡
+            known.goes_on (noted most_facts (Untrue rel left.now right.now) facts.items)
+            (known.with_claim mark (noted most_facts (Untrue (opposite rel) left.now right.now)
+            facts.items) (state_of self.old))) }
     {
-        note(&mut facts, Fact::Untrue(opposite(rel), sides.0, sides.1))?;
+        note(&mut facts, Fact::Untrue(opposite(rel), *left, *right))?;
         self.claim(mark, &facts)?;
-        facts[0] = Fact::Untrue(rel, sides.0, sides.1);
+        facts[0] = Fact::Untrue(rel, *left, *right);
         self.go_on(facts);
         Ok(())
     }
@@ -252,9 +274,8 @@ impl Walk {
         from_behind: bool,
         one: &Instr,
     ) -> Result<(), Memory>
-        ensures state { OnOk result (self.new ≡ (passed from_behind one.now self.old).state) }
-        ensures list { OnOk result (list.new.items ≡ list.old.items ++
-            (passed from_behind one.now self.old).block) }
+        ensures { OnOk result (HasStepped self.new list.old.items list.new.items
+            (passed from_behind one.now (state_of self.old))) }
     {
         if let Instr::Branch(test, mark) = one {
             return self.test(list, one, test, *mark);
@@ -265,18 +286,42 @@ impl Walk {
 
     // What is known behind an instruction that stays.
     fn learn(&mut self, from_behind: bool, one: &Instr) -> Result<(), Memory>
-        ensures { OnOk result (self.new ≡ learnt from_behind one.now self.old) }
+        ensures { OnOk result (state_of self.new ≡ learnt from_behind one.now (state_of self.old)) }
     {
-        if let Instr::Mark(mark) = one {
-            self.arrive(*mark, from_behind);
-            return Ok(());
-        }
-        let mut facts = self.take_known();
         match one {
-            Instr::Jump(mark) => return self.claim(*mark, &facts),
-            Instr::Fault(_) | Instr::Return => return Ok(()),
-            _ => change(self.alloc, &mut facts, one)?,
+            Instr::Mark(mark) => {
+                self.arrive(*mark, from_behind);
+                Ok(())
+            }
+            Instr::Jump(mark) => self.leave(*mark),
+            Instr::Fault(_) => {
+                self.comes = None;
+                Ok(())
+            }
+            Instr::Return => {
+                self.comes = None;
+                Ok(())
+            }
+            _ => self.change(one),
         }
+    }
+
+    // A jump to a mark.
+    fn leave(&mut self, mark: u32) -> Result<(), Memory>
+        ensures { OnOk result (state_of self.new ≡ known.nothing_comes
+            (known.with_claim mark (known.known (state_of self.old)) (state_of self.old))) }
+    {
+        let facts = self.take_known();
+        self.claim(mark, &facts)
+    }
+
+    // An instruction that goes on.
+    fn change(&mut self, one: &Instr) -> Result<(), Memory>
+        ensures { OnOk result (state_of self.new ≡ known.goes_on
+            (changed one.now (known.known (state_of self.old))) (state_of self.old)) }
+    {
+        let mut facts = self.take_known();
+        change(self.alloc, &mut facts, one)?;
         self.go_on(facts);
         Ok(())
     }
@@ -288,9 +333,8 @@ impl Walk {
         from_behind: bool,
         one: &Instr,
     ) -> Result<(), Memory>
-        ensures state { OnOk result (self.new ≡ (stepped from_behind one.now self.old).state) }
-        ensures list { OnOk result (list.new.items ≡ list.old.items ++
-            (stepped from_behind one.now self.old).block) }
+        ensures { OnOk result (HasStepped self.new list.old.items list.new.items
+            (stepped from_behind one.now (state_of self.old))) }
     {
         match reading_of(one) {
             Some((to, reading)) => self.give(list, one, to, reading),

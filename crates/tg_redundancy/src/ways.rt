@@ -13,13 +13,12 @@ use tg_instr::Instr;
 pub(crate) fn marks_from_behind(alloc: Global, code: &[Instr]) -> Result<Vec<bool>, Memory>
     ensures { IfOk result (λ all. all.items ≡ flags code.now) }
 {
-    let mut all = Vec::with_capacity(alloc, code.len())?;
+    let mut all = vec![in alloc; false; code.len()]?;
     let mut ways = HashSet::new(alloc);
     for at in (0..code.len()).rev() {
-        all.push(is_led_to(&ways, &code[at]))?;
+        all[at] = is_led_to(&ways, &code[at]);
         note_way(&mut ways, &code[at])?;
     }
-    all.reverse();
     Ok(all)
 }
 
@@ -37,17 +36,21 @@ fn note_way(ways: &mut HashSet<u32>, one: &Instr) -> Result<(), Memory>
     ensures { OnOk result ((rest : List InstrOf) → HasWays ways.old rest →
         HasWays ways.new (one.now ∷ rest)) }
 {
-    if let Some(mark) = way(one) {
-        let _ = ways.insert(mark)?;
+    match way(one) {
+        Some(mark) => {
+            let _ = ways.insert(mark)?;
+            Ok(())
+        }
+        None => Ok(()),
     }
-    Ok(())
 }
 
 fn way(one: &Instr) -> Option<u32>
     ensures { result ≡ way one.now }
 {
     match one {
-        Instr::Jump(mark) | Instr::Branch(_, mark) => Some(*mark),
+        Instr::Jump(mark) => Some(*mark),
+        Instr::Branch(_, mark) => Some(*mark),
         _ => None,
     }
 }

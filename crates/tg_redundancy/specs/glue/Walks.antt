@@ -1,22 +1,24 @@
 -- Steps of the walk as its code takes them.
-use Rattle.std.specs.Prelude.{ℕ, zero, suc, ◌≡◌, nat_eq, Bool, false, List, [], ◌∷◌, Option, Some}
-use Rattle.std.specs.Prelude.{None}
+use Rattle.std.specs.Prelude.{ℕ, zero, suc, ◌-◌, ◌≡◌, nat_eq, Bool, false, List, [], ◌∷◌, ◌++◌}
+use Rattle.std.specs.Prelude.{Option, Some, None}
+use Rattle.std.specs.HashMap.{get}
 use Rattle.std.specs.HashSet.{HashSet, contains}
 use Rattle.tg_instr.specs.declared.operands.Opnd.{Opnd}
 use Rattle.tg_instr.specs.declared.operands.Opnd.TheVariants.{Reg}
 use Rattle.tg_instr.specs.declared.instr.Test.{Test}
 use Rattle.tg_instr.specs.declared.instr.Instr.{Instr}
-use Rattle.tg_instr.specs.declared.instr.Instr.TheVariants.{Jump, Branch}
+use Rattle.tg_instr.specs.declared.instr.Instr.TheVariants.{Move, Jump, Branch}
 use Rattle.tg_instr.specs.Shapes.{InstructionShape, Copy, Stores, ToSlot, Here, Goes, Tests, Calls}
 use Rattle.tg_instr.specs.Shapes.{Asks, Fails, Returns, shape}
 use Rattle.tg_instr.specs.Uses.{defs}
 use Rattle.tg_redundancy.specs.declared.readings.Reading.{Reading}
-use Rattle.tg_redundancy.specs.mirror.Readings.{reread, reading_of}
+use Rattle.tg_redundancy.specs.declared.walks.Walk.{Walk}
+use Rattle.tg_redundancy.specs.mirror.Readings.{temp, reread, reading_of}
 use Rattle.tg_redundancy.specs.mirror.Facts.{Facts, stands, found, forget_each, forget_memory}
 use Rattle.tg_redundancy.specs.mirror.Known.{State, Step, known, gives, by_shape, by_reading}
 use Rattle.tg_redundancy.specs.mirror.Known.{has_way}
 use Rattle.tg_redundancy.specs.mirror.Known.{comes_back, moved, kept, goes_on, nothing_comes}
-use Rattle.tg_redundancy.specs.mirror.Known.{with_claim}
+use Rattle.tg_redundancy.specs.mirror.Known.{with_claim, copied, gotten, stays}
 use Rattle.tg_redundancy.specs.mirror.Known.{at_mark, most_facts}
 
 abbrev pub or_zero : Option Opnd → Opnd
@@ -41,9 +43,36 @@ flags (one ∷ rest) = comes_back rest (shape one) ∷ flags rest
 
 -- Steps.
 
+-- where the walk is
+abbrev pub state_of : Walk → State
+state_of walk = record {
+  comes = walk.comes;
+  claims = λ mark. get nat_eq walk.claims mark;
+  room = walk.room;
+}
+
+-- a step was taken: the walk is behind it, and its block stands at the end of the list
+pub record HasStepped (walk : Walk) (before after : List Instr) (step : Step) : Type 0 where
+  pub state : state_of walk ≡ step.state
+  pub list : after ≡ before ++ step.block
+
 abbrev pub if_room : (room : ℕ) → Option ℕ → Option ℕ
 if_room zero holder = None
 if_room (suc room) holder = holder
+
+-- a word is moved from its holder, or read, and known from then on
+abbrev pub moves : (to holder : ℕ) → Facts → State → Step
+moves to holder facts state = record {
+  block = Move (temp to) (temp holder) ∷ [];
+  state = record {
+    comes = Some (copied most_facts to (temp holder) facts);
+    claims = state.claims;
+    room = state.room - 1;
+  };
+}
+
+abbrev pub reads : (to : ℕ) → Reading → Facts → Instr → State → Step
+reads to reading facts one state = stays one (goes_on (gotten most_facts to reading facts) state)
 
 abbrev pub given : (temp : ℕ) → Reading → Instr → State → Step
 given to reading one state =
