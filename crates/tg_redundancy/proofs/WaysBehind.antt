@@ -65,6 +65,6 @@ flag_at code at one flag below is is_flag =
     let left = drop_more (flags code) at flag within in
     let right = at_drop_more flags code at one below in
     let both : get_or (flags code) at flag ∷ drop (at + 1) (flags code) ≡ comes_back (drop (at + 1) code) (shape (get_or code at one)) ∷ flags (drop (at + 1) code)
-        = sym left ∙ (flags_drop at code ∙ right) in
+    = sym left ∙ (flags_drop at code ∙ right) in
     let heads : get_or (flags code) at flag ≡ comes_back (drop (at + 1) code) (shape (get_or code at one)) = cc in
     is_flag ∙ (heads ∙ ap (λ i. comes_back (drop (at + 1) code) (shape i)) (sym is))

@@ -19,7 +19,11 @@ fn same(one: &Instr) -> Instr
     ensures { result ≡ one.now }
 {
     let named = one.named();
-    one.renamed(or_zero(named.to), or_zero(named.first), or_zero(named.second))
+    one.renamed(
+        or_zero(named.to),
+        or_zero(named.first),
+        or_zero(named.second),
+    )
 }
 
 /// Puts the instruction at the end of a list.

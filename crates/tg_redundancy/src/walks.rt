@@ -20,7 +20,9 @@ ghost use Rattle.tg_redundancy.specs.glue.Walks.{
 
 use crate::changes::{copy, get, keep, move_to};
 use crate::copies::push_same;
-use crate::facts::{Fact, forget_each, forget_memory, found, is_untrue, note, reread, stands, temp};
+use crate::facts::{
+    Fact, forget_each, forget_memory, found, is_untrue, note, reread, stands, temp,
+};
 use crate::readings::{Reading, reading_of};
 use std::alloc::Global;
 use std::collections::HashMap;
@@ -31,8 +33,9 @@ use tg_tree::{Rel, opposite};
 /// Facts, the last one first.
 type Facts = ListOf<Fact>;
 
-/// So many facts are claimed for a mark at most.
-const MOST_CLAIMED: usize = 16;
+/// So many facts are claimed for a mark at most. A fact takes 28 bytes, so that a mark that waits
+/// takes 400 at most.
+const MOST_CLAIMED: usize = 12;
 
 /// So many moves are made in a function at most.
 const MOST_MOVES: u32 = 50;
@@ -268,12 +271,7 @@ impl Walk {
     }
 
     // An instruction that gives no word.
-    fn pass(
-        &mut self,
-        list: &mut Vec<Instr>,
-        from_behind: bool,
-        one: &Instr,
-    ) -> Result<(), Memory>
+    fn pass(&mut self, list: &mut Vec<Instr>, from_behind: bool, one: &Instr) -> Result<(), Memory>
         ensures { OnOk result (HasStepped self.new list.old.items list.new.items
             (passed from_behind one.now (state_of self.old))) }
     {

@@ -19,7 +19,16 @@ index-requires c =
     omega (arith, size, same, c.in_ok-from_behind.from_behind.ok.0, c.loop-at-test.true)
 
 pub loop-at-preserved : goal.loop-at-preserved
-loop-at-preserved c = ?
+loop-at-preserved c =
+    let code = c.args.code.now in
+    let at = c.loop-at.at in
+    let one = c.index-code-at.result in
+    let flag = c.index.result.now in
+    let read = c.index.ensures ∙ ap (λ list. get_or list at flag) c.in_ok-from_behind.ensures in
+    let is_flag = flag_at code at one flag c.loop-at-test.true c.index-code-at.is read in
+    blocks_more code at one flag c.loop-at.list.items c.step.new.list.items (state_of c.loop-at.walk) c.step.new.self
+    c.loop-at-test.true c.index-code-at.is is_flag c.in_ok-step.ensures
+    ∙ c.loop-at.invariant
 
 pub returns : goal.returns
 returns c =

@@ -33,7 +33,7 @@ returns-then-jumps c =
     c.args.list.now.items c.push_instr.new.list.items
     (sym c.if-falls.false ∙ (c.is_untrue-falls.ensures ∙ ap (is_untrue test.rel x y) c.deref-3.ensures.value))
     (sym c.if-jumps.true ∙ (c.is_untrue-jumps.ensures ∙ ap₂ (λ r l. is_untrue r x y l) c.opposite.ensures c.deref-4.ensures.value))
-    (c.in_ok-claim.ensures ∙ ap (λ l. with_claim c.args.mark l (state_of c.take_known-facts.new.self)) c.deref-5.ensures.value)
+    (c.in_ok-claim.ensures ∙ ap (λ l. with_claim c.args.mark l (state_of c.take_known-facts.new.self)) c.deref-then-jumps.ensures.value)
     list)
     c.push_instr.ensures.ok
 
