@@ -4,3 +4,8 @@ pub mod Shaped
 pub mod Below
 pub mod Words
 pub mod Examples
+pub mod FactWalks
+pub mod Copied
+pub mod WaysBehind
+pub mod Walking
+pub mod Passing

@@ -35,9 +35,9 @@ abbrev pub both : Facts → Option (Facts) → Facts
 both facts None = facts
 both facts (Some met) = []
 
--- so many of the last facts are claimed at most
+-- so many of the last facts are claimed at most: with them a mark that waits takes 400 bytes
 abbrev pub most_claimed : ℕ
-most_claimed = 16
+most_claimed = 12
 
 abbrev pub claim : (mark : ℕ) → Facts → Claims → Claims
 claim mark facts claims =
