@@ -4,6 +4,7 @@ use Rattle.tg_command.specs.Commands.{asked_of}
 use Rattle.tg_driver.specs.Calls.{shelf_of, stream_of, streams_of}
 use Rattle.tg_compile_proof.specs.Builds.{Builds}
 use Rattle.tg_driver.specs.AllocMode.{Lists}
+use Rattle.tg_driver.specs.Compiled.{texts_compiled}
 use Rattle.tg_driver.specs.Watching.{if_watched}
 use Rattle.tg_driver.specs.glue.Watched.{HasWatchedRun}
 use Rattle.tg_driver.proofs.AnswerLemmas.{by_check, by_writing, by_run, by_exec, by_gen, by_format, in_mode, no_gen}
@@ -16,9 +17,10 @@ returns-in-Check-clause-due g c =
     (stream_of g.I.Source.left g.I.Source.faults c.args.streams.input.now c.args.streams.input.now)
     (stream_of g.O.Sink.taken g.O.Sink.faults c.args.streams.out.now c.args.streams.out.now) in
     let asked = asked_of c.args.command.now in
+    let texts = texts_compiled ((goal.SpillPolicy-dyn g c.args.policy.now).rule c.args.policy.now.1) in
     let runs = HasWatchedRun (λ b. (goal.Watcher-dyn g (b.vtable, b.value)).stands b.value) (λ b. (goal.Watcher-dyn g (b.vtable, b.value)).report b.value)
     (if_watched c.args.command.now.flags c.args.watchers.now.items) c.keep_asked.new.watchers.items streams in
-    in_mode _ runs Check shelf streams asked c.answer_check.result (no_gen Check tt) c.in-Check.is
+    in_mode texts runs Check shelf streams asked c.answer_check.result (no_gen Check tt) c.in-Check.is
     (by_check shelf streams asked c.answer_check.result (refl, refl) c.answer_check.ensures.due)
 
 pub returns-in-Build-clause-due : goal.returns-in-Build-clause-due
@@ -28,9 +30,10 @@ returns-in-Build-clause-due g c =
     (stream_of g.I.Source.left g.I.Source.faults c.args.streams.input.now c.answer_written.new.streams.0)
     (stream_of g.O.Sink.taken g.O.Sink.faults c.args.streams.out.now c.answer_written.new.streams.1.0) in
     let asked = asked_of c.args.command.now in
+    let texts = texts_compiled ((goal.SpillPolicy-dyn g c.args.policy.now).rule c.args.policy.now.1) in
     let runs = HasWatchedRun (λ b. (goal.Watcher-dyn g (b.vtable, b.value)).stands b.value) (λ b. (goal.Watcher-dyn g (b.vtable, b.value)).report b.value)
     (if_watched c.args.command.now.flags c.args.watchers.now.items) c.keep_asked.new.watchers.items streams in
-    in_mode _ runs Build shelf streams asked c.answer_written.result (no_gen Build tt) c.in-Build.is
+    in_mode texts runs Build shelf streams asked c.answer_written.result (no_gen Build tt) c.in-Build.is
     (by_writing shelf streams (Builds _ _) asked c.answer_written.result c.answer_written.ensures.unread
     c.answer_written.ensures.before_start c.answer_written.ensures.due)
 
@@ -41,9 +44,10 @@ returns-in-Run-clause-due g c =
     (stream_of g.I.Source.left g.I.Source.faults c.args.streams.input.now c.answer_run.new.streams.0)
     (stream_of g.O.Sink.taken g.O.Sink.faults c.args.streams.out.now c.answer_run.new.streams.1.0) in
     let asked = asked_of c.args.command.now in
+    let texts = texts_compiled ((goal.SpillPolicy-dyn g c.args.policy.now).rule c.args.policy.now.1) in
     let runs = HasWatchedRun (λ b. (goal.Watcher-dyn g (b.vtable, b.value)).stands b.value) (λ b. (goal.Watcher-dyn g (b.vtable, b.value)).report b.value)
     (if_watched c.args.command.now.flags c.args.watchers.now.items) c.answer_run.new.watchers.items streams in
-    in_mode _ runs Run shelf streams asked c.answer_run.result (no_gen Run tt) c.in-Run.is
+    in_mode texts runs Run shelf streams asked c.answer_run.result (no_gen Run tt) c.in-Run.is
     (by_run (Builds _ _) runs shelf streams asked c.answer_run.result c.answer_run.ensures.before_start (rw c.keep_asked.ensures at c.answer_run.ensures.due))
 
 pub returns-in-Exec-clause-due : goal.returns-in-Exec-clause-due
@@ -53,9 +57,10 @@ returns-in-Exec-clause-due g c =
     (stream_of g.I.Source.left g.I.Source.faults c.args.streams.input.now c.answer_exec.new.streams.0)
     (stream_of g.O.Sink.taken g.O.Sink.faults c.args.streams.out.now c.answer_exec.new.streams.1.0) in
     let asked = asked_of c.args.command.now in
+    let texts = texts_compiled ((goal.SpillPolicy-dyn g c.args.policy.now).rule c.args.policy.now.1) in
     let runs = HasWatchedRun (λ b. (goal.Watcher-dyn g (b.vtable, b.value)).stands b.value) (λ b. (goal.Watcher-dyn g (b.vtable, b.value)).report b.value)
     (if_watched c.args.command.now.flags c.args.watchers.now.items) c.answer_exec.new.watchers.items streams in
-    in_mode _ runs Exec shelf streams asked c.answer_exec.result (no_gen Exec tt) c.in-Exec.is
+    in_mode texts runs Exec shelf streams asked c.answer_exec.result (no_gen Exec tt) c.in-Exec.is
     (by_exec runs shelf streams asked c.answer_exec.result c.answer_exec.ensures.before_start (rw c.keep_asked.ensures at c.answer_exec.ensures.due))
 
 pub returns-in-Alloc-clause-due : goal.returns-in-Alloc-clause-due
@@ -65,9 +70,10 @@ returns-in-Alloc-clause-due g c =
     (stream_of g.I.Source.left g.I.Source.faults c.args.streams.input.now c.answer_written-in-Alloc.new.streams.0)
     (stream_of g.O.Sink.taken g.O.Sink.faults c.args.streams.out.now c.answer_written-in-Alloc.new.streams.1.0) in
     let asked = asked_of c.args.command.now in
+    let texts = texts_compiled ((goal.SpillPolicy-dyn g c.args.policy.now).rule c.args.policy.now.1) in
     let runs = HasWatchedRun (λ b. (goal.Watcher-dyn g (b.vtable, b.value)).stands b.value) (λ b. (goal.Watcher-dyn g (b.vtable, b.value)).report b.value)
     (if_watched c.args.command.now.flags c.args.watchers.now.items) c.keep_asked.new.watchers.items streams in
-    in_mode _ runs Alloc shelf streams asked c.answer_written-in-Alloc.result (no_gen Alloc tt) c.in-Alloc.is
+    in_mode texts runs Alloc shelf streams asked c.answer_written-in-Alloc.result (no_gen Alloc tt) c.in-Alloc.is
     (by_writing shelf streams (Lists _ _) asked c.answer_written-in-Alloc.result c.answer_written-in-Alloc.ensures.unread
     c.answer_written-in-Alloc.ensures.before_start c.answer_written-in-Alloc.ensures.due)
 
@@ -78,9 +84,10 @@ returns-in-Format-clause-due g c =
     (stream_of g.I.Source.left g.I.Source.faults c.args.streams.input.now c.answer_format.new.streams.0)
     (stream_of g.O.Sink.taken g.O.Sink.faults c.args.streams.out.now c.answer_format.new.streams.1.0) in
     let asked = asked_of c.args.command.now in
+    let texts = texts_compiled ((goal.SpillPolicy-dyn g c.args.policy.now).rule c.args.policy.now.1) in
     let runs = HasWatchedRun (λ b. (goal.Watcher-dyn g (b.vtable, b.value)).stands b.value) (λ b. (goal.Watcher-dyn g (b.vtable, b.value)).report b.value)
     (if_watched c.args.command.now.flags c.args.watchers.now.items) c.keep_asked.new.watchers.items streams in
-    in_mode _ runs Format shelf streams asked c.answer_format.result (no_gen Format tt) c.in-Format.is
+    in_mode texts runs Format shelf streams asked c.answer_format.result (no_gen Format tt) c.in-Format.is
     (by_format shelf streams asked c.answer_format.result c.answer_format.ensures.unread c.answer_format.ensures.before_start c.answer_format.ensures.due)
 
 pub returns-in-Gen-clause-due : goal.returns-in-Gen-clause-due
@@ -90,9 +97,10 @@ returns-in-Gen-clause-due g c =
     (stream_of g.I.Source.left g.I.Source.faults c.args.streams.input.now c.generate_to.new.streams.0)
     (stream_of g.O.Sink.taken g.O.Sink.faults c.args.streams.out.now c.generate_to.new.streams.1.0) in
     let asked = asked_of c.args.command.now in
+    let texts = texts_compiled ((goal.SpillPolicy-dyn g c.args.policy.now).rule c.args.policy.now.1) in
     let runs = HasWatchedRun (λ b. (goal.Watcher-dyn g (b.vtable, b.value)).stands b.value) (λ b. (goal.Watcher-dyn g (b.vtable, b.value)).report b.value)
     (if_watched c.args.command.now.flags c.args.watchers.now.items) c.keep_asked.new.watchers.items streams in
-    in_mode _ runs Gen shelf streams asked c.generate_to.result (λ _. refl) c.in-Gen.is
+    in_mode texts runs Gen shelf streams asked c.generate_to.result (λ _. refl) c.in-Gen.is
     (by_gen (Builds _ _) shelf streams asked c.generate_to.result refl c.generate_to.ensures.unread c.generate_to.ensures.before_start c.generate_to.ensures.due)
 
 pub generate_to-requires-clause-number : goal.generate_to-requires-clause-number
