@@ -2,7 +2,7 @@
 //!
 //! Operators on constants, conditions that are known, and copies between temporaries. What the pass
 //! makes of a body is defined in `specs/mirror/Folding.antt`, a function on plain trees; a folded
-//! body does what the body did and is no larger. No command runs it yet.
+//! body does what the body did and is no larger. `--fold` switches it on.
 #![tactic(auto)]
 
 mod constants;
