@@ -35,7 +35,8 @@ pub(crate) fn return_of(alloc: Global, a: Box<Hoisted>) -> Result<Box<Part>, Mem
 /// A hoisted word is stored at a hoisted address.
 #[inline(never)]
 pub(crate) fn store(alloc: Global, both: Box<Two>) -> Result<Box<Part>, Memory>
-    ensures { IfOk result (λ p. plain_part p.value ≡ canon.with_two tree.Store (plain_two both.value)) }
+    ensures { IfOk result (λ p.
+        plain_part p.value ≡ canon.with_two tree.Store (plain_two both.value)) }
 {
     let both = Box::into_inner(both);
     let stored = Part::still(Ts::Store(both.left, both.right));
@@ -45,7 +46,8 @@ pub(crate) fn store(alloc: Global, both: Box<Two>) -> Result<Box<Part>, Memory>
 /// The low byte of a hoisted word is stored at a hoisted address.
 #[inline(never)]
 pub(crate) fn store_byte(alloc: Global, both: Box<Two>) -> Result<Box<Part>, Memory>
-    ensures { IfOk result (λ p. plain_part p.value ≡ canon.with_two tree.StoreByte (plain_two both.value)) }
+    ensures { IfOk result (λ p.
+        plain_part p.value ≡ canon.with_two tree.StoreByte (plain_two both.value)) }
 {
     let both = Box::into_inner(both);
     let stored = Part::still(Ts::StoreByte(both.left, both.right));
@@ -83,7 +85,8 @@ fn dropped(alloc: Global, x: Tx) -> Part
 /// The value of a hoisted expression isn't wanted.
 #[inline(never)]
 pub(crate) fn drop_value(alloc: Global, a: Box<Hoisted>) -> Result<Box<Part>, Memory>
-    ensures { IfOk result (λ p. plain_part p.value ≡ canon.with_one canon.dropped (plain_hoisted a.value)) }
+    ensures { IfOk result (λ p.
+        plain_part p.value ≡ canon.with_one canon.dropped (plain_hoisted a.value)) }
 {
     let a = Box::into_inner(a);
     let done = dropped(alloc, a.rest);

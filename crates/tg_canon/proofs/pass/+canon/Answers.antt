@@ -15,38 +15,48 @@ use Rattle.tg_canon.proofs.pass.+canon.Goals as goal
 
 pub hoist-returns-in-Const : goal.hoist-returns-in-Const
 hoist-returns-in-Const t c =
-    if_ok c.constant.result c.constant.ensures (λ _ e. hoists_as (leads c.args.breaks.now) (sym c.into_inner.ensures ∙ c.in-Const.is) (constant_hoists (leads c.args.breaks.now) c.in-Const.n e))
+    if_ok c.constant.result c.constant.ensures
+    (λ _ e. hoists_as (leads c.args.breaks.now) (sym c.into_inner.ensures ∙ c.in-Const.is) (constant_hoists (leads c.args.breaks.now) c.in-Const.n e))
 
 pub hoist-returns-in-Address : goal.hoist-returns-in-Address
 hoist-returns-in-Address t c =
-    if_ok c.address.result c.address.ensures (λ _ e. hoists_as (leads c.args.breaks.now) (sym c.into_inner.ensures ∙ c.in-Address.is) (address_hoists (leads c.args.breaks.now) c.in-Address.label.0 e))
+    if_ok c.address.result c.address.ensures
+    (λ _ e. hoists_as (leads c.args.breaks.now) (sym c.into_inner.ensures ∙ c.in-Address.is) (address_hoists (leads c.args.breaks.now) c.in-Address.label.0 e))
 
 pub hoist-returns-in-Temp : goal.hoist-returns-in-Temp
 hoist-returns-in-Temp t c =
-    if_ok c.temporary.result c.temporary.ensures (λ _ e. hoists_as (leads c.args.breaks.now) (sym c.into_inner.ensures ∙ c.in-Temp.is) (temporary_hoists (leads c.args.breaks.now) c.in-Temp.temp.0 e))
+    if_ok c.temporary.result c.temporary.ensures
+    (λ _ e. hoists_as (leads c.args.breaks.now) (sym c.into_inner.ensures ∙ c.in-Temp.is) (temporary_hoists (leads c.args.breaks.now) c.in-Temp.temp.0 e))
 
 pub hoist-returns-in-FrameAddress : goal.hoist-returns-in-FrameAddress
 hoist-returns-in-FrameAddress t c =
-    if_ok c.frame_address.result c.frame_address.ensures (λ _ e. hoists_as (leads c.args.breaks.now) (sym c.into_inner.ensures ∙ c.in-FrameAddress.is) (frame_hoists (leads c.args.breaks.now) e))
+    if_ok c.frame_address.result c.frame_address.ensures
+    (λ _ e. hoists_as (leads c.args.breaks.now) (sym c.into_inner.ensures ∙ c.in-FrameAddress.is) (frame_hoists (leads c.args.breaks.now) e))
 
 pub hoist-returns-in_ok-both-in-Binary : goal.hoist-returns-in_ok-both-in-Binary
 hoist-returns-in_ok-both-in-Binary t c =
-    if_ok c.operate.result c.operate.ensures (λ _ e. hoists_as (leads c.args.breaks.now) (sym c.into_inner.ensures ∙ c.in-Binary.is) (binary_hoists (leads c.args.breaks.now) c.in-Binary.op
+    if_ok c.operate.result c.operate.ensures
+    (λ _ e. hoists_as (leads c.args.breaks.now) (sym c.into_inner.ensures ∙ c.in-Binary.is) (binary_hoists (leads c.args.breaks.now) c.in-Binary.op
     (plain_tx c.in-Binary.x.value) (plain_tx c.in-Binary.y.value) c.in_ok-both-in-Binary.ensures e))
 
 pub hoist-returns-in_ok-a-in-Load : goal.hoist-returns-in_ok-a-in-Load
 hoist-returns-in_ok-a-in-Load t c =
-    if_ok c.load_from.result c.load_from.ensures (λ _ e. hoists_as (leads c.args.breaks.now) (sym c.into_inner.ensures ∙ c.in-Load.is) (load_hoists (leads c.args.breaks.now) (plain_tx c.in-Load.x.value)
+    if_ok c.load_from.result c.load_from.ensures
+    (λ _ e. hoists_as (leads c.args.breaks.now) (sym c.into_inner.ensures ∙ c.in-Load.is) (load_hoists (leads c.args.breaks.now) (plain_tx c.in-Load.x.value)
     c.in_ok-a-in-Load.ensures e))
 
 pub hoist-returns-in_ok-a-in-LoadByte : goal.hoist-returns-in_ok-a-in-LoadByte
 hoist-returns-in_ok-a-in-LoadByte t c =
-    if_ok c.load_byte_from.result c.load_byte_from.ensures (λ _ e. hoists_as (leads c.args.breaks.now) (sym c.into_inner.ensures ∙ c.in-LoadByte.is) (byte_hoists (leads c.args.breaks.now) (plain_tx c.in-LoadByte.x.value)
+    if_ok c.load_byte_from.result c.load_byte_from.ensures
+    (λ _ e. hoists_as (leads c.args.breaks.now) (sym c.into_inner.ensures ∙ c.in-LoadByte.is)
+    (byte_hoists (leads c.args.breaks.now) (plain_tx c.in-LoadByte.x.value)
     c.in_ok-a-in-LoadByte.ensures e))
 
 pub hoist-returns-in_ok-a-in-Service : goal.hoist-returns-in_ok-a-in-Service
 hoist-returns-in_ok-a-in-Service t c =
-    if_ok c.serve.result c.serve.ensures (λ _ e. hoists_as (leads c.args.breaks.now) (sym c.into_inner.ensures ∙ c.in-Service.is) (service_hoists (leads c.args.breaks.now) c.in-Service.number (plain_tx c.in-Service.x.value)
+    if_ok c.serve.result c.serve.ensures
+    (λ _ e. hoists_as (leads c.args.breaks.now) (sym c.into_inner.ensures ∙ c.in-Service.is)
+    (service_hoists (leads c.args.breaks.now) c.in-Service.number (plain_tx c.in-Service.x.value)
     c.in_ok-a-in-Service.ensures e))
 
 pub hoist-returns-in_ok-all-in-Call : goal.hoist-returns-in_ok-all-in-Call
@@ -70,7 +80,8 @@ hoist_word-returns t c =
 
 pub hoist_both-returns : goal.hoist_both-returns
 hoist_both-returns t c =
-    if_ok c.side_by_side.result c.side_by_side.ensures (λ _ e. operands_hoist (leads c.args.breaks.now) (plain_tx c.args.left.value) (plain_tx c.args.right.value)
+    if_ok c.side_by_side.result c.side_by_side.ensures
+    (λ _ e. operands_hoist (leads c.args.breaks.now) (plain_tx c.args.left.value) (plain_tx c.args.right.value)
     (same c.in_ok-b.ensures (ap (λ b. plain_hoisted b.value) c.in_ok-both.ensures.0))
     (at_ok _ c.in_ok-both.ensures.1 c.hoist_word-a.ensures) e)
 
@@ -89,34 +100,42 @@ hoist_all-returns t c =
 
 pub condition-returns-in_ok-both-in-Compare : goal.condition-returns-in_ok-both-in-Compare
 condition-returns-in_ok-both-in-Compare t c =
-    if_ok c.compare_both.result c.compare_both.ensures (λ _ e. tests_as (leads c.args.breaks.now) (sym c.into_inner.ensures ∙ c.in-Compare.is) (compare_tests (leads c.args.breaks.now) c.in-Compare.rel
+    if_ok c.compare_both.result c.compare_both.ensures
+    (λ _ e. tests_as (leads c.args.breaks.now) (sym c.into_inner.ensures ∙ c.in-Compare.is) (compare_tests (leads c.args.breaks.now) c.in-Compare.rel
     (plain_tx c.in-Compare.x.value) (plain_tx c.in-Compare.y.value) c.in_ok-both-in-Compare.ensures e))
 
 pub condition-returns-in_ok-t-in-Not : goal.condition-returns-in_ok-t-in-Not
 condition-returns-in_ok-t-in-Not t c =
-    if_ok c.opposite.result c.opposite.ensures (λ _ e. tests_as (leads c.args.breaks.now) (sym c.into_inner.ensures ∙ c.in-Not.is) (not_tests (leads c.args.breaks.now) (plain_cond c.in-Not.c.value)
+    if_ok c.opposite.result c.opposite.ensures
+    (λ _ e. tests_as (leads c.args.breaks.now) (sym c.into_inner.ensures ∙ c.in-Not.is) (not_tests (leads c.args.breaks.now) (plain_cond c.in-Not.c.value)
     c.in_ok-t-in-Not.ensures e))
 
 pub condition-returns-in_ok-both-in-Both : goal.condition-returns-in_ok-both-in-Both
 condition-returns-in_ok-both-in-Both t c =
-    if_ok c.and.result c.and.ensures (λ _ e. tests_as (leads c.args.breaks.now) (sym c.into_inner.ensures ∙ c.in-Both.is) (both_tests (leads c.args.breaks.now) (plain_cond c.in-Both.c.value)
+    if_ok c.and.result c.and.ensures
+    (λ _ e. tests_as (leads c.args.breaks.now) (sym c.into_inner.ensures ∙ c.in-Both.is) (both_tests (leads c.args.breaks.now) (plain_cond c.in-Both.c.value)
     (plain_cond c.in-Both.d.value) (same c.in_ok-u-in-Both.ensures (ap (λ b. plain_tested b.value) c.in_ok-both-in-Both.ensures.0))
     (at_ok _ c.in_ok-both-in-Both.ensures.1 c.condition-t.ensures) e))
 
 pub condition-returns-in_ok-both-in-Either : goal.condition-returns-in_ok-both-in-Either
 condition-returns-in_ok-both-in-Either t c =
-    if_ok c.or.result c.or.ensures (λ _ e. tests_as (leads c.args.breaks.now) (sym c.into_inner.ensures ∙ c.in-Either.is) (either_tests (leads c.args.breaks.now) (plain_cond c.in-Either.c.value)
+    if_ok c.or.result c.or.ensures
+    (λ _ e. tests_as (leads c.args.breaks.now) (sym c.into_inner.ensures ∙ c.in-Either.is) (either_tests (leads c.args.breaks.now) (plain_cond c.in-Either.c.value)
     (plain_cond c.in-Either.d.value) (same c.in_ok-u-in-Either.ensures (ap (λ b. plain_tested b.value) c.in_ok-both-in-Either.ensures.0))
     (at_ok _ c.in_ok-both-in-Either.ensures.1 c.condition-t-in-Either.ensures) e))
 
 pub leave-returns-in_ok-t-in-Compare : goal.leave-returns-in_ok-t-in-Compare
 leave-returns-in_ok-t-in-Compare t c =
-    if_ok c.exit_where.result c.exit_where.ensures (λ _ e. leaves_as (leads c.args.breaks.now) c.args.when c.args.loops (sym c.into_inner.ensures ∙ c.in-Compare.is) (compare_leaves (leads c.args.breaks.now) c.args.when c.args.loops c.in-Compare.rel
+    if_ok c.exit_where.result c.exit_where.ensures
+    (λ _ e. leaves_as (leads c.args.breaks.now) c.args.when c.args.loops (sym c.into_inner.ensures ∙ c.in-Compare.is)
+    (compare_leaves (leads c.args.breaks.now) c.args.when c.args.loops c.in-Compare.rel
     (plain_tx c.in-Compare.x.value) (plain_tx c.in-Compare.y.value) c.in_ok-both-in-Compare.ensures c.in_ok-t-in-Compare.ensures e))
 
 pub leave-returns-in-Not : goal.leave-returns-in-Not
 leave-returns-in-Not t c =
-    if_ok c.leave.result c.leave.ensures (λ _ e. leaves_as (leads c.args.breaks.now) c.args.when c.args.loops (sym c.into_inner.ensures ∙ c.in-Not.is) (not_leaves (leads c.args.breaks.now) c.args.when c.args.loops (plain_cond c.in-Not.c.value) e))
+    if_ok c.leave.result c.leave.ensures
+    (λ _ e. leaves_as (leads c.args.breaks.now) c.args.when c.args.loops (sym c.into_inner.ensures ∙ c.in-Not.is)
+    (not_leaves (leads c.args.breaks.now) c.args.when c.args.loops (plain_cond c.in-Not.c.value) e))
 
 pub linear-returns-in_ok-a-in-Move : goal.linear-returns-in_ok-a-in-Move
 linear-returns-in_ok-a-in-Move t c =
@@ -130,7 +149,8 @@ linear-returns-in_ok-both-in-Store t c =
 
 pub linear-returns-in_ok-both-in-StoreByte : goal.linear-returns-in_ok-both-in-StoreByte
 linear-returns-in_ok-both-in-StoreByte t c =
-    if_ok c.store_byte.result c.store_byte.ensures (λ _ e. opened_as (leads c.args.breaks.now) (ap plain_opened (sym c.in-StoreByte.is) ∙ c.in_ok-opened.ensures.parts)
+    if_ok c.store_byte.result c.store_byte.ensures
+    (λ _ e. opened_as (leads c.args.breaks.now) (ap plain_opened (sym c.in-StoreByte.is) ∙ c.in_ok-opened.ensures.parts)
     (store_byte_goes (leads c.args.breaks.now) (plain_tx c.in-StoreByte.x.value) (plain_tx c.in-StoreByte.y.value) c.in_ok-both-in-StoreByte.ensures e))
 
 pub linear-returns-in_ok-a-in-Do : goal.linear-returns-in_ok-a-in-Do
@@ -140,7 +160,8 @@ linear-returns-in_ok-a-in-Do t c =
 
 pub linear-returns-in_ok-a-in-Return : goal.linear-returns-in_ok-a-in-Return
 linear-returns-in_ok-a-in-Return t c =
-    if_ok c.return_of.result c.return_of.ensures (λ _ e. opened_as (leads c.args.breaks.now) (ap plain_opened (sym c.in-Return.is) ∙ c.in_ok-opened.ensures.parts)
+    if_ok c.return_of.result c.return_of.ensures
+    (λ _ e. opened_as (leads c.args.breaks.now) (ap plain_opened (sym c.in-Return.is) ∙ c.in_ok-opened.ensures.parts)
     (return_goes (leads c.args.breaks.now) (plain_tx c.in-Return.x.value) c.in_ok-a-in-Return.ensures e))
 
 pub linear-returns-in_ok-p-in-Loop : goal.linear-returns-in_ok-p-in-Loop
