@@ -19,7 +19,8 @@ HEAD_NODES, HEAD_BODIES, HEAD_DEPTH = 40, 13, 2
 # How tightly an expression binds: an operand must bind at least as tightly as its place asks for, else it is in brackets.
 WHOLE, OR, AND, COMPARED, SUM, TERM, UNARY = range(7)
 
-Production = collections.namedtuple("Production", "before after nodes depth need rank is_function", defaults=(WHOLE, UNARY, False))
+PARTS = "before after nodes depth need rank is_function"
+Production = collections.namedtuple("Production", PARTS, defaults=(WHOLE, UNARY, False))
 
 LEFT = {
     "*": Production("", "*1", 2, 1, TERM, TERM),
@@ -83,7 +84,7 @@ def indexed(k):
 CHAINS = {
     "": lambda k: [],
     **{name: lambda k, it=it: [it] * k for name, it in LEFT.items() if name != "="},
-    "* + = & |": lambda k: [LEFT["|"]] * (k // 6) + [LEFT["&"]] * (k // 6) + [LEFT["="]] + [LEFT["+"]] * (k // 3) + [LEFT["*"]] * (k // 3),
+    "* + = & |": lambda k: [LEFT[it] for it in "|" * (k // 6) + "&" * (k // 6) + "=" + "+" * (k // 3) + "*" * (k // 3)],
 }
 
 

@@ -5,6 +5,7 @@ ghost use Rattle.tg_base.specs.Counts.{counted};
 ghost use Rattle.tg_base.specs.Files.{IsFilePrefix};
 
 use crate::counted::Counted;
+use crate::interrupts::read_again;
 use std::alloc::Global;
 use std::fs;
 use std::io::Read;
@@ -12,7 +13,7 @@ use std::rt::Files;
 use tg_base::{Shelf, ShelfFault};
 
 /// The files of the system are a shelf, whose count of faults is for every name that of all. Each
-/// error in opening or reading a file is a fault.
+/// error in opening or reading a file is a fault, but for reads that are made again.
 impl<'a, R: Files> Shelf for Counted<&'a R>
 where
     R::File: Read + Drop,
@@ -48,7 +49,7 @@ fn read_front<F: Read>(alloc: Global, file: &mut F, most: usize) -> Result<Vec<u
     let mut piece = [0; 4096];
     while front.len() < most {
         let room = (most - front.len()).min(piece.len());
-        match file.read(&mut piece[..room]) {
+        match read_again(file, &mut piece[..room]) {
             Ok(0) => break,
             Ok(count) => {
                 if front.extend_from_slice(&piece[..count]).is_err() {
@@ -67,11 +68,24 @@ mod tests {
     use std::process;
     use std::test::Fail;
 
+    /// The path of a file in a new folder, of which nobody has made anything before.
+    fn fresh(rt: &HostRuntime) -> Result<(String, String), Fail> {
+        let alloc = rt.alloc();
+        let id = process::id(rt.process());
+        for n in 0..1000 {
+            let folder = format!(in alloc; "/tmp/tiger_{id}_{n}")?;
+            if fs::create_dir(rt, folder.as_str()).is_ok() {
+                let name = format!(in alloc; "{folder}/exit.tig")?;
+                return Ok((folder, name));
+            }
+        }
+        Err(Fail::from("no new folder"))
+    }
+
     #[test]
     fn files_count_their_faults(rt: HostRuntime) -> Result<(), Fail> {
         let alloc = rt.alloc();
-        let id = process::id(rt.process());
-        let name = format!(in alloc; "/tmp/tiger_shelf_{id}")?;
+        let (folder, name) = fresh(&rt)?;
         fs::write(&rt, name.as_str(), b"exit(3)".as_slice())?;
         let mut shelf = Counted::new(&rt);
         let Ok(front) = shelf.read_file(alloc, &name, 4) else {
@@ -81,6 +95,7 @@ mod tests {
             return Err(Fail::from("a whole file"));
         };
         fs::remove_file(&rt, name.as_str())?;
+        fs::remove_dir(&rt, folder.as_str())?;
         assert_eq!(rt; front.as_slice(), b"exit".as_slice());
         assert_eq!(rt; all.as_slice(), b"exit(3)".as_slice());
         assert_eq!(rt; shelf.faults, 0);

@@ -12,6 +12,7 @@ ghost use Rattle.tg_cli.specs.Ends.{EndsWith, IsAnswered, IsStatus};
 
 mod counted;
 mod files;
+mod interrupts;
 mod readers;
 mod writers;
 

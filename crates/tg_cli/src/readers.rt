@@ -6,10 +6,11 @@ ghost use Rattle.tg_base.specs.Causes.{HasCause};
 ghost use Rattle.tg_cli.specs.glue.Faults.{faults_after};
 
 use crate::counted::Counted;
+use crate::interrupts::read_again;
 use std::io::Read;
 use tg_base::{Failed, Source};
 
-/// A reader is a source, each of whose errors is a fault.
+/// A reader is a source, each of whose errors is a fault, but for reads that are made again.
 impl<R: Read> Source for Counted<R> {
     ghost left = { λ _. None };
 
@@ -21,7 +22,7 @@ impl<R: Read> Source for Counted<R> {
         ensures cause { HasCause self.old self.new result }
         ensures counted { self.new ≡ faults_after self.old (is_err result) }
     {
-        match self.part.read(into) {
+        match read_again(&mut self.part, into) {
             Ok(count) => Ok(count),
             Err(_) => {
                 self.faults = self.faults.saturating_add(1);

@@ -5,11 +5,12 @@ ghost use Rattle.tg_base.specs.Causes.{HasCause};
 ghost use Rattle.tg_cli.specs.glue.Faults.{faults_after};
 
 use crate::counted::Counted;
+use crate::interrupts::write_again;
 use std::io::Write;
 use tg_base::{Failed, Sink};
 
-/// A writer is a sink, to which each piece is handed on at once. Each of its errors is a fault, and
-/// so is a write of nothing.
+/// A writer is a sink, to which each piece is handed on at once. Each of its errors is a fault, but
+/// for writes that are made again, and so is a write of nothing.
 impl<W: Write> Sink for Counted<W> {
     ghost taken = { λ _. None };
 
@@ -21,7 +22,7 @@ impl<W: Write> Sink for Counted<W> {
         ensures cause { HasCause self.old self.new result }
         ensures counted { self.new ≡ faults_after self.old (is_err result) }
     {
-        let count = self.part.write(piece).unwrap_or(0);
+        let count = write_again(&mut self.part, piece).unwrap_or(0);
         if count == 0 || self.part.flush().is_err() {
             self.faults = self.faults.saturating_add(1);
             return Err(Failed);

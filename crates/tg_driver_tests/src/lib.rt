@@ -9,6 +9,8 @@ mod calls;
 #[cfg(test)]
 mod cut;
 #[cfg(test)]
+mod deep;
+#[cfg(test)]
 mod failures;
 #[cfg(test)]
 mod faults;
