@@ -74,6 +74,7 @@ fn nowhere(alloc: Global) -> Storage
 }
 
 /// The place of a variable, by what its use means.
+#[inline(never)]
 pub(crate) fn variable_place(
     state: &TranslationState,
     within: Within,
@@ -92,6 +93,7 @@ pub(crate) fn variable_place(
 }
 
 /// A new variable of the function at work.
+#[inline(never)]
 pub(crate) fn declare_variable(
     findings: &Findings,
     state: &mut TranslationState,
@@ -108,6 +110,7 @@ pub(crate) fn declare_variable(
 }
 
 /// A home in the activation at work.
+#[inline(never)]
 pub(crate) fn own_place(alloc: Global, access: Access) -> Result<Storage, Memory>
     ensures { IfOk result (λ p. plain_storage p ≡ constructs.own_place access) }
 {
