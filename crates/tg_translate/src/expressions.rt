@@ -23,25 +23,22 @@ ghost use Rattle.tg_translate.specs.glue.Parts as parts;
 use crate::calls::literal;
 use crate::findings::Findings;
 use crate::finishing::{
-    array_of, assign_behind, assign_to, call_with, choose, create, do_for, do_when, do_while, end, fill, hold_in,
-    hold_value, element, join_arms, join_tests, negate, operate, place_again, push_dropped,
-    push_value, put_break, put_number, put_read, read_from, select, stand_behind, take_arm, take_body,
-    take_test, take_value,
+    array_at, assign_to, call_with, choose, create, declare_as, do_for, do_when, do_while,
+    element_at, end, field_at, fill, hold_at, join_arms, join_tests, negate, operate, place_again,
+    push_dropped, push_field, push_value, put_break, put_number, put_read, put_value_of,
+    stand_behind, take_arm, take_body, take_test, take_value, value_held, variable_at,
 };
 use crate::functions::{begin, declare_functions, inside, result_want};
-use crate::held::{HeldPlace, read_held};
 use crate::homes::Within;
 use crate::loops::{in_body, in_test};
 use crate::operands::Operand;
 use crate::operators::{compares_strings, is_conjunction, left_want};
-use crate::places::{
-    Storage, declare_variable, field_number, own_place, variable_place, want_for,
-};
+use crate::places::{Storage, declare_variable, field_number, home_want, want_for};
 use crate::purity::{assigns_nothing, inits_assign_nothing};
 use crate::states::{TranslationState, next};
 use crate::updates::begins_with;
 use crate::wants::{Made, Want, arms};
-use tg_base::{Label, Memory, Temp};
+use tg_base::{Label, Memory};
 use tg_syntax::{Dec, Decs, Exp, Exps, FunDec, FunDecs, Ident, Inits, Kind, Op, Var};
 use tg_tree::{Ts, Tx};
 
@@ -77,21 +74,15 @@ pub(crate) fn expression(
         Kind::Read(place) => read(findings, state, place, within, made),
         Kind::Call(f, arguments) => call(findings, state, *f, arguments, within, made),
         Kind::Neg(a) => negation(findings, state, a, within, made),
-        Kind::Binary(op, at, a, b) => {
-            binary(findings, state, a, b, *op, *at, want, within, made)
-        }
+        Kind::Binary(_, _, _, _) => binary(findings, state, e, want, within, made),
         Kind::Make(_, inits) => creation(findings, state, inits, within, made),
-        Kind::Fill(_, size, item) => array(findings, state, size, item, within, made),
-        Kind::Assign(v, a) => assignment(findings, state, v, a, within, made),
-        Kind::If(test, this, Some(other)) => {
-            choice(findings, state, test, this, other, want, within, made)
-        }
-        Kind::If(test, this, None) => when(findings, state, test, this, within, made),
-        Kind::While(test, body) => while_loop(findings, state, test, body, within, made),
-        Kind::For(x, low, high, body) => {
-            for_loop(findings, state, *x, low, high, body, within, made)
-        }
-        Kind::Let(decs, body) => scope(findings, state, decs, body, want, within, made),
+        Kind::Fill(_, _, _) => array(findings, state, e, want, within, made),
+        Kind::Assign(_, _) => assignment(findings, state, e, want, within, made),
+        Kind::If(_, _, Some(_)) => choice(findings, state, e, want, within, made),
+        Kind::If(_, _, None) => when(findings, state, e, want, within, made),
+        Kind::While(_, _) => while_loop(findings, state, e, want, within, made),
+        Kind::For(_, _, _, _) => for_loop(findings, state, e, want, within, made),
+        Kind::Let(_, _) => scope(findings, state, e, want, within, made),
         Kind::Seq(items) => items_of(findings, state, items, want, within, made),
     }
 }
@@ -110,9 +101,8 @@ fn read(
         parts.read_in (findings_of findings.now) (plain_var place.now) within.now
         (state_of state.old) ≡ drawn (plain_made made.new) (state_of state.new)) }
 {
-    let mut at = Storage::InTemp(Temp(0));
-    locate(findings, state, place, within, &mut at, made)?;
-    read_from(state.alloc, &mut at, made)
+    let place = locate(findings, state, place, within, made)?;
+    Ok(put_value_of(state.alloc, place, made)?)
 }
 
 // A call.
@@ -132,7 +122,7 @@ fn call(
 {
     let arguments = values(findings, state, arguments, within, made)?;
     let meaning = findings.meaning(f.span.from);
-    call_with(state, *within, meaning, arguments, made)
+    Ok(call_with(state, within, meaning, arguments, made)?)
 }
 
 // A negation.
@@ -150,29 +140,32 @@ fn negation(
         (state_of state.old) ≡ drawn (plain_made made.new) (state_of state.new)) }
 {
     expression(findings, state, a, Want::Value, within, made)?;
-    negate(state, made)
+    Ok(negate(state, made)?)
 }
 
-// An operator.
+// An operator. This, and each of the functions below that is handed a whole expression, is called only
+// for an expression of its kind.
 #[cycle(translation)]
 #[inline(never)]
 fn binary(
     findings: &Findings,
     state: &mut TranslationState,
-    a: &Exp,
-    b: &Exp,
-    op: Op,
-    at: u32,
+    e: &Exp,
     want: Want,
     within: &Within,
     made: &mut Made,
 ) -> Result<(), Memory>
     ensures { OnOk result (
-        parts.binary_in (findings_of findings.now) op at (plain a.now) (plain b.now) want within.now
+        translation.expression (findings_of findings.now) (plain e.now) want within.now
         (state_of state.old) ≡ drawn (plain_made made.new) (state_of state.new)) }
 {
-    expression(findings, state, a, left_want(op), within, made)?;
-    with_left(findings, state, b, op, at, want, within, made)
+    match &e.kind {
+        Kind::Binary(op, at, a, b) => {
+            expression(findings, state, a, left_want(*op), within, made)?;
+            Ok(with_left(findings, state, b, *op, *at, want, within, made)?)
+        }
+        _ => Err(Memory),
+    }
 }
 
 // An operator whose left side was made.
@@ -194,8 +187,8 @@ fn with_left(
         (state_of state.old) ≡ drawn (plain_made made.new) (state_of state.new)) }
 {
     match op {
-        Op::And | Op::Or => connective(findings, state, b, op, want, within, made),
-        _ => operation(findings, state, b, op, at, within, made),
+        Op::And | Op::Or => Ok(connective(findings, state, b, op, want, within, made)?),
+        _ => Ok(operation(findings, state, b, op, at, within, made)?),
     }
 }
 
@@ -218,7 +211,8 @@ fn operation(
     let left = take_value(state, made)?;
     expression(findings, state, b, Want::Value, within, made)?;
     let of_strings = compares_strings(findings.meaning(at));
-    operate(state, op, of_strings, assigns_nothing(b), left, made)
+    let direct = assigns_nothing(b);
+    Ok(operate(state, op, of_strings, direct, left, made)?)
 }
 
 // `&` or `|`, whose left side was made, as a condition.
@@ -242,12 +236,12 @@ fn connective(
     match want {
         Want::Test => {
             expression(findings, state, b, Want::Test, within, made)?;
-            join_tests(state.alloc, op, left, made)
+            Ok(join_tests(state.alloc, op, left, made)?)
         }
         _ => {
             let arms = arms(state, want)?;
             expression(findings, state, b, arms, within, made)?;
-            join_arms(state.alloc, op, want, arms, left, made)
+            Ok(join_arms(state.alloc, op, want, arms, left, made)?)
         }
     }
 }
@@ -269,7 +263,7 @@ fn creation(
     let direct = inits_assign_nothing(inits);
     let mut before = Vec::new(state.alloc);
     let operands = fields(findings, state, inits, &mut before, direct, within, made)?;
-    create(state, before, &operands, made)
+    Ok(create(state, before, &operands, made)?)
 }
 
 // An array.
@@ -278,19 +272,24 @@ fn creation(
 fn array(
     findings: &Findings,
     state: &mut TranslationState,
-    size: &Exp,
-    item: &Exp,
+    e: &Exp,
+    want: Want,
     within: &Within,
     made: &mut Made,
 ) -> Result<(), Memory>
     ensures { OnOk result (
-        parts.array_in (findings_of findings.now) (plain size.now) (plain item.now) within.now
+        translation.expression (findings_of findings.now) (plain e.now) want within.now
         (state_of state.old) ≡ drawn (plain_made made.new) (state_of state.new)) }
 {
-    expression(findings, state, size, Want::Value, within, made)?;
-    let size = take_value(state, made)?;
-    expression(findings, state, item, Want::Value, within, made)?;
-    fill(state, size, made)
+    match &e.kind {
+        Kind::Fill(_, size, item) => {
+            expression(findings, state, size, Want::Value, within, made)?;
+            let size = take_value(state, made)?;
+            expression(findings, state, item, Want::Value, within, made)?;
+            Ok(fill(state, size, made)?)
+        }
+        _ => Err(Memory),
+    }
 }
 
 // An assignment.
@@ -299,21 +298,25 @@ fn array(
 fn assignment(
     findings: &Findings,
     state: &mut TranslationState,
-    v: &Var,
-    a: &Exp,
+    e: &Exp,
+    want: Want,
     within: &Within,
     made: &mut Made,
 ) -> Result<(), Memory>
     ensures { OnOk result (
-        parts.assignment_in (findings_of findings.now) (plain_var v.now) (plain a.now) within.now
+        translation.expression (findings_of findings.now) (plain e.now) want within.now
         (state_of state.old) ≡ drawn (plain_made made.new) (state_of state.new)) }
 {
-    let mut place = Storage::InTemp(Temp(0));
-    locate(findings, state, v, within, &mut place, made)?;
-    if begins_with(findings, a, v) {
-        update(findings, state, a, &mut place, within, made)
-    } else {
-        assign(findings, state, a, &mut place, within, made)
+    match &e.kind {
+        Kind::Assign(v, a) => {
+            let place = locate(findings, state, v, within, made)?;
+            if begins_with(findings, a, v) {
+                Ok(update(findings, state, a, place, within, made)?)
+            } else {
+                Ok(assign(findings, state, a, place, within, made)?)
+            }
+        }
+        _ => Err(Memory),
     }
 }
 
@@ -324,17 +327,18 @@ fn assign(
     findings: &Findings,
     state: &mut TranslationState,
     e: &Exp,
-    place: &mut Storage,
+    place: Box<Storage>,
     within: &Within,
     made: &mut Made,
 ) -> Result<(), Memory>
     ensures { OnOk result (
-        parts.done_of
-        (parts.assigned_in (findings_of findings.now) (plain_storage place.old) (plain e.now) within.now)
+        parts.done_of (parts.assigned_in (findings_of findings.now) (plain_storage place.value)
+        (plain e.now) within.now)
         (state_of state.old) ≡ drawn (plain_made made.new) (state_of state.new)) }
 {
-    expression(findings, state, e, want_for(place), within, made)?;
-    assign_to(state, place, made)
+    let want = want_for(&place);
+    expression(findings, state, e, want, within, made)?;
+    Ok(assign_to(state, place, made)?)
 }
 
 // An assignment to a place of a value that begins with a read of it.
@@ -344,21 +348,21 @@ fn update(
     findings: &Findings,
     state: &mut TranslationState,
     e: &Exp,
-    place: &mut Storage,
+    place: Box<Storage>,
     within: &Within,
     made: &mut Made,
 ) -> Result<(), Memory>
     ensures { OnOk result (
-        parts.done_of
-        (parts.updated_in (findings_of findings.now) (plain_storage place.old) (plain e.now) within.now)
+        parts.done_of (parts.updated_in (findings_of findings.now) (plain_storage place.value)
+        (plain e.now) within.now)
         (state_of state.old) ≡ drawn (plain_made made.new) (state_of state.new)) }
 {
-    let mut held = HeldPlace::InTemp(Temp(0));
-    hold_in(state, place, &mut held)?;
-    let mut read = read_held(state.alloc, &held)?;
-    place_again(state.alloc, &mut held, place)?;
-    behind_read(findings, state, e, &mut read, want_for(place), within, made)?;
-    assign_to(state, place, made)
+    let held = hold_at(state, place)?;
+    let read = value_held(state.alloc, &held)?;
+    let place = place_again(state.alloc, held)?;
+    let want = want_for(&place);
+    behind_read(findings, state, e, read, want, within, made)?;
+    Ok(assign_to(state, place, made)?)
 }
 
 // An expression that begins with a read whose value is known.
@@ -368,20 +372,20 @@ fn behind_read(
     findings: &Findings,
     state: &mut TranslationState,
     e: &Exp,
-    read: &mut Tx,
+    read: Box<Tx>,
     want: Want,
     within: &Within,
     made: &mut Made,
 ) -> Result<(), Memory>
     ensures { OnOk result (
-        translation.behind_read (findings_of findings.now) (plain e.now) (plain_tx read.old) want
+        translation.behind_read (findings_of findings.now) (plain e.now) (plain_tx read.value) want
         within.now
         (state_of state.old) ≡ drawn (plain_made made.new) (state_of state.new)) }
 {
     match &e.kind {
         Kind::Binary(op, at, a, b) => {
             behind_read(findings, state, a, read, left_want(*op), within, made)?;
-            with_left(findings, state, b, *op, *at, want, within, made)
+            Ok(with_left(findings, state, b, *op, *at, want, within, made)?)
         }
         _ => {
             put_read(made, read);
@@ -396,23 +400,24 @@ fn behind_read(
 fn choice(
     findings: &Findings,
     state: &mut TranslationState,
-    test: &Exp,
-    this: &Exp,
-    other: &Exp,
+    e: &Exp,
     want: Want,
     within: &Within,
     made: &mut Made,
 ) -> Result<(), Memory>
     ensures { OnOk result (
-        parts.choice_in (findings_of findings.now) (plain test.now) (plain this.now) (plain other.now)
-        want within.now
+        translation.expression (findings_of findings.now) (plain e.now) want within.now
         (state_of state.old) ≡ drawn (plain_made made.new) (state_of state.new)) }
 {
-    expression(findings, state, test, Want::Test, within, made)?;
-    if is_conjunction(want, other) {
-        connective(findings, state, this, Op::And, want, within, made)
-    } else {
-        either(findings, state, this, other, want, within, made)
+    match &e.kind {
+        Kind::If(test, this, Some(other)) => {
+            expression(findings, state, test, Want::Test, within, made)?;
+            if is_conjunction(want, other) {
+                return Ok(connective(findings, state, this, Op::And, want, within, made)?);
+            }
+            Ok(either(findings, state, e, want, within, made)?)
+        }
+        _ => Err(Memory),
     }
 }
 
@@ -422,23 +427,27 @@ fn choice(
 fn either(
     findings: &Findings,
     state: &mut TranslationState,
-    this: &Exp,
-    other: &Exp,
+    e: &Exp,
     want: Want,
     within: &Within,
     made: &mut Made,
 ) -> Result<(), Memory>
     ensures { OnOk result (
-        parts.arms_in (findings_of findings.now) (wants.test_of (plain_made made.old)) (plain this.now)
-        (plain other.now) want within.now
+        parts.arms_in (findings_of findings.now) (wants.test_of (plain_made made.old))
+        (plain e.now) want within.now
         (state_of state.old) ≡ drawn (plain_made made.new) (state_of state.new)) }
 {
-    let test = take_test(state.alloc, made)?;
-    let arms = arms(state, want)?;
-    expression(findings, state, this, arms, within, made)?;
-    let this = take_arm(state.alloc, arms, made)?;
-    expression(findings, state, other, arms, within, made)?;
-    choose(state.alloc, want, arms, test, this, made)
+    match &e.kind {
+        Kind::If(_, this, Some(other)) => {
+            let test = take_test(state.alloc, made)?;
+            let arms = arms(state, want)?;
+            expression(findings, state, this, arms, within, made)?;
+            let this = take_arm(state.alloc, arms, made)?;
+            expression(findings, state, other, arms, within, made)?;
+            Ok(choose(state.alloc, want, arms, test, this, made)?)
+        }
+        _ => Err(Memory),
+    }
 }
 
 // What is done where a condition holds.
@@ -447,19 +456,24 @@ fn either(
 fn when(
     findings: &Findings,
     state: &mut TranslationState,
-    test: &Exp,
-    this: &Exp,
+    e: &Exp,
+    want: Want,
     within: &Within,
     made: &mut Made,
 ) -> Result<(), Memory>
     ensures { OnOk result (
-        parts.when_in (findings_of findings.now) (plain test.now) (plain this.now) within.now
+        translation.expression (findings_of findings.now) (plain e.now) want within.now
         (state_of state.old) ≡ drawn (plain_made made.new) (state_of state.new)) }
 {
-    expression(findings, state, test, Want::Test, within, made)?;
-    let test = take_test(state.alloc, made)?;
-    expression(findings, state, this, Want::Dropped, within, made)?;
-    do_when(state.alloc, test, made)
+    match &e.kind {
+        Kind::If(test, this, None) => {
+            expression(findings, state, test, Want::Test, within, made)?;
+            let test = take_test(state.alloc, made)?;
+            expression(findings, state, this, Want::Dropped, within, made)?;
+            Ok(do_when(state.alloc, test, made)?)
+        }
+        _ => Err(Memory),
+    }
 }
 
 // What is done while a condition holds.
@@ -468,21 +482,26 @@ fn when(
 fn while_loop(
     findings: &Findings,
     state: &mut TranslationState,
-    test: &Exp,
-    body: &Exp,
+    e: &Exp,
+    want: Want,
     within: &Within,
     made: &mut Made,
 ) -> Result<(), Memory>
     ensures { OnOk result (
-        parts.while_in (findings_of findings.now) (plain test.now) (plain body.now) within.now
+        translation.expression (findings_of findings.now) (plain e.now) want within.now
         (state_of state.old) ≡ drawn (plain_made made.new) (state_of state.new)) }
 {
-    let test_within = in_test(*within)?;
-    expression(findings, state, test, Want::Test, &test_within, made)?;
-    let test = take_test(state.alloc, made)?;
-    let body_within = in_body(*within);
-    expression(findings, state, body, Want::Dropped, &body_within, made)?;
-    do_while(state.alloc, test, made)
+    match &e.kind {
+        Kind::While(test, body) => {
+            let test_within = in_test(*within)?;
+            expression(findings, state, test, Want::Test, &test_within, made)?;
+            let test = take_test(state.alloc, made)?;
+            let body_within = in_body(*within);
+            expression(findings, state, body, Want::Dropped, &body_within, made)?;
+            Ok(do_while(state.alloc, test, made)?)
+        }
+        _ => Err(Memory),
+    }
 }
 
 // What is done for each value of a variable.
@@ -491,22 +510,24 @@ fn while_loop(
 fn for_loop(
     findings: &Findings,
     state: &mut TranslationState,
-    x: Ident,
-    low: &Exp,
-    high: &Exp,
-    body: &Exp,
+    e: &Exp,
+    want: Want,
     within: &Within,
     made: &mut Made,
 ) -> Result<(), Memory>
     ensures { OnOk result (
-        parts.for_in (findings_of findings.now) x (plain low.now) (plain high.now) (plain body.now)
-        within.now
+        translation.expression (findings_of findings.now) (plain e.now) want within.now
         (state_of state.old) ≡ drawn (plain_made made.new) (state_of state.new)) }
 {
-    expression(findings, state, low, Want::Value, within, made)?;
-    let low = take_value(state, made)?;
-    expression(findings, state, high, Want::Value, within, made)?;
-    counted(findings, state, body, x, low, within, made)
+    match &e.kind {
+        Kind::For(x, low, high, body) => {
+            expression(findings, state, low, Want::Value, within, made)?;
+            let low = take_value(state, made)?;
+            expression(findings, state, high, Want::Value, within, made)?;
+            Ok(counted(findings, state, body, *x, low, within, made)?)
+        }
+        _ => Err(Memory),
+    }
 }
 
 // What is done for each value of a variable, whose last one was made.
@@ -517,12 +538,12 @@ fn counted(
     state: &mut TranslationState,
     body: &Exp,
     x: Ident,
-    low: Tx,
+    low: Box<Tx>,
     within: &Within,
     made: &mut Made,
 ) -> Result<(), Memory>
     ensures { OnOk result (
-        parts.counted_to (findings_of findings.now) x (plain_tx low) (plain_made made.old)
+        parts.counted_to (findings_of findings.now) x (plain_tx low.value) (plain_made made.old)
         (plain body.now) within.now
         (state_of state.old) ≡ drawn (plain_made made.new) (state_of state.new)) }
 {
@@ -530,7 +551,7 @@ fn counted(
     let variable = declare_variable(findings, state, within.level, x.span.from)?;
     let body_within = in_body(*within);
     expression(findings, state, body, Want::Dropped, &body_within, made)?;
-    do_for(state, variable, low, high, made)
+    Ok(do_for(state, variable, low, high, made)?)
 }
 
 // The place of an l-value.
@@ -541,64 +562,63 @@ fn locate(
     state: &mut TranslationState,
     place: &Var,
     within: &Within,
-    at: &mut Storage,
     made: &mut Made,
-) -> Result<(), Memory>
-    ensures { OnOk result (
+) -> Result<Box<Storage>, Memory>
+    ensures { IfOk result (λ p.
         translation.locate (findings_of findings.now) (plain_var place.now) within.now
-        (state_of state.old) ≡ drawn (plain_storage at.new) (state_of state.new)) }
+        (state_of state.old) ≡ drawn (plain_storage p.value) (state_of state.new)) }
 {
     match place {
-        Var::Simple(x) => {
-            *at = variable_place(state, *within, findings.meaning(x.span.from))?;
-            Ok(())
-        }
-        Var::Field(of, field) => locate_field(findings, state, of, *field, within, at, made),
-        Var::Index(of, index) => locate_element(findings, state, of, index, within, at, made),
+        Var::Simple(x) => variable_at(state, within, findings.meaning(x.span.from)),
+        Var::Field(of, field) => field_of(findings, state, of, *field, within, made),
+        Var::Index(_, _) => element_of(findings, state, place, within, made),
     }
 }
 
 // The place of a field of a record.
 #[cycle(translation)]
 #[inline(never)]
-fn locate_field(
+fn field_of(
     findings: &Findings,
     state: &mut TranslationState,
     of: &Var,
     field: Ident,
     within: &Within,
-    at: &mut Storage,
     made: &mut Made,
-) -> Result<(), Memory>
-    ensures { OnOk result (
+) -> Result<Box<Storage>, Memory>
+    ensures { IfOk result (λ p.
         parts.field_in (findings_of findings.now) (plain_var of.now) field within.now
-        (state_of state.old) ≡ drawn (plain_storage at.new) (state_of state.new)) }
+        (state_of state.old) ≡ drawn (plain_storage p.value) (state_of state.new)) }
 {
-    locate(findings, state, of, within, at, made)?;
+    let place = locate(findings, state, of, within, made)?;
     let number = field_number(findings.meaning(field.span.from));
-    select(state, number, at)
+    Ok(field_at(state, number, place)?)
 }
 
 // The place of an element of an array.
 #[cycle(translation)]
 #[inline(never)]
-fn locate_element(
+fn element_of(
     findings: &Findings,
     state: &mut TranslationState,
-    of: &Var,
-    index: &Exp,
+    place: &Var,
     within: &Within,
-    at: &mut Storage,
     made: &mut Made,
-) -> Result<(), Memory>
-    ensures { OnOk result (
-        parts.element_in (findings_of findings.now) (plain_var of.now) (plain index.now) within.now
-        (state_of state.old) ≡ drawn (plain_storage at.new) (state_of state.new)) }
+) -> Result<Box<Storage>, Memory>
+    ensures { IfOk result (λ p.
+        translation.locate (findings_of findings.now) (plain_var place.now) within.now
+        (state_of state.old) ≡ drawn (plain_storage p.value) (state_of state.new)) }
 {
-    locate(findings, state, of, within, at, made)?;
-    let array = array_of(state.alloc, at)?;
-    expression(findings, state, index, Want::Value, within, made)?;
-    element(state, assigns_nothing(index), array, made, at)
+    match place {
+        Var::Index(of, index) => {
+            let of = locate(findings, state, of, within, made)?;
+            let array = array_at(state.alloc, of)?;
+            expression(findings, state, index, Want::Value, within, made)?;
+            let direct = assigns_nothing(index);
+            Ok(element_at(state, direct, array, made)?)
+        }
+        _ => Err(Memory),
+    }
 }
 
 // Arguments, from the left.
@@ -645,7 +665,7 @@ fn fields(
     let mut operands = Vec::new(state.alloc);
     for init in &inits.items {
         expression(findings, state, &init.value, Want::Value, within, made)?;
-        operands.push(hold_value(state, direct, before, made)?)?;
+        push_field(state, direct, before, &mut operands, made)?;
     }
     Ok(operands)
 }
@@ -656,19 +676,23 @@ fn fields(
 fn scope(
     findings: &Findings,
     state: &mut TranslationState,
-    decs: &Decs,
-    body: &Exps,
+    e: &Exp,
     want: Want,
     within: &Within,
     made: &mut Made,
 ) -> Result<(), Memory>
     ensures { OnOk result (
-        parts.scope_in (findings_of findings.now) (decs_of decs.now.items.items) (plain_exps body.now)
-        want within.now
+        translation.expression (findings_of findings.now) (plain e.now) want within.now
         (state_of state.old) ≡ drawn (plain_made made.new) (state_of state.new)) }
 {
-    let before = declarations(findings, state, decs, within, made)?;
-    sequence(findings, state, body, before, want, within, made)
+    match &e.kind {
+        Kind::Let(decs, body) => {
+            let mut before = Vec::new(state.alloc);
+            declarations(findings, state, decs, &mut before, within, made)?;
+            Ok(sequence(findings, state, body, before, want, within, made)?)
+        }
+        _ => Err(Memory),
+    }
 }
 
 // Expressions, one after another.
@@ -687,7 +711,7 @@ fn items_of(
         (state_of state.old) ≡ drawn (plain_made made.new) (state_of state.new)) }
 {
     let before = Vec::new(state.alloc);
-    sequence(findings, state, items, before, want, within, made)
+    Ok(sequence(findings, state, items, before, want, within, made)?)
 }
 
 // Expressions after statements: all but the last are dropped, the last is what their place wants.
@@ -712,35 +736,35 @@ fn sequence(
         left -= 1;
         if left == 0 {
             expression(findings, state, e, want, within, made)?;
-            return stand_behind(state, want, before, made);
+            return Ok(stand_behind(state, want, before, made)?);
         }
         expression(findings, state, e, Want::Dropped, within, made)?;
         push_dropped(state.alloc, &mut before, made)?;
     }
     put_number(made, 0);
-    stand_behind(state, want, before, made)
+    Ok(stand_behind(state, want, before, made)?)
 }
 
-// The statements of declarations.
+// The statements of declarations, after others.
 #[cycle(translation)]
 #[inline(never)]
 fn declarations(
     findings: &Findings,
     state: &mut TranslationState,
     decs: &Decs,
+    before: &mut Vec<Ts>,
     within: &Within,
     made: &mut Made,
-) -> Result<Vec<Ts>, Memory>
-    ensures { IfOk result (λ ss.
+) -> Result<(), Memory>
+    ensures { OnOk result (
         translation.declarations (findings_of findings.now) (decs_of decs.now.items.items)
-        no_stms within.now
-        (state_of state.old) ≡ drawn (stms_of ss.items) (state_of state.new)) }
+        (stms_of before.old.items) within.now
+        (state_of state.old) ≡ drawn (stms_of before.new.items) (state_of state.new)) }
 {
-    let mut before = Vec::new(state.alloc);
     for dec in &decs.items {
-        declaration(findings, state, dec, &mut before, within, made)?;
+        declaration(findings, state, dec, before, within, made)?;
     }
-    Ok(before)
+    Ok(())
 }
 
 // A declaration.
@@ -761,13 +785,11 @@ fn declaration(
 {
     match dec {
         Dec::Types(_) => Ok(()),
-        Dec::Variable(x, _, e) => {
-            variable(findings, state, *x, e, before, within, made)
-        }
+        Dec::Variable(x, _, e) => { Ok(variable(findings, state, *x, e, before, within, made)?) }
         Dec::Functions(group) => {
             let first = state.label;
             declare_functions(state, within.level, group)?;
-            bodies(findings, state, group, first, within, made)
+            Ok(bodies(findings, state, group, first, within, made)?)
         }
     }
 }
@@ -790,9 +812,8 @@ fn variable(
         (state_of state.old) ≡ drawn (stms_of before.new.items) (state_of state.new)) }
 {
     let home = declare_variable(findings, state, within.level, x.span.from)?;
-    let place = own_place(state.alloc, home)?;
-    expression(findings, state, e, want_for(&place), within, made)?;
-    assign_behind(state, place, before, made)
+    expression(findings, state, e, home_want(home), within, made)?;
+    Ok(declare_as(state, home, before, made)?)
 }
 
 // The functions of a group, whose labels go up from this one.
@@ -847,5 +868,5 @@ fn body(
     let want = result_want(has_result);
     expression(findings, state, &function.body, want, &inner, made)?;
     let body = take_body(state, has_result, made)?;
-    end(state, outer, body)
+    Ok(end(state, outer, body)?)
 }

@@ -29,19 +29,19 @@ use crate::calls::call_by;
 use crate::constructs::call_with_two;
 use crate::creation::make_record;
 use crate::functions::closing;
-use crate::held::{HeldPlace, hold_place, place_held};
+use crate::held::{HeldPlace, hold_place, place_held, read_held};
 use crate::homes::Within;
 use crate::loops::{count, repeat_while};
 use crate::operands::{Operand, hold};
 use crate::operators::{chosen, negation, operation, tested};
-use crate::places::{Storage, assign, element_place, field_place, read};
+use crate::places::{Storage, assign, element_place, field_place, own_place, read, variable_place};
 use crate::states::{Outer, TranslationState};
 use crate::wants::{
     Made, Want, as_statement, behind, deliver, dropped, nothing, push, test_of, value_of,
 };
 use std::alloc::Global;
 use std::mem::replace;
-use tg_base::{Memory, Temp};
+use tg_base::Memory;
 use tg_frame::Access;
 use tg_runtime::Routine;
 use tg_syntax::Op;
@@ -80,29 +80,31 @@ pub(crate) fn put_break(made: &mut Made, leave: u32)
     put(made, Made::Done(Ts::Break(leave)));
 }
 
-/// The value of a read, which is taken, is put there.
+/// The value of a read is put there.
 #[inline(never)]
-pub(crate) fn put_read(made: &mut Made, read: &mut Tx)
-    ensures { plain_made made.new ≡ wants.value (plain_tx read.old) }
+pub(crate) fn put_read(made: &mut Made, read: Box<Tx>)
+    ensures { plain_made made.new ≡ wants.value (plain_tx read.value) }
 {
-    put(made, Made::Value(replace(read, Tx::Const(0))));
+    put(made, Made::Value(Box::into_inner(read)));
 }
 
-/// The value of what was made.
+/// The value of what was made, in a box, which a caller can hold where a step may fail.
 #[inline(never)]
-pub(crate) fn take_value(state: &mut TranslationState, made: &mut Made) -> Result<Tx, Memory>
+pub(crate) fn take_value(state: &mut TranslationState, made: &mut Made) -> Result<Box<Tx>, Memory>
     ensures { IfOk result (λ x. wants.value_of (plain_made made.old) (state_of state.old) ≡
-        drawn (plain_tx x) (state_of state.new)) }
+        drawn (plain_tx x.value) (state_of state.new)) }
 {
-    Ok(value_of(state, take(made))?)
+    let value = value_of(state, take(made))?;
+    Ok(Box::new(state.alloc, value)?)
 }
 
 /// The condition that what was made is true.
 #[inline(never)]
-pub(crate) fn take_test(alloc: Global, made: &mut Made) -> Result<Cond, Memory>
-    ensures { IfOk result (λ c. plain_cond c ≡ wants.test_of (plain_made made.old)) }
+pub(crate) fn take_test(alloc: Global, made: &mut Made) -> Result<Box<Cond>, Memory>
+    ensures { IfOk result (λ c. plain_cond c.value ≡ wants.test_of (plain_made made.old)) }
 {
-    Ok(test_of(alloc, take(made))?)
+    let test = test_of(alloc, take(made))?;
+    Ok(Box::new(alloc, test)?)
 }
 
 /// The statement of an arm, as a part of a choice.
@@ -126,10 +128,12 @@ pub(crate) fn push_dropped(
         wants.followed (stms_of before.old.items) (wants.dropped (plain_made made.old))) }
 {
     let done = dropped(alloc, take(made))?;
-    push(before, done)
+    push(before, done)?;
+    Ok(())
 }
 
 /// An argument stands after others.
+#[tactic(auto, using(crate::proofs::Lists::value_pushed))]
 #[inline(never)]
 pub(crate) fn push_value(
     state: &mut TranslationState,
@@ -140,26 +144,31 @@ pub(crate) fn push_value(
         (wants.value_of (plain_made made.old) >>= parts.after_values (txs_of before.old.items))
         (state_of state.old) ≡ drawn (txs_of before.new.items) (state_of state.new)) }
 {
-    let value = take_value(state, made)?;
+    let value = value_of(state, take(made))?;
     before.push(value)?;
     Ok(())
 }
 
-/// A field's value is kept.
+/// A field's value is kept after those before it.
 #[inline(never)]
-pub(crate) fn hold_value(
+pub(crate) fn push_field(
     state: &mut TranslationState,
     direct: bool,
     before: &mut Vec<Ts>,
+    operands: &mut Vec<Operand>,
     made: &mut Made,
-) -> Result<Operand, Memory>
-    ensures { IfOk result (λ o.
-        (wants.value_of (plain_made made.old) >>=
-        constructs.hold direct (stms_of before.old.items)) (state_of state.old) ≡
-        drawn (record { before = stms_of before.new.items; operand = o }) (state_of state.new)) }
+) -> Result<(), Memory>
+    ensures { OnOk result (
+        (wants.value_of (plain_made made.old) >>= constructs.hold_next direct
+        (record { before = stms_of before.old.items; operands = operands.old.items }))
+        (state_of state.old) ≡
+        drawn (record { before = stms_of before.new.items; operands = operands.new.items })
+        (state_of state.new)) }
 {
-    let value = take_value(state, made)?;
-    Ok(hold(state, direct, before, value)?)
+    let value = value_of(state, take(made))?;
+    let operand = hold(state, direct, before, value)?;
+    operands.push(operand)?;
+    Ok(())
 }
 
 /// What was made, after statements.
@@ -179,13 +188,17 @@ pub(crate) fn stand_behind(
     Ok(())
 }
 
-/// The value that stands in a place.
+/// The value that stands in a place is put there.
 #[inline(never)]
-pub(crate) fn read_from(alloc: Global, place: &mut Storage, made: &mut Made) -> Result<(), Memory>
+pub(crate) fn put_value_of(
+    alloc: Global,
+    place: Box<Storage>,
+    made: &mut Made,
+) -> Result<(), Memory>
     ensures { OnOk result (plain_made made.new ≡
-        wants.value (constructs.read (plain_storage place.old))) }
+        wants.value (constructs.read (plain_storage place.value))) }
 {
-    let value = read(alloc, replace(place, Storage::InTemp(Temp(0))))?;
+    let value = read(alloc, Box::into_inner(place))?;
     put(made, Made::Value(value));
     Ok(())
 }
@@ -194,28 +207,28 @@ pub(crate) fn read_from(alloc: Global, place: &mut Storage, made: &mut Made) -> 
 #[inline(never)]
 pub(crate) fn call_with(
     state: &TranslationState,
-    within: Within,
+    within: &Within,
     meaning: Option<Means>,
     arguments: Vec<Tx>,
     made: &mut Made,
 ) -> Result<(), Memory>
     ensures { OnOk result (
-        parts.called_with within meaning (txs_of arguments.items) (state_of state.now) ≡
+        parts.called_with within.now meaning (txs_of arguments.items) (state_of state.now) ≡
         drawn (plain_made made.new) (state_of state.now)) }
 {
-    let value = call_by(state, within, meaning, arguments)?;
+    let value = call_by(state, *within, meaning, arguments)?;
     put(made, Made::Value(value));
     Ok(())
 }
 
-/// A negation.
+/// A negation, whose operand was made.
 #[inline(never)]
 pub(crate) fn negate(state: &mut TranslationState, made: &mut Made) -> Result<(), Memory>
     ensures { OnOk result (
         (wants.value_of (plain_made made.old) >>= parts.negated) (state_of state.old) ≡
         drawn (plain_made made.new) (state_of state.new)) }
 {
-    let value = take_value(state, made)?;
+    let value = value_of(state, take(made))?;
     let value = negation(state.alloc, value)?;
     put(made, Made::Value(value));
     Ok(())
@@ -228,16 +241,16 @@ pub(crate) fn operate(
     op: Op,
     of_strings: bool,
     direct: bool,
-    left: Tx,
+    left: Box<Tx>,
     made: &mut Made,
 ) -> Result<(), Memory>
     ensures { OnOk result (
         (wants.value_of (plain_made made.old) >>=
-        constructs.operation op of_strings direct (plain_tx left)) (state_of state.old) ≡
+        constructs.operation op of_strings direct (plain_tx left.value)) (state_of state.old) ≡
         drawn (plain_made made.new) (state_of state.new)) }
 {
-    let right = take_value(state, made)?;
-    let value = operation(state, op, of_strings, direct, left, right)?;
+    let right = value_of(state, take(made))?;
+    let value = operation(state, op, of_strings, direct, Box::into_inner(left), right)?;
     put(made, value);
     Ok(())
 }
@@ -247,13 +260,13 @@ pub(crate) fn operate(
 pub(crate) fn join_tests(
     alloc: Global,
     op: Op,
-    left: Cond,
+    left: Box<Cond>,
     made: &mut Made,
 ) -> Result<(), Memory>
     ensures { OnOk result (plain_made made.new ≡
-        choices.tested op (plain_cond left) (plain_made made.old)) }
+        choices.tested op (plain_cond left.value) (plain_made made.old)) }
 {
-    let both = tested(alloc, op, left, take(made))?;
+    let both = tested(alloc, op, Box::into_inner(left), take(made))?;
     put(made, both);
     Ok(())
 }
@@ -265,14 +278,14 @@ pub(crate) fn join_arms(
     op: Op,
     want: Want,
     arms: Want,
-    left: Cond,
+    left: Box<Cond>,
     made: &mut Made,
 ) -> Result<(), Memory>
     ensures { OnOk result (plain_made made.new ≡
         wants.deliver want arms
-        (choices.chosen op arms (plain_cond left) (plain_made made.old))) }
+        (choices.chosen op arms (plain_cond left.value) (plain_made made.old))) }
 {
-    let choice = chosen(alloc, op, arms, left, take(made))?;
+    let choice = chosen(alloc, op, arms, Box::into_inner(left), take(made))?;
     let all = deliver(alloc, want, arms, choice)?;
     put(made, all);
     Ok(())
@@ -284,40 +297,45 @@ pub(crate) fn choose(
     alloc: Global,
     want: Want,
     arms: Want,
-    test: Cond,
+    test: Box<Cond>,
     this: Box<Ts>,
     made: &mut Made,
 ) -> Result<(), Memory>
     ensures { OnOk result (plain_made made.new ≡
-        wants.deliver want arms (tree.If (plain_cond test) (plain_ts this.value)
+        wants.deliver want arms (tree.If (plain_cond test.value) (plain_ts this.value)
         (wants.as_statement arms (plain_made made.old)))) }
 {
     let other = take_arm(alloc, arms, made)?;
-    let all = deliver(alloc, want, arms, Ts::If(test, this, other))?;
+    let all = deliver(
+        alloc,
+        want,
+        arms,
+        Ts::If(Box::into_inner(test), this, other),
+    )?;
     put(made, all);
     Ok(())
 }
 
 /// What is done where a condition holds, which was made.
 #[inline(never)]
-pub(crate) fn do_when(alloc: Global, test: Cond, made: &mut Made) -> Result<(), Memory>
+pub(crate) fn do_when(alloc: Global, test: Box<Cond>, made: &mut Made) -> Result<(), Memory>
     ensures { OnOk result (plain_made made.new ≡ wants.done
-        (tree.If (plain_cond test) (wants.dropped (plain_made made.old)) no_statement)) }
+        (tree.If (plain_cond test.value) (wants.dropped (plain_made made.old)) no_statement)) }
 {
     let this = dropped(alloc, take(made))?;
-    let choice = if_else(alloc, test, this, nothing(alloc))?;
+    let choice = if_else(alloc, Box::into_inner(test), this, nothing(alloc))?;
     put(made, Made::Done(choice));
     Ok(())
 }
 
 /// What is done while a condition holds, which was made.
 #[inline(never)]
-pub(crate) fn do_while(alloc: Global, test: Cond, made: &mut Made) -> Result<(), Memory>
+pub(crate) fn do_while(alloc: Global, test: Box<Cond>, made: &mut Made) -> Result<(), Memory>
     ensures { OnOk result (plain_made made.new ≡ wants.done
-        (constructs.repeat_while (plain_cond test) (wants.dropped (plain_made made.old)))) }
+        (constructs.repeat_while (plain_cond test.value) (wants.dropped (plain_made made.old)))) }
 {
     let turn = dropped(alloc, take(made))?;
-    let all = repeat_while(alloc, test, turn)?;
+    let all = repeat_while(alloc, Box::into_inner(test), turn)?;
     put(made, Made::Done(all));
     Ok(())
 }
@@ -327,17 +345,23 @@ pub(crate) fn do_while(alloc: Global, test: Cond, made: &mut Made) -> Result<(),
 pub(crate) fn do_for(
     state: &mut TranslationState,
     variable: Access,
-    low: Tx,
-    high: Tx,
+    low: Box<Tx>,
+    high: Box<Tx>,
     made: &mut Made,
 ) -> Result<(), Memory>
     ensures { OnOk result (
-        parts.done_of (constructs.count variable (plain_tx low) (plain_tx high)
+        parts.done_of (constructs.count variable (plain_tx low.value) (plain_tx high.value)
         (wants.dropped (plain_made made.old))) (state_of state.old) ≡
         drawn (plain_made made.new) (state_of state.new)) }
 {
     let turn = dropped(state.alloc, take(made))?;
-    let all = count(state, variable, low, high, turn)?;
+    let all = count(
+        state,
+        variable,
+        Box::into_inner(low),
+        Box::into_inner(high),
+        turn,
+    )?;
     put(made, Made::Done(all));
     Ok(())
 }
@@ -361,121 +385,148 @@ pub(crate) fn create(
 
 /// An array of a size, whose first values were made.
 #[inline(never)]
-pub(crate) fn fill(state: &mut TranslationState, size: Tx, made: &mut Made) -> Result<(), Memory>
+pub(crate) fn fill(
+    state: &mut TranslationState,
+    size: Box<Tx>,
+    made: &mut Made,
+) -> Result<(), Memory>
     ensures { OnOk result (
-        (wants.value_of (plain_made made.old) >>= parts.filled_with (plain_tx size))
+        (wants.value_of (plain_made made.old) >>= parts.filled_with (plain_tx size.value))
         (state_of state.old) ≡ drawn (plain_made made.new) (state_of state.new)) }
 {
-    let item = take_value(state, made)?;
+    let item = value_of(state, take(made))?;
+    let size = Box::into_inner(size);
     let array = call_with_two(state.alloc, Routine::MakeArray, size, item)?;
     put(made, Made::Value(array));
     Ok(())
 }
 
-/// The field of the record that stands in a place, in the place of that.
+/// The place of a variable, by what its use means.
 #[inline(never)]
-pub(crate) fn select(
+pub(crate) fn variable_at(
+    state: &TranslationState,
+    within: &Within,
+    meaning: Option<Means>,
+) -> Result<Box<Storage>, Memory>
+    ensures { IfOk result (λ p.
+        scopes.variable_place within.now meaning (state_of state.now) ≡
+        drawn (plain_storage p.value) (state_of state.now)) }
+{
+    let place = variable_place(state, *within, meaning)?;
+    Ok(Box::new(state.alloc, place)?)
+}
+
+/// The place of a field of the record that stands in a place.
+#[inline(never)]
+pub(crate) fn field_at(
     state: &mut TranslationState,
     field: u32,
-    place: &mut Storage,
-) -> Result<(), Memory>
-    ensures { OnOk result (
-        constructs.field_place field (constructs.read (plain_storage place.old))
-        (state_of state.old) ≡ drawn (plain_storage place.new) (state_of state.new)) }
+    place: Box<Storage>,
+) -> Result<Box<Storage>, Memory>
+    ensures { IfOk result (λ p.
+        constructs.field_place field (constructs.read (plain_storage place.value))
+        (state_of state.old) ≡ drawn (plain_storage p.value) (state_of state.new)) }
 {
-    let record_ = read(state.alloc, replace(place, Storage::InTemp(Temp(0))))?;
-    *place = field_place(state, field, record_)?;
-    Ok(())
+    let record_ = read(state.alloc, Box::into_inner(place))?;
+    let place = field_place(state, field, record_)?;
+    Ok(Box::new(state.alloc, place)?)
 }
 
 /// The array that stands in a place.
 #[inline(never)]
-pub(crate) fn array_of(alloc: Global, place: &mut Storage) -> Result<Tx, Memory>
-    ensures { IfOk result (λ x. plain_tx x ≡ constructs.read (plain_storage place.old)) }
+pub(crate) fn array_at(alloc: Global, place: Box<Storage>) -> Result<Box<Tx>, Memory>
+    ensures { IfOk result (λ x.
+        plain_tx x.value ≡ constructs.read (plain_storage place.value)) }
 {
-    Ok(read(alloc, replace(place, Storage::InTemp(Temp(0))))?)
+    let array = read(alloc, Box::into_inner(place))?;
+    Ok(Box::new(alloc, array)?)
 }
 
-/// The element of an array, whose index was made.
+/// The place of an element of an array, whose index was made.
 #[inline(never)]
-pub(crate) fn element(
+pub(crate) fn element_at(
     state: &mut TranslationState,
     direct: bool,
-    array: Tx,
+    array: Box<Tx>,
     made: &mut Made,
-    place: &mut Storage,
-) -> Result<(), Memory>
-    ensures { OnOk result (
+) -> Result<Box<Storage>, Memory>
+    ensures { IfOk result (λ p.
         (wants.value_of (plain_made made.old) >>=
-        constructs.element_place direct (plain_tx array)) (state_of state.old) ≡
-        drawn (plain_storage place.new) (state_of state.new)) }
+        constructs.element_place direct (plain_tx array.value)) (state_of state.old) ≡
+        drawn (plain_storage p.value) (state_of state.new)) }
 {
-    let value = take_value(state, made)?;
-    *place = element_place(state, direct, array, value)?;
-    Ok(())
+    let value = value_of(state, take(made))?;
+    let place = element_place(state, direct, Box::into_inner(array), value)?;
+    Ok(Box::new(state.alloc, place)?)
 }
 
 /// A place is kept, to be read first and then assigned.
 #[inline(never)]
-pub(crate) fn hold_in(
+pub(crate) fn hold_at(
     state: &mut TranslationState,
-    place: &mut Storage,
-    held: &mut HeldPlace,
-) -> Result<(), Memory>
-    ensures { OnOk result (
-        constructs.hold_place (plain_storage place.old) (state_of state.old) ≡
-        drawn (plain_held held.new) (state_of state.new)) }
+    place: Box<Storage>,
+) -> Result<Box<HeldPlace>, Memory>
+    ensures { IfOk result (λ h.
+        constructs.hold_place (plain_storage place.value) (state_of state.old) ≡
+        drawn (plain_held h.value) (state_of state.new)) }
 {
-    *held = hold_place(state, replace(place, Storage::InTemp(Temp(0))))?;
-    Ok(())
+    let held = hold_place(state, Box::into_inner(place))?;
+    Ok(Box::new(state.alloc, held)?)
+}
+
+/// The value of a place that is kept, after the checks that were made.
+#[inline(never)]
+pub(crate) fn value_held(alloc: Global, held: &HeldPlace) -> Result<Box<Tx>, Memory>
+    ensures { IfOk result (λ x.
+        plain_tx x.value ≡ constructs.read_held (plain_held held.now)) }
+{
+    let value = read_held(alloc, held)?;
+    Ok(Box::new(alloc, value)?)
 }
 
 /// The place that was kept, to be assigned.
 #[inline(never)]
-pub(crate) fn place_again(
-    alloc: Global,
-    held: &mut HeldPlace,
-    place: &mut Storage,
-) -> Result<(), Memory>
-    ensures { OnOk result (plain_storage place.new ≡
-        constructs.place_held (plain_held held.old)) }
+pub(crate) fn place_again(alloc: Global, held: Box<HeldPlace>) -> Result<Box<Storage>, Memory>
+    ensures { IfOk result (λ p.
+        plain_storage p.value ≡ constructs.place_held (plain_held held.value)) }
 {
-    *place = place_held(alloc, replace(held, HeldPlace::InTemp(Temp(0))))?;
-    Ok(())
+    let place = place_held(alloc, Box::into_inner(held))?;
+    Ok(Box::new(alloc, place)?)
 }
 
 /// What was made is put into a place.
 #[inline(never)]
 pub(crate) fn assign_to(
     state: &mut TranslationState,
-    place: &mut Storage,
+    place: Box<Storage>,
     made: &mut Made,
 ) -> Result<(), Memory>
     ensures { OnOk result (
-        parts.done_of (constructs.assign (plain_storage place.old) (plain_made made.old))
+        parts.done_of (constructs.assign (plain_storage place.value) (plain_made made.old))
         (state_of state.old) ≡ drawn (plain_made made.new) (state_of state.new)) }
 {
-    let place = replace(place, Storage::InTemp(Temp(0)));
-    let all = assign(state, place, take(made))?;
+    let all = assign(state, Box::into_inner(place), take(made))?;
     put(made, Made::Done(all));
     Ok(())
 }
 
-/// What was made is put into a place, after statements.
+/// What was made is put into a variable of the function at work, after statements.
 #[inline(never)]
-pub(crate) fn assign_behind(
+pub(crate) fn declare_as(
     state: &mut TranslationState,
-    place: Storage,
+    home: Access,
     before: &mut Vec<Ts>,
     made: &mut Made,
 ) -> Result<(), Memory>
     ensures { OnOk result (
-        (constructs.assign (plain_storage place) (plain_made made.old) >>=
+        (constructs.assign (constructs.own_place home) (plain_made made.old) >>=
         parts.stood_behind (stms_of before.old.items)) (state_of state.old) ≡
         drawn (stms_of before.new.items) (state_of state.new)) }
 {
+    let place = own_place(state.alloc, home)?;
     let all = assign(state, place, take(made))?;
-    push(before, all)
+    push(before, all)?;
+    Ok(())
 }
 
 /// The statement of a function's body, which was made.
@@ -504,5 +555,6 @@ pub(crate) fn end(
         functions.finished (map plain_fragment outer.value.functions.items)
         (plain_function outer.value.frame tt) (state_of state.old) (plain_ts body.value)) }
 {
-    Ok(state.close(Box::into_inner(outer), Box::into_inner(body))?)
+    state.close(Box::into_inner(outer), Box::into_inner(body))?;
+    Ok(())
 }

@@ -108,7 +108,6 @@ pub(crate) fn hold_place(state: &mut TranslationState, place: Storage) -> Result
 }
 
 /// The value of a place that is kept, after the checks that were made.
-#[inline(never)]
 pub(crate) fn read_held(alloc: Global, place: &HeldPlace) -> Result<Tx, Memory>
     ensures { IfOk result (λ x. plain_tx x ≡ constructs.read_held (plain_held place.now)) }
 {

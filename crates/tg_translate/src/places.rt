@@ -74,7 +74,6 @@ fn nowhere(alloc: Global) -> Storage
 }
 
 /// The place of a variable, by what its use means.
-#[inline(never)]
 pub(crate) fn variable_place(
     state: &TranslationState,
     within: Within,
@@ -110,7 +109,6 @@ pub(crate) fn declare_variable(
 }
 
 /// A home in the activation at work.
-#[inline(never)]
 pub(crate) fn own_place(alloc: Global, access: Access) -> Result<Storage, Memory>
     ensures { IfOk result (λ p. plain_storage p ≡ constructs.own_place access) }
 {
@@ -184,6 +182,16 @@ pub(crate) fn want_for(place: &Storage) -> Want
     match place {
         Storage::InTemp(temp) => Want::Into(*temp),
         Storage::AtAddress(_, _) => Want::Value,
+    }
+}
+
+/// What a variable of the function at work wants of the value that it becomes.
+pub(crate) fn home_want(home: Access) -> Want
+    ensures { result ≡ constructs.want_for (constructs.own_place home) }
+{
+    match home {
+        Access::InTemp(temp) => Want::Into(temp),
+        Access::InFrame(_) => Want::Value,
     }
 }
 

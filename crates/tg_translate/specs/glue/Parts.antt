@@ -4,9 +4,9 @@ use Rattle.tg_syntax.specs.declared.tokens.Ident.{Ident}
 use Rattle.tg_syntax.specs.declared.trees.Op.{Op}
 use Rattle.tg_syntax.specs.declared.trees.FunDec.{FunDec}
 use Rattle.tg_syntax.specs.glue.Plain.{plain}
-use Rattle.tg_syntax.specs.Tree.{Exp, LValue, Exps, Inits, Decs}
-use Rattle.tg_tree.specs.Tree.{Tx, tx, Cond, Ts, If, Stms, no_stms, Txs, no_txs}
-use Rattle.tg_tree.specs.Forms.{nothing}
+use Rattle.tg_syntax.specs.Tree as source
+use Rattle.tg_syntax.specs.Tree.{Exp, LValue, Exps, Inits}
+use Rattle.tg_tree.specs.Tree.{Tx, Const, tx, Cond, Ts, Stms, Txs, no_txs}
 use Rattle.tg_tree.specs.glue.Lists.{join_txs}
 use Rattle.tg_typecheck.specs.declared.notes.Means.{Means}
 use Rattle.tg_translate.specs.declared.wants.Want.{Want}
@@ -19,7 +19,6 @@ use Rattle.tg_translate.specs.mirror.Wants.{
   done,
   value_of,
   value_from,
-  condition_from,
   statement_from,
   followed,
   behind,
@@ -29,14 +28,11 @@ use Rattle.tg_translate.specs.mirror.Constructs.{
   read,
   none_held,
   field_place,
-  element_place,
   make_record,
   make_array,
   operation,
   negation,
-  repeat_while,
   in_body,
-  in_test,
   count,
 }
 use Rattle.tg_translate.specs.mirror.Scopes.{
@@ -46,24 +42,18 @@ use Rattle.tg_translate.specs.mirror.Scopes.{
   call,
   declare_variable,
 }
-use Rattle.tg_translate.specs.mirror.Choices.{left_want}
 use Rattle.tg_translate.specs.mirror.Purity.{assigns_nothing, inits_assign_nothing}
-use Rattle.tg_translate.specs.mirror.Updates.{begins_with}
 use Rattle.tg_translate.specs.mirror.Functions.{at_of, body}
 use Rattle.tg_translate.specs.mirror.Translate.{
   connective,
   with_left,
   chosen_arm,
-  is_conjunction,
-  choice,
   assigned,
   updated,
-  assignment,
   declaration_of,
   expression,
   behind_read,
   locate,
-  declarations,
   values,
   fields,
   sequence,
@@ -95,9 +85,6 @@ module _ (findings : Findings) where
   abbrev pub value_in : Exp → Within → Translates Tx
   value_in e within = value_from (expression findings e want.Value within)
 
-  abbrev pub condition_in : Exp → Within → Translates Cond
-  condition_in e within = condition_from (expression findings e want.Test within)
-
   abbrev pub statement_in : Exp → Within → Translates Ts
   statement_in e within = statement_from (expression findings e want.Dropped within)
 
@@ -116,12 +103,6 @@ module _ (findings : Findings) where
   field_in v f within = do
     place ← locate findings v within
     field_place (field_number (findings.meaning (at_of f))) (read place)
-
-  abbrev pub element_in : LValue → Exp → Within → Translates Storage
-  element_in v e within = do
-    place ← locate findings v within
-    y ← value_in e within
-    element_place (assigns_nothing e) (read place) y
 
   abbrev pub negation_in : Exp → Within → Translates Made
   negation_in a within = do
@@ -142,21 +123,10 @@ module _ (findings : Findings) where
     y ← value_in b within
     operation op (compares_strings (findings.meaning at)) (assigns_nothing b) x y
 
-  abbrev pub binary_in : Op → (at : ℕ) → (a b : Exp) → Want → Within → Translates Made
-  binary_in op at a b w within = do
-    left ← expression findings a (left_want op) within
-    with_left_in op at left b w within
-
   abbrev pub made_record : Inits → Within → Translates Made
   made_record inits within = do
     all ← fields findings inits (inits_assign_nothing inits) none_held within
     make_record all
-
-  abbrev pub array_in : (size item : Exp) → Within → Translates Made
-  array_in size item within = do
-    x ← value_in size within
-    y ← value_in item within
-    filled_with x y
 
   abbrev pub assigned_in : Storage → Exp → Within → Translates Ts
   assigned_in place e within = assigned place (λ v. expression findings e v within)
@@ -164,33 +134,11 @@ module _ (findings : Findings) where
   abbrev pub updated_in : Storage → Exp → Within → Translates Ts
   updated_in place e within = updated place (λ x v. behind_read findings e x v within)
 
-  abbrev pub assignment_in : LValue → Exp → Within → Translates Made
-  assignment_in v e within = do
-    place ← locate findings v within
-    done_of (assignment (begins_with findings.meaning e v) place
-        (λ w. expression findings e w within) (λ x w. behind_read findings e x w within))
-
-  abbrev pub arms_in : Cond → (this other : Exp) → Want → Within → Translates Made
-  arms_in c a b w within =
+  -- the arms of a choice, whose condition is known
+  abbrev pub arms_in : Cond → Exp → Want → Within → Translates Made
+  arms_in c (source.If _ _ a b) w within =
       chosen_arm w c (λ v. expression findings a v within) (λ v. expression findings b v within)
-
-  abbrev pub choice_in : (test this other : Exp) → Want → Within → Translates Made
-  choice_in c a b w within = do
-    c ← condition_in c within
-    choice (is_conjunction w b) w c (λ v. expression findings a v within)
-        (λ v. expression findings b v within)
-
-  abbrev pub when_in : (test this : Exp) → Within → Translates Made
-  when_in c a within = do
-    c ← condition_in c within
-    s ← statement_in a within
-    give (done (If c s nothing))
-
-  abbrev pub while_in : (test body : Exp) → Within → Translates Made
-  while_in c a within = do
-    c ← condition_in c (in_test within)
-    s ← statement_in a (in_body within)
-    give (done (repeat_while c s))
+  arms_in c _ w within = give (value (Const 0))
 
   abbrev pub counted_to : Ident → (low : Tx) → (high : Made) → Exp → Within → Translates Made
   counted_to i x high a within = do
@@ -199,23 +147,10 @@ module _ (findings : Findings) where
     turn ← statement_in a (in_body within)
     done_of (count home x y turn)
 
-  abbrev pub for_in : Ident → (low high body : Exp) → Within → Translates Made
-  for_in i low high a within = do
-    x ← value_in low within
-    y ← value_in high within
-    home ← declare_variable (findings.escapes (at_of i)) within.level (at_of i)
-    turn ← statement_in a (in_body within)
-    done_of (count home x y turn)
-
   abbrev pub sequence_in : Exps → Want → Stms → Within → Translates Made
   sequence_in es w before within = do
     begun ← sequence findings es w before within
     behind w begun.before begun.last
-
-  abbrev pub scope_in : Decs → Exps → Want → Within → Translates Made
-  scope_in ds es w within = do
-    before ← declarations findings ds no_stms within
-    sequence_in es w before within
 
   abbrev pub variable_in : Ident → Exp → Within → Translates Ts
   variable_in x e within =
