@@ -689,7 +689,7 @@ fn scope(
         Kind::Let(decs, body) => {
             let mut before = Vec::new(state.alloc);
             declarations(findings, state, decs, &mut before, within, made)?;
-            Ok(sequence(findings, state, body, before, want, within, made)?)
+            Ok(sequence(findings, state, body, &mut before, want, within, made)?)
         }
         _ => Err(Memory),
     }
@@ -710,8 +710,8 @@ fn items_of(
         parts.sequence_in (findings_of findings.now) (plain_exps items.now) want no_stms within.now
         (state_of state.old) ≡ drawn (plain_made made.new) (state_of state.new)) }
 {
-    let before = Vec::new(state.alloc);
-    Ok(sequence(findings, state, items, before, want, within, made)?)
+    let mut before = Vec::new(state.alloc);
+    Ok(sequence(findings, state, items, &mut before, want, within, made)?)
 }
 
 // Expressions after statements: all but the last are dropped, the last is what their place wants.
@@ -721,14 +721,14 @@ fn sequence(
     findings: &Findings,
     state: &mut TranslationState,
     exps: &Exps,
-    mut before: Vec<Ts>,
+    before: &mut Vec<Ts>,
     want: Want,
     within: &Within,
     made: &mut Made,
 ) -> Result<(), Memory>
     ensures { OnOk result (
         parts.sequence_in (findings_of findings.now) (plain_exps exps.now) want
-        (stms_of before.items) within.now
+        (stms_of before.old.items) within.now
         (state_of state.old) ≡ drawn (plain_made made.new) (state_of state.new)) }
 {
     let mut left = exps.items.len();
@@ -739,7 +739,7 @@ fn sequence(
             return Ok(stand_behind(state, want, before, made)?);
         }
         expression(findings, state, e, Want::Dropped, within, made)?;
-        push_dropped(state.alloc, &mut before, made)?;
+        push_dropped(state.alloc, before, made)?;
     }
     put_number(made, 0);
     Ok(stand_behind(state, want, before, made)?)

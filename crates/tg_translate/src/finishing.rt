@@ -171,18 +171,19 @@ pub(crate) fn push_field(
     Ok(())
 }
 
-/// What was made, after statements.
+/// What was made, after statements, which are taken.
 #[inline(never)]
 pub(crate) fn stand_behind(
     state: &mut TranslationState,
     want: Want,
-    before: Vec<Ts>,
+    before: &mut Vec<Ts>,
     made: &mut Made,
 ) -> Result<(), Memory>
     ensures { OnOk result (
-        wants.behind want (stms_of before.items) (plain_made made.old) (state_of state.old) ≡
+        wants.behind want (stms_of before.old.items) (plain_made made.old) (state_of state.old) ≡
         drawn (plain_made made.new) (state_of state.new)) }
 {
+    let before = replace(before, Vec::new(state.alloc));
     let all = behind(state, want, before, take(made))?;
     put(made, all);
     Ok(())

@@ -110,7 +110,7 @@ sequence-loop-e-preserved t c = record {
   count = omega (arith, c.loop-e.invariant.count, c.if-left-eq0.false);
   so_far =
       one_dropped (findings_of c.args.findings.now) c.args.within.now c.deref-e-items.result.now c.args.want c.loop-e.e-index
-      (stms_of c.args.before.items) (stms_of c.loop-e.before.items) (state_of c.args.state.now) (state_of c.loop-e.state)
+      (stms_of c.args.before.now.items) (stms_of c.loop-e.before.items) (state_of c.args.state.now) (state_of c.loop-e.state)
       (state_of c.expression-2.new.state) (value (Const 0)) c.e-item.result (dropped (plain_made c.expression-2.new.made)) c.loop-e.invariant.so_far
       (omega (arith, c.loop-e.invariant.count, c.if-left-eq0.false)) c.e-item.is
       (step (λ m. give (dropped m)) c.in_ok-expression-2.ensures refl)
@@ -123,13 +123,13 @@ sequence-returns-then-left-eq0 t c =
     let at_end : c.loop-e.e-index + 1 ≡ length c.deref-e-items.result.now =
     omega (arith, c.loop-e.invariant.count, c.if-left-eq0.true, c.loop-e-test.true) in
     step (λ begun. behind c.args.want begun.before begun.last)
-    (sequence_of (findings_of c.args.findings.now) c.args.within.now c.args.exps.now c.args.want (stms_of c.args.before.items) (state_of c.args.state.now)
-    ∙ (ap (λ es. sequence (findings_of c.args.findings.now) (exps_of es) c.args.want (stms_of c.args.before.items) c.args.within.now (state_of c.args.state.now))
+    (sequence_of (findings_of c.args.findings.now) c.args.within.now c.args.exps.now c.args.want (stms_of c.args.before.now.items) (state_of c.args.state.now)
+    ∙ (ap (λ es. sequence (findings_of c.args.findings.now) (exps_of es) c.args.want (stms_of c.args.before.now.items) c.args.within.now (state_of c.args.state.now))
     (sym c.deref-e-items.ensures.value)
     ∙ sequence_ends (findings_of c.args.findings.now) c.args.within.now c.deref-e-items.result.now c.args.want (c.loop-e.e-index + 1)
-    (stms_of c.args.before.items) (stms_of c.loop-e.before.items) (state_of c.args.state.now) (state_of c.expression.new.state)
+    (stms_of c.args.before.now.items) (stms_of c.loop-e.before.items) (state_of c.args.state.now) (state_of c.expression.new.state)
     (plain_made c.expression.new.made)
-    (last_done (findings_of c.args.findings.now) c.args.within.now c.deref-e-items.result.now c.args.want c.loop-e.e-index (stms_of c.args.before.items)
+    (last_done (findings_of c.args.findings.now) c.args.within.now c.deref-e-items.result.now c.args.want c.loop-e.e-index (stms_of c.args.before.now.items)
     (stms_of c.loop-e.before.items) (state_of c.args.state.now) (state_of c.loop-e.state) (state_of c.expression.new.state) (value (Const 0))
     c.e-item.result (plain_made c.expression.new.made) c.loop-e.invariant.so_far at_end c.e-item.is c.in_ok-expression.ensures) at_end))
     c.in_ok-stand_behind.ensures
@@ -137,11 +137,11 @@ sequence-returns-then-left-eq0 t c =
 pub sequence-returns : goal.sequence-returns
 sequence-returns t c =
     step (λ begun. behind c.args.want begun.before begun.last)
-    (sequence_of (findings_of c.args.findings.now) c.args.within.now c.args.exps.now c.args.want (stms_of c.args.before.items) (state_of c.args.state.now)
-    ∙ (ap (λ es. sequence (findings_of c.args.findings.now) (exps_of es) c.args.want (stms_of c.args.before.items) c.args.within.now
+    (sequence_of (findings_of c.args.findings.now) c.args.within.now c.args.exps.now c.args.want (stms_of c.args.before.now.items) (state_of c.args.state.now)
+    ∙ (ap (λ es. sequence (findings_of c.args.findings.now) (exps_of es) c.args.want (stms_of c.args.before.now.items) c.args.within.now
     (state_of c.args.state.now)) (sym c.deref-e-items.ensures.value)
     ∙ sequence_ends (findings_of c.args.findings.now) c.args.within.now c.deref-e-items.result.now c.args.want c.loop-e.e-index
-    (stms_of c.args.before.items) (stms_of c.loop-e.before.items) (state_of c.args.state.now) (state_of c.loop-e.state) (value (Const 0))
+    (stms_of c.args.before.now.items) (stms_of c.loop-e.before.items) (state_of c.args.state.now) (state_of c.loop-e.state) (value (Const 0))
     c.loop-e.invariant.so_far (omega (arith, c.loop-e.auto.e-index-end, c.loop-e-test.false))))
     (ap (λ m. behind c.args.want (stms_of c.loop-e.before.items) m (state_of c.loop-e.state)) (sym c.put_number.ensures)
     ∙ c.in_ok-stand_behind-2.ensures)
