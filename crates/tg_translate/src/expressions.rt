@@ -143,8 +143,9 @@ fn negation(
     Ok(negate(state, made)?)
 }
 
-// An operator. This, and each of the functions below that is handed a whole expression, is called only
-// for an expression of its kind.
+// An operator. This, and each function below that is handed a whole expression, is called only for
+// an expression of its kind. It has the arguments of `expression`, which calls it last and so holds
+// nothing on the stack meanwhile.
 #[cycle(translation)]
 #[inline(never)]
 fn binary(
@@ -205,7 +206,8 @@ fn operation(
     made: &mut Made,
 ) -> Result<(), Memory>
     ensures { OnOk result (
-        parts.operation_in (findings_of findings.now) op at (plain_made made.old) (plain b.now) within.now
+        parts.operation_in (findings_of findings.now) op at (plain_made made.old) (plain b.now)
+        within.now
         (state_of state.old) ≡ drawn (plain_made made.new) (state_of state.new)) }
 {
     let left = take_value(state, made)?;

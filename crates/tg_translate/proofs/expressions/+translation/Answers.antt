@@ -44,7 +44,8 @@ values-loop-e-preserved t c =
 pub values-returns : goal.values-returns
 values-returns t c =
     values_are (findings_of c.args.findings.now) c.args.within.now c.args.exps.now (state_of c.args.state.now)
-    ∙ (ap (λ es. in_turn (value_step (findings_of c.args.findings.now) c.args.within.now) es no_txs (state_of c.args.state.now)) (sym c.deref-e-items.ensures.value)
+    ∙ (ap (λ es. in_turn (value_step (findings_of c.args.findings.now) c.args.within.now) es no_txs (state_of c.args.state.now))
+    (sym c.deref-e-items.ensures.value)
     ∙ walk_ends (value_step (findings_of c.args.findings.now) c.args.within.now) c.deref-e-items.result.now c.loop-e.e-index no_txs
     (txs_of c.loop-e.values.items) (state_of c.args.state.now) (state_of c.loop-e.state) c.loop-e.invariant
     (omega (arith, c.loop-e.auto.e-index-end, c.loop-e-test.false)))
@@ -124,7 +125,8 @@ sequence-returns-then-left-eq0 t c =
     omega (arith, c.loop-e.invariant.count, c.if-left-eq0.true, c.loop-e-test.true) in
     step (λ begun. behind c.args.want begun.before begun.last)
     (sequence_of (findings_of c.args.findings.now) c.args.within.now c.args.exps.now c.args.want (stms_of c.args.before.now.items) (state_of c.args.state.now)
-    ∙ (ap (λ es. sequence (findings_of c.args.findings.now) (exps_of es) c.args.want (stms_of c.args.before.now.items) c.args.within.now (state_of c.args.state.now))
+    ∙ (ap (λ es. sequence (findings_of c.args.findings.now) (exps_of es) c.args.want (stms_of c.args.before.now.items) c.args.within.now
+    (state_of c.args.state.now))
     (sym c.deref-e-items.ensures.value)
     ∙ sequence_ends (findings_of c.args.findings.now) c.args.within.now c.deref-e-items.result.now c.args.want (c.loop-e.e-index + 1)
     (stms_of c.args.before.now.items) (stms_of c.loop-e.before.items) (state_of c.args.state.now) (state_of c.expression.new.state)
