@@ -70,20 +70,20 @@ pub(crate) fn expression(
             put_break(made, within.leave);
             Ok(())
         }
-        Kind::Text(bytes) => literal(state, bytes, made),
-        Kind::Read(place) => read(findings, state, place, within, made),
-        Kind::Call(f, arguments) => call(findings, state, *f, arguments, within, made),
-        Kind::Neg(a) => negation(findings, state, a, within, made),
-        Kind::Binary(_, _, _, _) => binary(findings, state, e, want, within, made),
-        Kind::Make(_, inits) => creation(findings, state, inits, within, made),
-        Kind::Fill(_, _, _) => array(findings, state, e, want, within, made),
-        Kind::Assign(_, _) => assignment(findings, state, e, want, within, made),
-        Kind::If(_, _, Some(_)) => choice(findings, state, e, want, within, made),
-        Kind::If(_, _, None) => when(findings, state, e, want, within, made),
-        Kind::While(_, _) => while_loop(findings, state, e, want, within, made),
-        Kind::For(_, _, _, _) => for_loop(findings, state, e, want, within, made),
-        Kind::Let(_, _) => scope(findings, state, e, want, within, made),
-        Kind::Seq(items) => items_of(findings, state, items, want, within, made),
+        Kind::Text(bytes) => Ok(literal(state, bytes, made)?),
+        Kind::Read(place) => Ok(read(findings, state, place, within, made)?),
+        Kind::Call(f, arguments) => Ok(call(findings, state, *f, arguments, within, made)?),
+        Kind::Neg(a) => Ok(negation(findings, state, a, within, made)?),
+        Kind::Binary(_, _, _, _) => Ok(binary(findings, state, e, want, within, made)?),
+        Kind::Make(_, inits) => Ok(creation(findings, state, inits, within, made)?),
+        Kind::Fill(_, _, _) => Ok(array(findings, state, e, want, within, made)?),
+        Kind::Assign(_, _) => Ok(assignment(findings, state, e, want, within, made)?),
+        Kind::If(_, _, Some(_)) => Ok(choice(findings, state, e, want, within, made)?),
+        Kind::If(_, _, None) => Ok(when(findings, state, e, want, within, made)?),
+        Kind::While(_, _) => Ok(while_loop(findings, state, e, want, within, made)?),
+        Kind::For(_, _, _, _) => Ok(for_loop(findings, state, e, want, within, made)?),
+        Kind::Let(_, _) => Ok(scope(findings, state, e, want, within, made)?),
+        Kind::Seq(items) => Ok(items_of(findings, state, items, want, within, made)?),
     }
 }
 
