@@ -104,7 +104,7 @@ scope-returns-in_ok-sequence-in-Let t c =
     ap (λ x. expression (findings_of c.args.findings.now) x c.args.want c.args.within.now (state_of c.args.state.now))
     (ap (λ k. plain_kind k c.args.e.now.span) c.in-Let.is ∙ plain_kind-Let c.in-Let.decs c.in-Let.body c.args.e.now.span)
     ∙ step (λ b. sequence_in (findings_of c.args.findings.now) (plain_exps c.in-Let.body) c.args.want b c.args.within.now)
-    c.in_ok-declarations-in-Let.ensures c.in_ok-sequence-in-Let.ensures
+    (rw c.new-before.ensures.items at c.in_ok-declarations-in-Let.ensures) c.in_ok-sequence-in-Let.ensures
 
 pub sequence-loop-e-preserved : goal.sequence-loop-e-preserved
 sequence-loop-e-preserved t c = record {
