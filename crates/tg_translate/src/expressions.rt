@@ -12,7 +12,7 @@ ghost use Rattle.tg_syntax.specs.Tree.{no_decs};
 ghost use Rattle.tg_tree.specs.glue.Plain.{plain_tx};
 ghost use Rattle.tg_tree.specs.glue.Lists.{txs_of, stms_of};
 ghost use Rattle.tg_tree.specs.Tree.{no_txs, no_stms};
-ghost use Rattle.tg_translate.specs.mirror.States.{◌>>=◌, drawn, state_of};
+ghost use Rattle.tg_translate.specs.mirror.States.{drawn, state_of};
 ghost use Rattle.tg_translate.specs.mirror.Wants as wants;
 ghost use Rattle.tg_translate.specs.mirror.Wants.{plain_made};
 ghost use Rattle.tg_translate.specs.mirror.Constructs.{plain_storage};
@@ -809,8 +809,8 @@ fn variable(
     made: &mut Made,
 ) -> Result<(), Memory>
     ensures { OnOk result (
-        (parts.variable_in (findings_of findings.now) x (plain e.now) within.now >>=
-        parts.stood_behind (stms_of before.old.items))
+        parts.stand_behind (stms_of before.old.items)
+        (parts.variable_in (findings_of findings.now) x (plain e.now) within.now)
         (state_of state.old) ≡ drawn (stms_of before.new.items) (state_of state.new)) }
 {
     let home = declare_variable(findings, state, within.level, x.span.from)?;

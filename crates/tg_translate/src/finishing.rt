@@ -15,7 +15,7 @@ ghost use Rattle.tg_tree.specs.glue.Plain.{
   plain_fragment,
 };
 ghost use Rattle.tg_tree.specs.glue.Lists.{txs_of, stms_of};
-ghost use Rattle.tg_translate.specs.mirror.States.{◌>>=◌, drawn, state_of};
+ghost use Rattle.tg_translate.specs.mirror.States.{drawn, state_of};
 ghost use Rattle.tg_translate.specs.mirror.Wants as wants;
 ghost use Rattle.tg_translate.specs.mirror.Wants.{plain_made};
 ghost use Rattle.tg_translate.specs.mirror.Constructs as constructs;
@@ -141,7 +141,7 @@ pub(crate) fn push_value(
     made: &mut Made,
 ) -> Result<(), Memory>
     ensures { OnOk result (
-        (wants.value_of (plain_made made.old) >>= parts.after_values (txs_of before.old.items))
+        parts.on_value_of (plain_made made.old) (parts.after_values (txs_of before.old.items))
         (state_of state.old) ≡ drawn (txs_of before.new.items) (state_of state.new)) }
 {
     let value = value_of(state, take(made))?;
@@ -159,7 +159,7 @@ pub(crate) fn push_field(
     made: &mut Made,
 ) -> Result<(), Memory>
     ensures { OnOk result (
-        (wants.value_of (plain_made made.old) >>= constructs.hold_next direct
+        parts.on_value_of (plain_made made.old) (constructs.hold_next direct
         (record { before = stms_of before.old.items; operands = operands.old.items }))
         (state_of state.old) ≡
         drawn (record { before = stms_of before.new.items; operands = operands.new.items })
@@ -226,7 +226,7 @@ pub(crate) fn call_with(
 #[inline(never)]
 pub(crate) fn negate(state: &mut TranslationState, made: &mut Made) -> Result<(), Memory>
     ensures { OnOk result (
-        (wants.value_of (plain_made made.old) >>= parts.negated) (state_of state.old) ≡
+        parts.on_value_of (plain_made made.old) parts.negated (state_of state.old) ≡
         drawn (plain_made made.new) (state_of state.new)) }
 {
     let value = value_of(state, take(made))?;
@@ -246,8 +246,8 @@ pub(crate) fn operate(
     made: &mut Made,
 ) -> Result<(), Memory>
     ensures { OnOk result (
-        (wants.value_of (plain_made made.old) >>=
-        constructs.operation op of_strings direct (plain_tx left.value)) (state_of state.old) ≡
+        parts.on_value_of (plain_made made.old)
+        (constructs.operation op of_strings direct (plain_tx left.value)) (state_of state.old) ≡
         drawn (plain_made made.new) (state_of state.new)) }
 {
     let right = value_of(state, take(made))?;
@@ -392,7 +392,7 @@ pub(crate) fn fill(
     made: &mut Made,
 ) -> Result<(), Memory>
     ensures { OnOk result (
-        (wants.value_of (plain_made made.old) >>= parts.filled_with (plain_tx size.value))
+        parts.on_value_of (plain_made made.old) (parts.filled_with (plain_tx size.value))
         (state_of state.old) ≡ drawn (plain_made made.new) (state_of state.new)) }
 {
     let item = value_of(state, take(made))?;
@@ -452,8 +452,8 @@ pub(crate) fn element_at(
     made: &mut Made,
 ) -> Result<Box<Storage>, Memory>
     ensures { IfOk result (λ p.
-        (wants.value_of (plain_made made.old) >>=
-        constructs.element_place direct (plain_tx array.value)) (state_of state.old) ≡
+        parts.on_value_of (plain_made made.old)
+        (constructs.element_place direct (plain_tx array.value)) (state_of state.old) ≡
         drawn (plain_storage p.value) (state_of state.new)) }
 {
     let value = value_of(state, take(made))?;
@@ -520,8 +520,8 @@ pub(crate) fn declare_as(
     made: &mut Made,
 ) -> Result<(), Memory>
     ensures { OnOk result (
-        (constructs.assign (constructs.own_place home) (plain_made made.old) >>=
-        parts.stood_behind (stms_of before.old.items)) (state_of state.old) ≡
+        parts.stand_behind (stms_of before.old.items)
+        (constructs.assign (constructs.own_place home) (plain_made made.old)) (state_of state.old) ≡
         drawn (stms_of before.new.items) (state_of state.new)) }
 {
     let place = own_place(state.alloc, home)?;

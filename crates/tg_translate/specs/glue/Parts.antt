@@ -64,8 +64,14 @@ done_of m = do
   s ← m
   give (done s)
 
-abbrev pub stood_behind : Stms → Ts → Translates Stms
-stood_behind before s = give (followed before s)
+-- what is done with the value of what was made
+abbrev pub on_value_of : {A : Type 0} → Made → (Tx → Translates A) → Translates A
+on_value_of m next = value_of m >>= next
+
+abbrev pub stand_behind : Stms → Translates Ts → Translates Stms
+stand_behind before m = do
+  s ← m
+  give (followed before s)
 
 abbrev pub after_values : Txs → Tx → Translates Txs
 after_values before x = give (join_txs before (tx x no_txs))
