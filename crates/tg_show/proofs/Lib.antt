@@ -1,2 +1,4 @@
 mod Blanks
 mod Examples
+mod StageExamples
+mod Nodes

@@ -1,6 +1,14 @@
 pub mod Layout
 pub mod Words
+pub mod Variables
 pub mod Trees
 pub mod Flat
+pub mod Blocks
 pub mod Instructions
+pub mod Live
+pub mod Graph
+pub mod Registers
+pub mod Assembly
 pub mod Stages
+pub mod Shown
+pub mod glue
