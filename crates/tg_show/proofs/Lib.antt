@@ -2,3 +2,6 @@ mod Blanks
 mod Examples
 mod StageExamples
 mod Nodes
+mod Rising
+mod Reading
+mod Telling

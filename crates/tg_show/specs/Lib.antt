@@ -12,3 +12,4 @@ pub mod Assembly
 pub mod Stages
 pub mod Shown
 pub mod glue
+pub mod laws

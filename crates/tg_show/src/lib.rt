@@ -8,6 +8,7 @@ mod blocks;
 mod flat;
 mod graphs;
 mod instructions;
+mod laws;
 mod layouts;
 mod listing;
 mod liveness;
@@ -19,6 +20,7 @@ mod trees;
 mod variables;
 mod words;
 
+pub use laws::texts_tell_trees;
 pub use listing::{put_shown, show};
 pub use showing::FunctionStages;
 pub use stages::{
