@@ -1,5 +1,6 @@
 """Runs a command with limits of time, output and memory, and ends all that it began."""
 import dataclasses
+import math
 import os
 import resource
 import signal
@@ -8,11 +9,13 @@ import tempfile
 import time
 
 MEMORY = 4 << 30
+# The longest by the clock, for each second of the processor: others may be at work beside.
+WAIT = 4
 
 
 @dataclasses.dataclass(frozen=True)
 class Limits:
-    """The longest that a command may take, and the most bytes that it may write to either stream."""
+    """The most seconds of the processor that a command may take, and the most bytes that it may write to either stream."""
 
     seconds: float = 5
     output: int = 1 << 16
@@ -50,6 +53,8 @@ def run(words, given, limits, folder=None):
     """Runs a command on an input, in a group of processes of its own, which ends with it."""
     def lower():
         resource.setrlimit(resource.RLIMIT_FSIZE, (limits.output + 1, limits.output + 1))
+        seconds = math.ceil(limits.seconds)
+        resource.setrlimit(resource.RLIMIT_CPU, (seconds, seconds + 1))
         resource.setrlimit(resource.RLIMIT_AS, (MEMORY, MEMORY))
         resource.setrlimit(resource.RLIMIT_CORE, (0, 0))
 
@@ -60,7 +65,7 @@ def run(words, given, limits, folder=None):
                                  start_new_session=True)
         in_time = False
         try:
-            in_time = has_ended(begun.pid, limits.seconds)
+            in_time = has_ended(begun.pid, limits.seconds * WAIT)
         finally:
             os.killpg(begun.pid, signal.SIGKILL)
             begun.wait()
@@ -68,6 +73,7 @@ def run(words, given, limits, folder=None):
         for file in (out, err):
             file.seek(0)
             written.append(file.read())
+    in_time = in_time and begun.returncode != -signal.SIGXCPU
     why = "" if in_time else f"it takes more than {limits.seconds} seconds"
     if any(len(it) > limits.output for it in written):
         why = f"it writes more than {limits.output} bytes"
