@@ -151,12 +151,14 @@ def cost_of_spills(text, registers, order):
     """How much the loads and stores cost that come of an order, each 10 times as much for each loop around it (chapter 11).
 
     Temporaries that aren't named come behind those that are, in the order of the text, and those that are made for loads
-    and stores last. A name that the code doesn't have, or has no temporary of, is a fault."""
+    and stores last. A name that isn't one of the code's temporaries is a fault, and so is one that stands twice."""
     code, made, spilled = read_code(text), [], []
     names = list(uses_of(code))
-    wrong = [name for name in order if name not in names] + [name for name in order if order.count(name) > 1]
-    if wrong:
-        raise Fault(f"{wrong[0]} is no temporary of the code, or stands twice")
+    unknown = next((name for name in order if name not in names), None)
+    if unknown is not None:
+        raise Fault(f"{unknown[:40]!r} is no temporary of the code")
+    if len(set(order)) < len(order):
+        raise Fault("a temporary stands twice")
     places = {name: at for at, name in enumerate(dict.fromkeys([*order, *names]))}
     while True:
         near = neighbours(code)

@@ -12,7 +12,9 @@ import trees
 from answering import program
 from limits import Limits, contents, run
 
-HARDLY = 20000
+# How often a hash is taken: so a try takes some milliseconds.
+TURNS = 20000
+MOST_BYTES = 1 << 16
 
 
 @dataclasses.dataclass(frozen=True)
@@ -42,6 +44,8 @@ class Exercise:
 
     def grade(self, path):
         """The outcomes of a submission."""
+        if self.kind != "stage" and os.path.getsize(path) > MOST_BYTES:
+            return [Outcome("size", f"it has more than {MOST_BYTES} bytes")]
         return list(KINDS[self.kind](self, os.path.abspath(path)))
 
 
@@ -101,7 +105,7 @@ def answers_in(path):
 
 
 def hash_of(question, answer, salt):
-    return hashlib.pbkdf2_hmac("sha256", f"{question}={answer.lower()}".encode(), salt.encode(), HARDLY).hex()[:32]
+    return hashlib.pbkdf2_hmac("sha256", f"{question}={answer.lower()}".encode(), salt.encode(), TURNS).hex()[:32]
 
 
 def hashed(answers, salt):

@@ -29,9 +29,10 @@ class Row:
 
 
 def words_of(command):
-    """The words of a command, whose first is taken from where the script was called if it is a path."""
+    """The words of a command. Those that name files do so from where the script was called."""
     first, *rest = shlex.split(command)
-    return [os.path.abspath(first) if os.sep in first else first, *rest]
+    return [os.path.abspath(first) if os.sep in first else first,
+            *(os.path.abspath(it) if os.path.isfile(it) else it for it in rest)]
 
 
 def words_of_file(path):
@@ -55,13 +56,16 @@ def all_folders():
 
 
 def asked(words, given, limits):
-    """What a student's program answers, and what is wrong with its run."""
+    """What a student's program answers, run in a folder of its own, and what is wrong with its run."""
     try:
-        ran = run(words, given, limits)
+        with tempfile.TemporaryDirectory() as folder:
+            ran = run(words, given, limits, folder)
     except OSError as error:
         return b"", f"it can't be run: {error.strerror}"
+    if not ran.status:
+        return ran.out, ran.why
     told = ran.err.decode("latin-1").strip().splitlines()[-1:]
-    return ran.out, ran.why or (f"it ends with {ran.status}{': ' if told else ''}{''.join(told)[:80]}" if ran.status else "")
+    return ran.out, ran.why or f"it ends with {ran.status}" + "".join(f": {it[:80]!r}" for it in told)
 
 
 def end_of(text, given, limits):

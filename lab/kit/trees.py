@@ -9,6 +9,7 @@ import re
 TOKEN = re.compile(r"\s*(?:([A-Za-z_]\w*)|(-?\d+)|([(),]))")
 OPERATORS = {"PLUS": lambda x, y: x + y, "MINUS": lambda x, y: x - y, "MUL": lambda x, y: x * y}
 STATES = 300
+WORD = 1 << 32
 PARTS = {"MOVE": "place e", "EXP": "e", "SEQ": "s s", "MEM": "e", "BINOP": "operator e e", "ESEQ": "s e"}
 
 
@@ -99,6 +100,8 @@ def read(text):
         return [Reader(it).whole() for line in text.splitlines() if (it := line.split("#")[0].strip())]
     except (ValueError, IndexError):
         raise Fault("the tree ends too early, or has no number behind CONST") from None
+    except RecursionError:
+        raise Fault("the tree is too deep") from None
 
 
 def parts_of(tree):
@@ -166,7 +169,7 @@ class Machine:
             return self.memory.get(address, self.chance("memory", address))
         if form == "BINOP":
             left = self.value(tree[2])
-            return OPERATORS[tree[1]](left, self.value(tree[3]))
+            return OPERATORS[tree[1]](left, self.value(tree[3])) % WORD
         if form == "ESEQ":
             self.run(tree[1])
             return self.value(tree[2])
