@@ -1,0 +1,87 @@
+# Prints the common divisors of pairs, as a stack machine would.
+main:
+        addiu $sp, $sp, -20
+        move $s0, $sp
+        li $v0, 1
+        sw $v0, 0($s0)
+L1:
+        lw $v0, 0($s0)
+        addiu $sp, $sp, -4
+        sw $v0, 0($sp)
+        li $v0, 12
+        lw $v1, 0($sp)
+        addiu $sp, $sp, 4
+        slt $v0, $v1, $v0
+        beq $v0, $zero, L2
+        li $v0, 1
+        sw $v0, 4($s0)
+L3:
+        lw $v0, 4($s0)
+        addiu $sp, $sp, -4
+        sw $v0, 0($sp)
+        li $v0, 12
+        lw $v1, 0($sp)
+        addiu $sp, $sp, 4
+        slt $v0, $v1, $v0
+        beq $v0, $zero, L4
+        lw $v0, 0($s0)
+        sw $v0, 8($s0)
+        lw $v0, 4($s0)
+        sw $v0, 12($s0)
+L5:
+        li $v0, 0
+        addiu $sp, $sp, -4
+        sw $v0, 0($sp)
+        lw $v0, 12($s0)
+        lw $v1, 0($sp)
+        addiu $sp, $sp, 4
+        slt $v0, $v1, $v0
+        beq $v0, $zero, L6
+        lw $v0, 8($s0)
+        addiu $sp, $sp, -4
+        sw $v0, 0($sp)
+        lw $v0, 12($s0)
+        lw $v1, 0($sp)
+        addiu $sp, $sp, 4
+        div $v1, $v0
+        mfhi $v0
+        sw $v0, 16($s0)
+        lw $v0, 12($s0)
+        sw $v0, 8($s0)
+        lw $v0, 16($s0)
+        sw $v0, 12($s0)
+        beq $zero, $zero, L5
+L6:
+        lw $v0, 8($s0)
+        move $a0, $v0
+        li $v0, 1
+        syscall
+        li $a0, 32
+        li $v0, 11
+        syscall
+        lw $v0, 4($s0)
+        addiu $sp, $sp, -4
+        sw $v0, 0($sp)
+        li $v0, 1
+        lw $v1, 0($sp)
+        addiu $sp, $sp, 4
+        addu $v0, $v1, $v0
+        sw $v0, 4($s0)
+        beq $zero, $zero, L3
+L4:
+        li $a0, 10
+        li $v0, 11
+        syscall
+        lw $v0, 0($s0)
+        addiu $sp, $sp, -4
+        sw $v0, 0($sp)
+        li $v0, 1
+        lw $v1, 0($sp)
+        addiu $sp, $sp, 4
+        addu $v0, $v1, $v0
+        sw $v0, 0($s0)
+        beq $zero, $zero, L1
+L2:
+        move $sp, $s0
+        addiu $sp, $sp, 20
+        jr $ra
