@@ -2,7 +2,7 @@
 use Rattle.std.proofs.Common.{refl}
 use Rattle.std.specs.Fmt.{digits}
 use Rattle.tg_munch.specs.mirror.Choosing.{◌>>=◌}
-use Rattle.tg_worked_example.specs.laws.Laws.{InstructionsEnd, FramesEnd, ImageEnds}
+use Rattle.tg_pipeline_example.specs.laws.Laws.{InstructionsEnd, FramesEnd, ImageEnds}
 
 pub instructions_end : InstructionsEnd
 unfolding ◌>>=◌

@@ -1,5 +1,5 @@
 use Rattle.std.proofs.Common.{refl}
-use Rattle.tg_worked_example.proofs.statements_end.Goals as goal
+use Rattle.tg_pipeline_example.proofs.source_ends.Goals as goal
 
 pub returns : goal.returns
 returns c = (refl, refl)

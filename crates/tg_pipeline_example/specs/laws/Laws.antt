@@ -10,8 +10,8 @@ use Rattle.tg_typecheck.specs.Accepted.{accepted, finding}
 use Rattle.tg_escape.specs.Escaping.{escapes_of}
 use Rattle.tg_escape.specs.Links.{links_of}
 use Rattle.tg_translate.specs.mirror.Scopes.{Findings}
-use Rattle.tg_worked_example.specs.Program.{names, program, notes, escaping, linking}
-use Rattle.tg_worked_example.specs.Stages.{
+use Rattle.tg_pipeline_example.specs.Program.{names, program, notes, escaping, linking}
+use Rattle.tg_pipeline_example.specs.Stages.{
   findings,
   as_trees,
   as_canonical,

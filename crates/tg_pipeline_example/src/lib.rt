@@ -3,7 +3,7 @@
 //! It is computed by the definitions of the passes and of the meanings of their forms.
 #![tactic(auto)]
 
-ghost use Rattle.tg_worked_example.specs.laws.Laws.{
+ghost use Rattle.tg_pipeline_example.specs.laws.Laws.{
   CanonicalEnd,
   FlatEnds,
   FramesEnd,

@@ -1,5 +1,0 @@
-use Rattle.tg_worked_example.proofs.Chosen.{frames_end}
-use Rattle.tg_worked_example.proofs.frames_end.Goals as goal
-
-pub returns : goal.returns
-returns c = frames_end

@@ -1,5 +1,0 @@
-use Rattle.tg_worked_example.proofs.Chosen.{image_ends}
-use Rattle.tg_worked_example.proofs.image_ends.Goals as goal
-
-pub returns : goal.returns
-returns c = image_ends

@@ -1,5 +1,0 @@
-use Rattle.tg_worked_example.proofs.Chosen.{instructions_end}
-use Rattle.tg_worked_example.proofs.instructions_end.Goals as goal
-
-pub returns : goal.returns
-returns c = instructions_end
