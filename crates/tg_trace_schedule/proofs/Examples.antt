@@ -79,7 +79,7 @@ left_at_once = refl
 dropped : blocks_of (stms (Loop (sequence (set ∷ Break 0 ∷ Loop set ∷ [])) ∷ done ∷ [])) ≡ block (Jump 1) (set ∷ []) ∷ block (Return (Const 0)) [] ∷ []
 dropped = refl
 
--- a fault stands where it is tested for, and the branch is turned round
+-- a block that only fails stands behind the trace of its test, which falls through
 fault_code : traced (blocks_of (stms (when (Compare NotEqual (Temp 0) (Const 0)) (tree.Fault 3) ∷ set ∷ done ∷ []))) ≡
-    Mark 0 ∷ tree.Branch Equal (Temp 0) (Const 0) 2 ∷ Mark 1 ∷ tree.Fault' 3 ∷ Mark 2 ∷ Do' set ∷ tree.Return' (Const 0) ∷ []
+    Mark 0 ∷ tree.Branch NotEqual (Temp 0) (Const 0) 1 ∷ Mark 2 ∷ Do' set ∷ tree.Return' (Const 0) ∷ Mark 1 ∷ tree.Fault' 3 ∷ []
 fault_code = refl

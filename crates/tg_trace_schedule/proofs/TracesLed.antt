@@ -7,7 +7,7 @@ use Rattle.tg_tree.specs.Tree as tree
 use Rattle.tg_tree.specs.Tree.{Stms, no_stms, stm, Linear, Mark}
 use Rattle.tg_tree.specs.declared.operators.Rel.{Rel}
 use Rattle.tg_trace_schedule.specs.Block.{BlockEnd, Jump, Branch, Fault, Return, Block}
-use Rattle.tg_trace_schedule.specs.mirror.Laying.{Order, put, unless, unless_laid, onward, block_at, follow, traces, is_next, jump_unless, branch_by, end_code}
+use Rattle.tg_trace_schedule.specs.mirror.Laying.{Order, put, unless, unless_laid, one_of, only_fails, onward, block_at, follow, traces, is_next, jump_unless, branch_by, end_code}
 use Rattle.tg_trace_schedule.specs.mirror.Laying.{body_code, traced}
 use Rattle.tg_trace_schedule.specs.Shapes.{EndsBelow, LeadsBelow, AreWhole}
 use Rattle.tg_trace_schedule.specs.laws.Heads.{JumpsGoBack}
@@ -64,11 +64,25 @@ module _ (laid : List Bool) (places : List ℕ) (there : (p : ℕ) → slice_get
   led_to_other (Some true) p q h i e n m = led_to_one (slice_get laid q) q i refl m
   led_to_other (Some false) p q h i e n m = absurd (true_false (sym (eq-eqb p p refl) ∙ n))
 
-  led_onward : (n : ℕ) (e : BlockEnd) → length laid ≡ n → EndsBelow n e → LedTo places (onward laid e) e
-  led_onward n (Jump p) c h = led_to_one (slice_get laid p) p (omega (arith, c, h)) refl
-  led_onward n (Branch rel x y p q) c h = led_to_other (slice_get laid p) p q (omega (arith, c, h.0)) (omega (arith, c, h.1)) refl
-  led_onward n (Fault k) c h = tt
-  led_onward n (Return x) c h = tt
+  led_to_second :
+      (v : Option Bool) (p q : ℕ) → q < length laid → slice_get laid q ≡ v →
+      is_next (unless v q (unless_laid laid p None)) q ≡ false → Contains places q
+  led_to_second None p q h e n = let k = None_past laid q e in absurd (omega (arith, h, k))
+  led_to_second (Some true) p q h e n = there q e
+  led_to_second (Some false) p q h e n = absurd (true_false (sym (eq-eqb q q refl) ∙ n))
+
+  led_to_either :
+      (turned : Bool) (p q : ℕ) → p < length laid → q < length laid → is_next (one_of turned laid p q) p ≡ false →
+      is_next (one_of turned laid p q) q ≡ false → Contains places q
+  led_to_either false p q h i n m = led_to_other (slice_get laid p) p q h i refl n m
+  led_to_either true p q h i n m = led_to_second (slice_get laid q) p q i refl m
+
+  led_onward : (bs : List Block) (n : ℕ) (e : BlockEnd) → length laid ≡ n → EndsBelow n e → LedTo places (onward bs laid e) e
+  led_onward bs n (Jump p) c h = led_to_one (slice_get laid p) p (omega (arith, c, h)) refl
+  led_onward bs n (Branch rel x y p q) c h =
+      led_to_either (only_fails (block_at bs p)) p q (omega (arith, c, h.0)) (omega (arith, c, h.1))
+  led_onward bs n (Fault k) c h = tt
+  led_onward bs n (Return x) c h = tt
 
 -- what comes next in an order, or after it
 abbrev first_of : List ℕ → Option ℕ → Option ℕ
@@ -115,8 +129,8 @@ module _ (bs : List Block) where
         let end = (block_at bs p).end in
         let j : IsOrder (length bs) (put p o) = put_keeps (length bs) o p f i in
         let e = one_less o.laid p f in
-        follow_led k (onward laid end) (put p o) (omega (arith, e, le)) (onward_free laid end) j
-        (led_more [] o.places p (onward laid end) h (led_onward laid (o.places ++ p ∷ []) j.there (length bs) end j.count (below p)))
+        follow_led k (onward bs laid end) (put p o) (omega (arith, e, le)) (onward_free bs laid end) j
+        (led_more [] o.places p (onward bs laid end) h (led_onward laid (o.places ++ p ∷ []) j.there bs (length bs) end j.count (below p)))
 
     traces_led : (count : ℕ) → Led [] (traces count bs).places None
     traces_led zero = tt
