@@ -1,6 +1,6 @@
 -- Each place of blocks stands once in the order in which they are laid.
 use Rattle.std.proofs.Common.{◌≡◌, ◌≢◌, ◌≤◌, ◌<◌, ℕ, zero, suc, ◌⊎◌, inl, inr, Bool, true, false, List, [], ◌∷◌, ◌++◌, length, refl, ap, sym, ◌∙◌, subst, arith}
-use Rattle.std.specs.Prelude.{Option, Some, None, slice_get, slice_set, replicate}
+use Rattle.std.specs.Prelude.{Option, Some, None, if◌then◌else◌, slice_get, slice_set, replicate}
 use Rattle.std.specs.List.{Contains, AllPairs}
 use Rattle.std.proofs.Math.ListN.{length-set}
 use Rattle.std.proofs.lemmas.List.{length-replicate}
@@ -8,7 +8,7 @@ use Rattle.std.proofs.lemmas.Option.{slice_get_within}
 use Rattle.std.proofs.lemmas.List.Elements.{Contains-get_or, Contains-append_left, Contains-append_right, Contains-append_cases}
 use Rattle.std.proofs.lemmas.List.Quantifiers.{all_pairs_push}
 use Rattle.tg_trace_schedule.specs.Block.{BlockEnd, Jump, Branch, Fault, Return, Block}
-use Rattle.tg_trace_schedule.specs.mirror.Laying.{Order, put, unless, unless_laid, one_of, only_fails, onward, block_at, follow, traces}
+use Rattle.tg_trace_schedule.specs.mirror.Laying.{Order, put, unless, unless_laid, first_unlaid, only_fails, onward, block_at, follow, traces}
 
 pub same_or_not : (a b : ℕ) → (a ≡ b) ⊎ (a ≢ b)
 same_or_not zero zero = inl refl
@@ -88,13 +88,16 @@ unless_free laid p other (Some false) e h = e
 pub free_or : (laid : List Bool) (p : ℕ) (other : Option ℕ) → IsFree laid other → IsFree laid (unless_laid laid p other)
 free_or laid p other h = unless_free laid p other (slice_get laid p) refl h
 
-one_free : (turned : Bool) (laid : List Bool) (p q : ℕ) → IsFree laid (one_of turned laid p q)
-one_free false laid p q = free_or laid p (unless_laid laid q None) (free_or laid q None tt)
-one_free true laid p q = free_or laid q (unless_laid laid p None) (free_or laid p None tt)
+first_free : (laid : List Bool) (p q : ℕ) → IsFree laid (first_unlaid laid p q)
+first_free laid p q = free_or laid p (unless_laid laid q None) (free_or laid q None tt)
+
+side_free : (turned : Bool) (laid : List Bool) (p q : ℕ) → IsFree laid (if turned then first_unlaid laid q p else first_unlaid laid p q)
+side_free false laid p q = first_free laid p q
+side_free true laid p q = first_free laid q p
 
 pub onward_free : (blocks : List Block) (laid : List Bool) (e : BlockEnd) → IsFree laid (onward blocks laid e)
 onward_free blocks laid (Jump p) = free_or laid p None tt
-onward_free blocks laid (Branch _ _ _ p q) = one_free (only_fails (block_at blocks p)) laid p q
+onward_free blocks laid (Branch _ _ _ p q) = side_free (only_fails (block_at blocks p)) laid p q
 onward_free blocks laid (Fault _) = tt
 onward_free blocks laid (Return _) = tt
 

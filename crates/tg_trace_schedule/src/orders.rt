@@ -91,26 +91,21 @@ fn onward_at(laid: &[bool], blocks: &[Block], place: u32) -> Option<u32>
     }
 }
 
-/// What comes after a block: where it leads that isn't laid, the true side of a branch first unless
-/// it only fails.
+/// What comes after a block: where it leads that isn't laid, the true side of a branch first, but
+/// last where the block there only fails.
 fn onward(laid: &[bool], blocks: &[Block], end: &End) -> Option<u32>
     ensures { result ≡ laying.onward (plain_blocks blocks.now) laid.now (plain_end end.now) }
 {
     match end {
         End::Jump(place) => unless_laid(laid, *place, None),
-        End::Branch(_, _, _, yes, no) => one_of(only_fails_at(blocks, *yes), laid, *yes, *no),
+        End::Branch(_, _, _, yes, no) => {
+            if only_fails_at(blocks, *yes) {
+                first_unlaid(laid, *no, *yes)
+            } else {
+                first_unlaid(laid, *yes, *no)
+            }
+        }
         End::Fault(_) | End::Return(_) => None,
-    }
-}
-
-/// The first of two places that isn't laid, or of these the other way round.
-fn one_of(turned: bool, laid: &[bool], yes: u32, no: u32) -> Option<u32>
-    ensures { result ≡ laying.one_of turned laid.now yes no }
-{
-    if turned {
-        unless_laid(laid, no, unless_laid(laid, yes, None))
-    } else {
-        unless_laid(laid, yes, unless_laid(laid, no, None))
     }
 }
 
@@ -126,6 +121,7 @@ fn only_fails_at(blocks: &[Block], place: u32) -> bool
     }
 }
 
+/// Whether a block has no statements and ends by a fault.
 fn only_fails(block: &Block) -> bool
     ensures { result ≡ laying.only_fails (plain_block block.now) }
 {
@@ -140,6 +136,13 @@ fn is_fault(end: &End) -> bool
     ensures { result ≡ laying.fails_at_once no_stms (plain_end end.now) }
 {
     matches!(end, End::Fault(_))
+}
+
+/// The first of two places that isn't laid.
+fn first_unlaid(laid: &[bool], place: u32, other: u32) -> Option<u32>
+    ensures { result ≡ laying.first_unlaid laid.now place other }
+{
+    unless_laid(laid, place, unless_laid(laid, other, None))
 }
 
 /// A place that isn't laid, else another.

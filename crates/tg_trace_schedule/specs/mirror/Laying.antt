@@ -1,6 +1,6 @@
 -- Blocks are laid in traces (Appel, chapter 8): after each block comes one that it leads to, for
 -- as long as such a one isn't laid. So a jump is left only where it goes back.
-use Rattle.std.specs.Prelude.{ℕ, zero, suc, ◌==◌, Bool, true, false}
+use Rattle.std.specs.Prelude.{ℕ, zero, suc, ◌==◌, Bool, true, false, if◌then◌else◌}
 use Rattle.std.specs.Prelude.{List, [], ◌∷◌, ◌++◌, length, replicate, slice_get, slice_set}
 use Rattle.std.specs.Prelude.{slice_index_or, Option, Some, None}
 use Rattle.tg_tree.specs.declared.operators.Rel.{Rel}
@@ -39,16 +39,16 @@ fails_at_once _ _ = false
 abbrev pub only_fails : Block → Bool
 only_fails b = fails_at_once b.body b.end
 
--- the first of two that isn't laid, or of these the other way round
-abbrev pub one_of : (turned : Bool) → List Bool → (yes' no' : ℕ) → Option ℕ
-one_of false laid p q = unless_laid laid p (unless_laid laid q None)
-one_of true laid p q = unless_laid laid q (unless_laid laid p None)
+-- the first of two places that isn't laid
+abbrev pub first_unlaid : List Bool → (place other : ℕ) → Option ℕ
+first_unlaid laid p q = unless_laid laid p (unless_laid laid q None)
 
--- what comes after a block: where it leads that isn't laid, the true side of a branch first unless
--- it only fails
+-- what comes after a block: where it leads that isn't laid, the true side of a branch first, but
+-- last where the block there only fails, so that a check that is passed falls through
 abbrev pub onward : List Block → List Bool → BlockEnd → Option ℕ
 onward blocks laid (Jump p) = unless_laid laid p None
-onward blocks laid (Branch _ _ _ p q) = one_of (only_fails (block_at blocks p)) laid p q
+onward blocks laid (Branch _ _ _ p q) =
+    if only_fails (block_at blocks p) then first_unlaid laid q p else first_unlaid laid p q
 onward blocks laid (Fault _) = None
 onward blocks laid (Return _) = None
 
