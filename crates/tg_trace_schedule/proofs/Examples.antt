@@ -79,7 +79,38 @@ left_at_once = refl
 dropped : blocks_of (stms (Loop (sequence (set ∷ Break 0 ∷ Loop set ∷ [])) ∷ done ∷ [])) ≡ block (Jump 1) (set ∷ []) ∷ block (Return (Const 0)) [] ∷ []
 dropped = refl
 
--- a fault stands where it is tested for, and the branch is turned round
-fault_code : traced (blocks_of (stms (when (Compare NotEqual (Temp 0) (Const 0)) (tree.Fault 3) ∷ set ∷ done ∷ []))) ≡
-    Mark 0 ∷ tree.Branch Equal (Temp 0) (Const 0) 2 ∷ Mark 1 ∷ tree.Fault' 3 ∷ Mark 2 ∷ Do' set ∷ tree.Return' (Const 0) ∷ []
+-- a check, which fails where a temporary isn't 0
+abbrev check : ℕ → Ts
+check kind = when (Compare NotEqual (Temp 0) (Const 0)) (tree.Fault kind)
+
+-- a block that only fails stands behind the trace of its check, which falls through where it is passed
+fault_code : traced (blocks_of (stms (check 3 ∷ set ∷ done ∷ []))) ≡
+    Mark 0 ∷ tree.Branch NotEqual (Temp 0) (Const 0) 1 ∷ Mark 2 ∷ Do' set ∷ tree.Return' (Const 0) ∷ Mark 1 ∷ tree.Fault' 3 ∷ []
 fault_code = refl
+
+-- two checks: all that they pass stands in front of where they fail
+two_checks : traced (blocks_of (stms (check 3 ∷ check 4 ∷ done ∷ []))) ≡
+    Mark 0 ∷ tree.Branch NotEqual (Temp 0) (Const 0) 1 ∷ Mark 2 ∷ tree.Branch NotEqual (Temp 0) (Const 0) 3 ∷ Mark 4 ∷
+    tree.Return' (Const 0) ∷ Mark 1 ∷ tree.Fault' 3 ∷ Mark 3 ∷ tree.Fault' 4 ∷ []
+two_checks = refl
+
+-- a check in a loop: where it fails stands behind the loop
+check_in_loop : traced (blocks_of (stms (Loop (If less (sequence (check 3 ∷ set ∷ [])) (Break 0)) ∷ done ∷ []))) ≡
+    Mark 0 ∷ tree.Branch GreaterEqual (Temp 0) (Const 3) 4 ∷ Mark 1 ∷ tree.Branch NotEqual (Temp 0) (Const 0) 2 ∷ Mark 3 ∷ Do' set ∷
+    tree.Jump 0 ∷ Mark 2 ∷ tree.Fault' 3 ∷ Mark 4 ∷ tree.Return' (Const 0) ∷ []
+check_in_loop = refl
+
+-- a block that does something before it fails stands where it is tested for, and the branch is turned round
+fault_behind_a_statement : traced (blocks_of (stms (when equal (sequence (set ∷ tree.Fault 3 ∷ [])) ∷ set ∷ done ∷ []))) ≡
+    Mark 0 ∷ tree.Branch NotEqual (Temp 0) (Const 4) 2 ∷ Mark 1 ∷ Do' set ∷ tree.Fault' 3 ∷ Mark 2 ∷ Do' set ∷ tree.Return' (Const 0) ∷ []
+fault_behind_a_statement = refl
+
+-- so does one that only returns
+return_at_once : traced (blocks_of (stms (when equal done ∷ set ∷ done ∷ []))) ≡
+    Mark 0 ∷ tree.Branch NotEqual (Temp 0) (Const 4) 2 ∷ Mark 1 ∷ tree.Return' (Const 0) ∷ Mark 2 ∷ Do' set ∷ tree.Return' (Const 0) ∷ []
+return_at_once = refl
+
+-- of two that only fail the false side comes first
+two_faults : traced (blocks_of (stms (If equal (tree.Fault 3) (tree.Fault 4) ∷ done ∷ []))) ≡
+    Mark 0 ∷ tree.Branch Equal (Temp 0) (Const 4) 1 ∷ Mark 2 ∷ tree.Fault' 4 ∷ Mark 1 ∷ tree.Fault' 3 ∷ Mark 3 ∷ tree.Return' (Const 0) ∷ []
+two_faults = refl

@@ -1,6 +1,6 @@
 -- Each place of blocks stands once in the order in which they are laid.
 use Rattle.std.proofs.Common.{◌≡◌, ◌≢◌, ◌≤◌, ◌<◌, ℕ, zero, suc, ◌⊎◌, inl, inr, Bool, true, false, List, [], ◌∷◌, ◌++◌, length, refl, ap, sym, ◌∙◌, subst, arith}
-use Rattle.std.specs.Prelude.{Option, Some, None, slice_get, slice_set, replicate}
+use Rattle.std.specs.Prelude.{Option, Some, None, if◌then◌else◌, slice_get, slice_set, replicate}
 use Rattle.std.specs.List.{Contains, AllPairs}
 use Rattle.std.proofs.Math.ListN.{length-set}
 use Rattle.std.proofs.lemmas.List.{length-replicate}
@@ -8,7 +8,7 @@ use Rattle.std.proofs.lemmas.Option.{slice_get_within}
 use Rattle.std.proofs.lemmas.List.Elements.{Contains-get_or, Contains-append_left, Contains-append_right, Contains-append_cases}
 use Rattle.std.proofs.lemmas.List.Quantifiers.{all_pairs_push}
 use Rattle.tg_trace_schedule.specs.Block.{BlockEnd, Jump, Branch, Fault, Return, Block}
-use Rattle.tg_trace_schedule.specs.mirror.Laying.{Order, put, unless, unless_laid, onward, block_at, follow, traces}
+use Rattle.tg_trace_schedule.specs.mirror.Laying.{Order, put, unless, unless_laid, first_unlaid, only_fails, onward, block_at, follow, traces}
 
 pub same_or_not : (a b : ℕ) → (a ≡ b) ⊎ (a ≢ b)
 same_or_not zero zero = inl refl
@@ -88,18 +88,25 @@ unless_free laid p other (Some false) e h = e
 pub free_or : (laid : List Bool) (p : ℕ) (other : Option ℕ) → IsFree laid other → IsFree laid (unless_laid laid p other)
 free_or laid p other h = unless_free laid p other (slice_get laid p) refl h
 
-pub onward_free : (laid : List Bool) (e : BlockEnd) → IsFree laid (onward laid e)
-onward_free laid (Jump p) = free_or laid p None tt
-onward_free laid (Branch _ _ _ p q) = free_or laid p (unless_laid laid q None) (free_or laid q None tt)
-onward_free laid (Fault _) = tt
-onward_free laid (Return _) = tt
+first_free : (laid : List Bool) (p q : ℕ) → IsFree laid (first_unlaid laid p q)
+first_free laid p q = free_or laid p (unless_laid laid q None) (free_or laid q None tt)
+
+side_free : (turned : Bool) (laid : List Bool) (p q : ℕ) → IsFree laid (if turned then first_unlaid laid q p else first_unlaid laid p q)
+side_free false laid p q = first_free laid p q
+side_free true laid p q = first_free laid q p
+
+pub onward_free : (blocks : List Block) (laid : List Bool) (e : BlockEnd) → IsFree laid (onward blocks laid e)
+onward_free blocks laid (Jump p) = free_or laid p None tt
+onward_free blocks laid (Branch _ _ _ p q) = side_free (only_fails (block_at blocks p)) laid p q
+onward_free blocks laid (Fault _) = tt
+onward_free blocks laid (Return _) = tt
 
 pub follow_keeps : (n k : ℕ) (blocks : List Block) (next : Option ℕ) (o : Order) → IsFree o.laid next → IsOrder n o → IsOrder n (follow k blocks next o)
 follow_keeps n zero blocks next o f i = i
 follow_keeps n (suc k) blocks None o f i = i
 follow_keeps n (suc k) blocks (Some p) o f i =
-    follow_keeps n k blocks (onward (slice_set o.laid p true) (block_at blocks p).end) (put p o)
-    (onward_free (slice_set o.laid p true) (block_at blocks p).end) (put_keeps n o p f i)
+    follow_keeps n k blocks (onward blocks (slice_set o.laid p true) (block_at blocks p).end) (put p o)
+    (onward_free blocks (slice_set o.laid p true) (block_at blocks p).end) (put_keeps n o p f i)
 
 nothing_there : (n p : ℕ) → slice_get (replicate n false) p ≡ Some true → ⊥
 nothing_there zero p h = cc
@@ -128,7 +135,7 @@ pub follow_stays : (k : ℕ) (blocks : List Block) (next : Option ℕ) (o : Orde
 follow_stays zero blocks next o q h = h
 follow_stays (suc k) blocks None o q h = h
 follow_stays (suc k) blocks (Some p) o q h =
-    follow_stays k blocks (onward (slice_set o.laid p true) (block_at blocks p).end) (put p o) q (put_stays o.laid p q (same_or_not p q) h)
+    follow_stays k blocks (onward blocks (slice_set o.laid p true) (block_at blocks p).end) (put p o) q (put_stays o.laid p q (same_or_not p q) h)
 
 pub None_past : (l : List Bool) (k : ℕ) → slice_get l k ≡ None → length l ≤ k
 None_past [] k h = omega arith
@@ -143,7 +150,7 @@ first_laid zero k blocks o (Some true) e h m = e
 first_laid (suc n) k blocks o (Some true) e h m = e
 first_laid zero k blocks o (Some false) e h m = absurd (omega arith)
 first_laid (suc n) k blocks o (Some false) e h m =
-    follow_stays n blocks (onward (slice_set o.laid k true) (block_at blocks k).end) (put k o) k (set_here o.laid k false e)
+    follow_stays n blocks (onward blocks (slice_set o.laid k true) (block_at blocks k).end) (put k o) k (set_here o.laid k false e)
 
 pub all_laid : (count : ℕ) (blocks : List Block) (p : ℕ) → p < count → p < length blocks → slice_get (traces count blocks).laid p ≡ Some true
 all_laid zero blocks p h m = absurd (omega arith)

@@ -96,20 +96,20 @@ follow_none (suc k) blocks o = refl
 
 pub follow_one :
     (n i : ℕ) (blocks : List Block) (p : ℕ) (o : Order) → i < n →
-    follow (n - i) blocks (Some p) o ≡ follow (n - (i + 1)) blocks (onward (slice_set o.laid p true) (block_at blocks p).end) (put p o)
+    follow (n - i) blocks (Some p) o ≡ follow (n - (i + 1)) blocks (onward blocks (slice_set o.laid p true) (block_at blocks p).end) (put p o)
 follow_one n i blocks p o h =
     let e : n - i ≡ suc (n - (i + 1)) = omega arith in
     ap (λ k. follow k blocks (Some p) o) e
 
 pub follow_step :
     (n i : ℕ) (blocks : List Block) (next next' : Option ℕ) (p : ℕ) (o o' final : Order) (laid : List Bool) →
-    i < n → next ≡ Some p → o' ≡ put p o → laid ≡ o'.laid → next' ≡ onward laid (block_at blocks p).end →
+    i < n → next ≡ Some p → o' ≡ put p o → laid ≡ o'.laid → next' ≡ onward blocks laid (block_at blocks p).end →
     follow (n - i) blocks next o ≡ final → follow (n - (i + 1)) blocks next' o' ≡ final
 follow_step n i blocks next next' p o o' final laid h e put_is laid_is next_is so_far =
     let k = n - (i + 1) in
-    let onto : next' ≡ onward (slice_set o.laid p true) (block_at blocks p).end =
-    next_is ∙ ap (λ l. onward l (block_at blocks p).end) (laid_is ∙ ap (λ x. x.laid) put_is) in
-    ap (λ m. follow k blocks m o') onto ∙ (ap (follow k blocks (onward (slice_set o.laid p true) (block_at blocks p).end)) put_is
+    let onto : next' ≡ onward blocks (slice_set o.laid p true) (block_at blocks p).end =
+    next_is ∙ ap (λ l. onward blocks l (block_at blocks p).end) (laid_is ∙ ap (λ x. x.laid) put_is) in
+    ap (λ m. follow k blocks m o') onto ∙ (ap (follow k blocks (onward blocks (slice_set o.laid p true) (block_at blocks p).end)) put_is
     ∙ (sym (follow_one n i blocks p o h) ∙ (ap (λ m. follow (n - i) blocks m o) (sym e) ∙ so_far)))
 
 pub follow_stops :

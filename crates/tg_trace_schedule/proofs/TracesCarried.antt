@@ -41,7 +41,7 @@ put_begins p o (ps, e) = (ps ++ p ∷ [], ap (λ xs. xs ++ p ∷ []) e)
 follow_begins : (k : ℕ) (bs : List Block) (next : Option ℕ) (o : Order) → BeginsAtZero o → BeginsAtZero (follow k bs next o)
 follow_begins zero bs next o b = b
 follow_begins (suc k) bs None o b = b
-follow_begins (suc k) bs (Some p) o b = follow_begins k bs (onward (slice_set o.laid p true) (block_at bs p).end) (put p o) (put_begins p o b)
+follow_begins (suc k) bs (Some p) o b = follow_begins k bs (onward bs (slice_set o.laid p true) (block_at bs p).end) (put p o) (put_begins p o b)
 
 order_begins : (k : ℕ) (b : Block) (bs : List Block) → BeginsAtZero (traces (suc k) (b ∷ bs))
 order_begins zero b bs = follow_begins (length bs) (b ∷ bs) _ _ ([], refl)

@@ -1,13 +1,13 @@
 -- After each block comes one that it leads to and that isn't laid, if there is one: a jump that is left goes back.
 use Rattle.std.proofs.Common.{◌≡◌, ◌≤◌, ◌<◌, ℕ, zero, suc, Bool, true, false, List, [], ◌∷◌, ◌++◌, length, refl, ap, sym, ◌∙◌, subst, arith}
 use Rattle.std.proofs.Common.{append_assoc, append-nil, eq-eqb}
-use Rattle.std.specs.Prelude.{Option, Some, None, slice_get, slice_set}
+use Rattle.std.specs.Prelude.{Option, Some, None, if◌then◌else◌, slice_get, slice_set}
 use Rattle.std.specs.List.{Contains}
 use Rattle.tg_tree.specs.Tree as tree
 use Rattle.tg_tree.specs.Tree.{Stms, no_stms, stm, Linear, Mark}
 use Rattle.tg_tree.specs.declared.operators.Rel.{Rel}
 use Rattle.tg_trace_schedule.specs.Block.{BlockEnd, Jump, Branch, Fault, Return, Block}
-use Rattle.tg_trace_schedule.specs.mirror.Laying.{Order, put, unless, unless_laid, onward, block_at, follow, traces, is_next, jump_unless, branch_by, end_code}
+use Rattle.tg_trace_schedule.specs.mirror.Laying.{Order, put, unless, unless_laid, first_unlaid, only_fails, onward, block_at, follow, traces, is_next, jump_unless, branch_by, end_code}
 use Rattle.tg_trace_schedule.specs.mirror.Laying.{body_code, traced}
 use Rattle.tg_trace_schedule.specs.Shapes.{EndsBelow, LeadsBelow, AreWhole}
 use Rattle.tg_trace_schedule.specs.laws.Heads.{JumpsGoBack}
@@ -52,23 +52,32 @@ led_anyhow laid next (Return _) h = tt
 
 -- a block leads to one that comes next or is laid
 module _ (laid : List Bool) (places : List ℕ) (there : (p : ℕ) → slice_get laid p ≡ Some true → Contains places p) where
-  led_to_one : (v : Option Bool) (p : ℕ) → p < length laid → slice_get laid p ≡ v → is_next (unless v p None) p ≡ false → Contains places p
-  led_to_one None p h e n = let k = None_past laid p e in absurd (omega (arith, h, k))
-  led_to_one (Some true) p h e n = there p e
-  led_to_one (Some false) p h e n = absurd (true_false (sym (eq-eqb p p refl) ∙ n))
+  led_to_first :
+      (v : Option Bool) (p : ℕ) (other : Option ℕ) → p < length laid → slice_get laid p ≡ v → is_next (unless v p other) p ≡ false → Contains places p
+  led_to_first None p other h e n = let k = None_past laid p e in absurd (omega (arith, h, k))
+  led_to_first (Some true) p other h e n = there p e
+  led_to_first (Some false) p other h e n = absurd (true_false (sym (eq-eqb p p refl) ∙ n))
 
   led_to_other :
       (v : Option Bool) (p q : ℕ) → p < length laid → q < length laid → slice_get laid p ≡ v →
       is_next (unless v p (unless_laid laid q None)) p ≡ false → is_next (unless v p (unless_laid laid q None)) q ≡ false → Contains places q
   led_to_other None p q h i e n m = let k = None_past laid p e in absurd (omega (arith, h, k))
-  led_to_other (Some true) p q h i e n m = led_to_one (slice_get laid q) q i refl m
+  led_to_other (Some true) p q h i e n m = led_to_first (slice_get laid q) q None i refl m
   led_to_other (Some false) p q h i e n m = absurd (true_false (sym (eq-eqb p p refl) ∙ n))
 
-  led_onward : (n : ℕ) (e : BlockEnd) → length laid ≡ n → EndsBelow n e → LedTo places (onward laid e) e
-  led_onward n (Jump p) c h = led_to_one (slice_get laid p) p (omega (arith, c, h)) refl
-  led_onward n (Branch rel x y p q) c h = led_to_other (slice_get laid p) p q (omega (arith, c, h.0)) (omega (arith, c, h.1)) refl
-  led_onward n (Fault k) c h = tt
-  led_onward n (Return x) c h = tt
+  led_to_either :
+      (turned : Bool) (p q : ℕ) → p < length laid → q < length laid →
+      is_next (if turned then first_unlaid laid q p else first_unlaid laid p q) p ≡ false →
+      is_next (if turned then first_unlaid laid q p else first_unlaid laid p q) q ≡ false → Contains places q
+  led_to_either false p q h i n m = led_to_other (slice_get laid p) p q h i refl n m
+  led_to_either true p q h i n m = led_to_first (slice_get laid q) q (unless_laid laid p None) i refl m
+
+  led_onward : (bs : List Block) (n : ℕ) (e : BlockEnd) → length laid ≡ n → EndsBelow n e → LedTo places (onward bs laid e) e
+  led_onward bs n (Jump p) c h = led_to_first (slice_get laid p) p None (omega (arith, c, h)) refl
+  led_onward bs n (Branch rel x y p q) c h =
+      led_to_either (only_fails (block_at bs p)) p q (omega (arith, c, h.0)) (omega (arith, c, h.1))
+  led_onward bs n (Fault k) c h = tt
+  led_onward bs n (Return x) c h = tt
 
 -- what comes next in an order, or after it
 abbrev first_of : List ℕ → Option ℕ → Option ℕ
@@ -115,8 +124,8 @@ module _ (bs : List Block) where
         let end = (block_at bs p).end in
         let j : IsOrder (length bs) (put p o) = put_keeps (length bs) o p f i in
         let e = one_less o.laid p f in
-        follow_led k (onward laid end) (put p o) (omega (arith, e, le)) (onward_free laid end) j
-        (led_more [] o.places p (onward laid end) h (led_onward laid (o.places ++ p ∷ []) j.there (length bs) end j.count (below p)))
+        follow_led k (onward bs laid end) (put p o) (omega (arith, e, le)) (onward_free bs laid end) j
+        (led_more [] o.places p (onward bs laid end) h (led_onward laid (o.places ++ p ∷ []) j.there bs (length bs) end j.count (below p)))
 
     traces_led : (count : ℕ) → Led [] (traces count bs).places None
     traces_led zero = tt

@@ -1,12 +1,12 @@
 -- In the order in which blocks are laid, a place to which a block leads back stands in front of it.
 use Rattle.std.proofs.Common.{◌≡◌, ◌≢◌, ◌≤◌, ◌<◌, ℕ, zero, suc, ◌⊎◌, inl, inr, Bool, true, false, List, [], ◌∷◌, ◌++◌, length, refl, sym, ◌∙◌, subst}
 use Rattle.std.proofs.Common.{arith, append_assoc, append-nil}
-use Rattle.std.specs.Prelude.{Option, Some, None, slice_get, slice_set}
+use Rattle.std.specs.Prelude.{Option, Some, None, if◌then◌else◌, slice_get, slice_set}
 use Rattle.std.specs.List.{Contains}
 use Rattle.std.proofs.lemmas.List.Elements.{Contains-append_left, Contains-append_right, Contains-push}
 use Rattle.std.proofs.lemmas.Bool.{cases_lt}
 use Rattle.tg_trace_schedule.specs.Block.{BlockEnd, Jump, Branch, Fault, Return, Block}
-use Rattle.tg_trace_schedule.specs.mirror.Laying.{Order, put, unless, unless_laid, onward, block_at, follow, traces}
+use Rattle.tg_trace_schedule.specs.mirror.Laying.{Order, put, unless, unless_laid, first_unlaid, only_fails, onward, block_at, follow, traces}
 use Rattle.tg_trace_schedule.specs.laws.Heads.{LeadsTo, PassesBy, begins, goes_on, AreEnteredAtHeads}
 use Rattle.tg_trace_schedule.proofs.Places.{same_or_not, traces_keep, all_laid}
 
@@ -45,12 +45,21 @@ unless_is (Some false) p other r e = inl cc
 pub only_first : (v : Option Bool) (p r : ℕ) → unless v p None ≡ Some r → p ≡ r
 only_first v p r e = elim (unless_is v p None r e) [ inl s ↦ s | inr n ↦ none_some n ]
 
-pub onward_leads : (laid : List Bool) (e : BlockEnd) (r : ℕ) → onward laid e ≡ Some r → LeadsTo e r
-onward_leads laid (Jump p) r h = only_first (slice_get laid p) p r h
-onward_leads laid (Branch rel x y p q) r h =
+first_leads : (laid : List Bool) (p q r : ℕ) → first_unlaid laid p q ≡ Some r → (p ≡ r) ⊎ (q ≡ r)
+first_leads laid p q r h =
     elim (unless_is (slice_get laid p) p (unless_laid laid q None) r h) [ inl s ↦ inl s | inr n ↦ inr (only_first (slice_get laid q) q r n) ]
-onward_leads laid (Fault n) r h = none_some h
-onward_leads laid (Return x) r h = none_some h
+
+side_leads :
+    (turned : Bool) (laid : List Bool) (p q r : ℕ) → (if turned then first_unlaid laid q p else first_unlaid laid p q) ≡ Some r →
+    (p ≡ r) ⊎ (q ≡ r)
+side_leads false laid p q r h = first_leads laid p q r h
+side_leads true laid p q r h = elim (first_leads laid q p r h) [ inl s ↦ inr s | inr n ↦ inl n ]
+
+pub onward_leads : (bs : List Block) (laid : List Bool) (e : BlockEnd) (r : ℕ) → onward bs laid e ≡ Some r → LeadsTo e r
+onward_leads bs laid (Jump p) r h = only_first (slice_get laid p) p r h
+onward_leads bs laid (Branch rel x y p q) r h = side_leads (only_fails (block_at bs p)) laid p q r h
+onward_leads bs laid (Fault n) r h = none_some h
+onward_leads bs laid (Return x) r h = none_some h
 
 module _ (bs : List Block) where
   -- the places to which it leads back are it or stand before it
@@ -111,8 +120,8 @@ module _ (bs : List Block) where
     follow_heads (suc k) first None o t h = h
     follow_heads (suc k) first (Some p) o t h =
         let laid = slice_set o.laid p true in
-        follow_heads k first (onward laid (block_at bs p).end) (put p o)
-        (λ r e. trace_on first p r o (onward_leads laid (block_at bs p).end r e) (t p refl))
+        follow_heads k first (onward bs laid (block_at bs p).end) (put p o)
+        (λ r e. trace_on first p r o (onward_leads bs laid (block_at bs p).end r e) (t p refl))
         (each_more HeadsStand [] o.places p h (heads_stand first p o (t p refl)))
 
     pub traces_heads : (count : ℕ) → count ≤ length bs → Each HeadsStand [] (traces count bs).places

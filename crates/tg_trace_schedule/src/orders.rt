@@ -1,5 +1,6 @@
 ghost use Rattle.std.specs.Prelude.{◌≡◌, true, length, slice_set, IfOk, OnOk};
-ghost use Rattle.tg_trace_schedule.specs.glue.Plains.{plain_end, plain_blocks, plain_order};
+ghost use Rattle.tg_tree.specs.Tree.{no_stms};
+ghost use Rattle.tg_trace_schedule.specs.glue.Plains.{plain_block, plain_blocks, plain_end, plain_order};
 ghost use Rattle.tg_trace_schedule.specs.mirror.Laying as laying;
 
 use crate::flows::{Block, End};
@@ -79,25 +80,69 @@ fn lay(laid: &mut [bool], place: u32)
 /// What comes after the block at a place.
 fn onward_at(laid: &[bool], blocks: &[Block], place: u32) -> Option<u32>
     ensures { result ≡
-        laying.onward laid.now (laying.block_at (plain_blocks blocks.now) place).end }
+        laying.onward (plain_blocks blocks.now) laid.now
+        (laying.block_at (plain_blocks blocks.now) place).end }
 {
     let at = place as usize;
     if at < blocks.len() {
-        onward(laid, &blocks[at].end)
+        onward(laid, blocks, &blocks[at].end)
     } else {
         None
     }
 }
 
-/// What comes after a block: where it leads that isn't laid, the true side of a branch first.
-fn onward(laid: &[bool], end: &End) -> Option<u32>
-    ensures { result ≡ laying.onward laid.now (plain_end end.now) }
+/// What comes after a block: where it leads that isn't laid, the true side of a branch first, but
+/// last where the block there only fails.
+fn onward(laid: &[bool], blocks: &[Block], end: &End) -> Option<u32>
+    ensures { result ≡ laying.onward (plain_blocks blocks.now) laid.now (plain_end end.now) }
 {
     match end {
         End::Jump(place) => unless_laid(laid, *place, None),
-        End::Branch(_, _, _, yes, no) => unless_laid(laid, *yes, unless_laid(laid, *no, None)),
+        End::Branch(_, _, _, yes, no) => {
+            if only_fails_at(blocks, *yes) {
+                first_unlaid(laid, *no, *yes)
+            } else {
+                first_unlaid(laid, *yes, *no)
+            }
+        }
         End::Fault(_) | End::Return(_) => None,
     }
+}
+
+/// Whether the block at a place does nothing but fail.
+fn only_fails_at(blocks: &[Block], place: u32) -> bool
+    ensures { result ≡ laying.only_fails (laying.block_at (plain_blocks blocks.now) place) }
+{
+    let at = place as usize;
+    if at < blocks.len() {
+        only_fails(&blocks[at])
+    } else {
+        true
+    }
+}
+
+/// Whether a block has no statements and ends by a fault.
+fn only_fails(block: &Block) -> bool
+    ensures { result ≡ laying.only_fails (plain_block block.now) }
+{
+    if block.body.items.is_empty() {
+        is_fault(&block.end)
+    } else {
+        false
+    }
+}
+
+fn is_fault(end: &End) -> bool
+    ensures { result ≡ laying.fails_at_once no_stms (plain_end end.now) }
+{
+    matches!(end, End::Fault(_))
+}
+
+/// The first of two places that isn't laid.
+fn first_unlaid(laid: &[bool], place: u32, other: u32) -> Option<u32>
+    ensures { result ≡ laying.first_unlaid laid.now place other }
+{
+    unless_laid(laid, place, unless_laid(laid, other, None))
 }
 
 /// A place that isn't laid, else another.

@@ -1,6 +1,6 @@
 -- Blocks are laid in traces (Appel, chapter 8): after each block comes one that it leads to, for
 -- as long as such a one isn't laid. So a jump is left only where it goes back.
-use Rattle.std.specs.Prelude.{ℕ, zero, suc, ◌==◌, Bool, true, false}
+use Rattle.std.specs.Prelude.{ℕ, zero, suc, ◌==◌, Bool, true, false, if◌then◌else◌}
 use Rattle.std.specs.Prelude.{List, [], ◌∷◌, ◌++◌, length, replicate, slice_get, slice_set}
 use Rattle.std.specs.Prelude.{slice_index_or, Option, Some, None}
 use Rattle.tg_tree.specs.declared.operators.Rel.{Rel}
@@ -31,12 +31,26 @@ unless _ place other = other
 abbrev pub unless_laid : List Bool → (place : ℕ) → Option ℕ → Option ℕ
 unless_laid laid place other = unless (slice_get laid place) place other
 
--- what comes after a block: where it leads that isn't laid, the true side of a branch first
-abbrev pub onward : List Bool → BlockEnd → Option ℕ
-onward laid (Jump p) = unless_laid laid p None
-onward laid (Branch _ _ _ p q) = unless_laid laid p (unless_laid laid q None)
-onward laid (Fault _) = None
-onward laid (Return _) = None
+-- a block that does nothing but fail
+abbrev pub fails_at_once : Stms → BlockEnd → Bool
+fails_at_once no_stms (Fault n) = true
+fails_at_once _ _ = false
+
+abbrev pub only_fails : Block → Bool
+only_fails b = fails_at_once b.body b.end
+
+-- the first of two places that isn't laid
+abbrev pub first_unlaid : List Bool → (place other : ℕ) → Option ℕ
+first_unlaid laid p q = unless_laid laid p (unless_laid laid q None)
+
+-- what comes after a block: where it leads that isn't laid, the true side of a branch first, but
+-- last where the block there only fails, so that a check that is passed falls through
+abbrev pub onward : List Block → List Bool → BlockEnd → Option ℕ
+onward blocks laid (Jump p) = unless_laid laid p None
+onward blocks laid (Branch _ _ _ p q) =
+    if only_fails (block_at blocks p) then first_unlaid laid q p else first_unlaid laid p q
+onward blocks laid (Fault _) = None
+onward blocks laid (Return _) = None
 
 -- after an order the block at a place, and more as long as it leads to one that isn't laid, so
 -- many at most
@@ -44,7 +58,7 @@ abbrev pub follow : (most : ℕ) → List Block → Option ℕ → Order → Ord
 follow zero blocks next o = o
 follow (suc k) blocks None o = o
 follow (suc k) blocks (Some p) o =
-    follow k blocks (onward (slice_set o.laid p true) (block_at blocks p).end) (put p o)
+    follow k blocks (onward blocks (slice_set o.laid p true) (block_at blocks p).end) (put p o)
 
 abbrev pub trace_from : List Block → (place : ℕ) → Order → Order
 trace_from blocks p o = follow (length blocks) blocks (unless_laid o.laid p None) o
