@@ -29,7 +29,7 @@ use Rattle.tg_isa.specs.ImageRuns.{machine_run}
 use Rattle.tg_asm_text.specs.Texts as texts
 use Rattle.tg_machine_state.specs.State.{initial_machine}
 use Rattle.tg_instr.specs.declared.instr.Instr.{Instr}
-use Rattle.tg_instr.specs.Lengths.{words_of}
+use Rattle.tg_instr.specs.Lengths.{words_of, most_words}
 use Rattle.tg_instr.specs.Running.{everywhere, code_run}
 use Rattle.tg_munch.specs.mirror.Bodies.{munched, outs}
 use Rattle.tg_regalloc.specs.mirror.InFrame.{code_in_frame}
@@ -152,6 +152,11 @@ module _ (program : Exp) (found : Findings) where
 
   abbrev pub as_instructions : (fuel : ℕ) → Ran
   as_instructions fuel = code_run (everywhere words_of) instructions size bottom 64 32 [] fuel
+
+  -- where each instruction counts the words that an allocation makes of it at most
+  abbrev pub as_most_words : (fuel : ℕ) → Ran
+  as_most_words fuel =
+      code_run (everywhere most_words) instructions size bottom 64 32 [] fuel
 
   abbrev pub as_in_frames : (fuel : ℕ) → Ran
   as_in_frames fuel =

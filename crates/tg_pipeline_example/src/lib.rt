@@ -12,6 +12,7 @@ ghost use Rattle.tg_pipeline_example.specs.laws.Laws.{
   IsFound,
   SourceEnds,
   TreesEnd,
+  WordsAreCounted,
 };
 
 /// What typing notes of the program of `specs/Program.antt`, and which variables and links escape.
@@ -42,6 +43,12 @@ pub fn flat_code_ends()
 /// The program as instructions over temporaries.
 pub fn instructions_end()
     ensures { InstructionsEnd }
+{}
+
+/// The words that an allocation makes of the instructions of the run at most, beside the units of
+/// its flat code: the constants of `tg_correctness` are as small as moves let them be.
+pub fn words_are_counted()
+    ensures { WordsAreCounted }
 {}
 
 /// The program as instructions over registers, with each temporary in its frame.

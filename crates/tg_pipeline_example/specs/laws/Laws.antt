@@ -1,6 +1,6 @@
 -- What the program of `Program.antt` is found to be, and what it does in every form: it ends by
 -- exit(16) and writes nothing.
-use Rattle.std.specs.Prelude.{◌≡◌, [], pos}
+use Rattle.std.specs.Prelude.{◌≡◌, ◌≤◌, ◌+◌, ◌*◌, [], pos}
 use Rattle.tg_machine_state.specs.declared.ends.RunEnd.TheVariants.{Exit}
 use Rattle.tg_simulation.specs.Outcomes.{Outcome, ended}
 use Rattle.tg_simulation.specs.Ran.{Ran, Ended}
@@ -10,6 +10,11 @@ use Rattle.tg_typecheck.specs.Accepted.{accepted, finding}
 use Rattle.tg_escape.specs.Escaping.{escapes_of}
 use Rattle.tg_escape.specs.Links.{links_of}
 use Rattle.tg_translate.specs.mirror.Scopes.{Findings}
+use Rattle.tg_instr.specs.declared.operands.Opnd.{Opnd}
+use Rattle.tg_instr.specs.declared.instr.Instr.TheVariants.{Move}
+use Rattle.tg_instr.specs.Lengths.{most_words}
+use Rattle.tg_munch.specs.laws.Lengths.{kept_count}
+use Rattle.tg_correctness.specs.laws.Laws.{unit_words, kept_words}
 use Rattle.tg_pipeline_example.specs.Program.{names, program, notes, escaping, linking}
 use Rattle.tg_pipeline_example.specs.Stages.{
   findings,
@@ -17,6 +22,7 @@ use Rattle.tg_pipeline_example.specs.Stages.{
   as_canonical,
   as_flat,
   as_instructions,
+  as_most_words,
   as_in_frames,
   as_image,
 }
@@ -56,3 +62,15 @@ FramesEnd = IsSo (as_in_frames program found 40)
 
 abbrev pub ImageEnds : Type 0
 ImageEnds = IsSo (as_image program found 2000)
+
+-- Of the constants of the passes, the words for a unit of flat code are those of a move, which an
+-- allocation makes most of; and registers are kept by moves. So the words of the run are within
+-- what its flat code's units pay for.
+pub record WordsAreCounted : Type 0 where
+  pub unit : (to from : Opnd) → most_words (Move to from) ≡ unit_words
+  pub kept : kept_words ≡ unit_words * kept_count
+  pub flat : (as_flat program found 40).work ≡ 571
+  pub words : (as_most_words program found 40).work ≡ 2669
+  pub within :
+      (as_most_words program found 40).work ≤
+      unit_words * (as_flat program found 40).work + kept_words

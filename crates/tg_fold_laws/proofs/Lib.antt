@@ -1,0 +1,4 @@
+mod Examples
+pub mod Accesses
+pub mod Depths
+pub mod Frames
