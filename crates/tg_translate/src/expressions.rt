@@ -9,12 +9,13 @@ ghost use Rattle.tg_syntax.specs.glue.Plain.{
 };
 ghost use Rattle.tg_syntax.specs.glue.Lists.{decs_of};
 ghost use Rattle.tg_syntax.specs.Tree.{no_decs};
-ghost use Rattle.tg_tree.specs.glue.Plain.{plain_tx};
+ghost use Rattle.tg_tree.specs.glue.Plain.{plain_tx, plain_cond, plain_ts};
 ghost use Rattle.tg_tree.specs.glue.Lists.{txs_of, stms_of};
 ghost use Rattle.tg_tree.specs.Tree.{no_txs, no_stms};
 ghost use Rattle.tg_translate.specs.mirror.States.{drawn, state_of};
 ghost use Rattle.tg_translate.specs.mirror.Wants as wants;
 ghost use Rattle.tg_translate.specs.mirror.Wants.{plain_made};
+ghost use Rattle.tg_translate.specs.mirror.Constructs as constructs;
 ghost use Rattle.tg_translate.specs.mirror.Constructs.{plain_storage};
 ghost use Rattle.tg_translate.specs.mirror.Scopes.{findings_of};
 ghost use Rattle.tg_translate.specs.mirror.Translate as translation;
@@ -23,10 +24,10 @@ ghost use Rattle.tg_translate.specs.glue.Parts as parts;
 use crate::calls::literal;
 use crate::findings::Findings;
 use crate::finishing::{
-    array_at, assign_to, call_with, choose, create, declare_as, do_for, do_when, do_while,
-    element_at, end, field_at, fill, hold_at, join_arms, join_tests, negate, operate, place_again,
-    push_dropped, push_field, push_value, put_break, put_number, put_read, put_value_of,
-    stand_behind, take_arm, take_body, take_test, take_value, value_held, variable_at,
+    FirstArm, array_at, assign_to, call_with, choose, create, declare_as, do_for, do_when,
+    do_while, element_at, end, field_at, fill, hold_at, join_arms, join_tests, keep_arm, negate,
+    operate, place_again, push_dropped, push_field, push_value, put_break, put_number, put_read,
+    put_value_of, stand_behind, take_body, take_test, take_value, value_held, variable_at,
 };
 use crate::functions::{begin, declare_functions, inside, result_want};
 use crate::homes::Within;
@@ -74,15 +75,50 @@ pub(crate) fn expression(
         Kind::Read(place) => Ok(read(findings, state, place, within, made)?),
         Kind::Call(f, arguments) => Ok(call(findings, state, *f, arguments, within, made)?),
         Kind::Neg(a) => Ok(negation(findings, state, a, within, made)?),
-        Kind::Binary(_, _, _, _) => Ok(binary(findings, state, e, want, within, made)?),
+        Kind::Binary(op, at, a, b) => {
+            expression(findings, state, a, left_want(*op), within, made)?;
+            Ok(with_left(findings, state, b, *op, *at, want, within, made)?)
+        }
         Kind::Make(_, inits) => Ok(creation(findings, state, inits, within, made)?),
-        Kind::Fill(_, _, _) => Ok(array(findings, state, e, want, within, made)?),
-        Kind::Assign(_, _) => Ok(assignment(findings, state, e, want, within, made)?),
-        Kind::If(_, _, Some(_)) => Ok(choice(findings, state, e, want, within, made)?),
-        Kind::If(_, _, None) => Ok(when(findings, state, e, want, within, made)?),
-        Kind::While(_, _) => Ok(while_loop(findings, state, e, want, within, made)?),
-        Kind::For(_, _, _, _) => Ok(for_loop(findings, state, e, want, within, made)?),
-        Kind::Let(_, _) => Ok(scope(findings, state, e, want, within, made)?),
+        Kind::Fill(_, size, item) => {
+            expression(findings, state, size, Want::Value, within, made)?;
+            Ok(array(findings, state, item, within, made)?)
+        }
+        Kind::Assign(v, a) => {
+            let place = locate(findings, state, v, within, made)?;
+            if begins_with(findings, a, v) {
+                Ok(update(findings, state, a, place, within, made)?)
+            } else {
+                Ok(assign(findings, state, a, place, within, made)?)
+            }
+        }
+        Kind::If(test, this, Some(other)) => {
+            expression(findings, state, test, Want::Test, within, made)?;
+            if is_conjunction(want, other) {
+                return Ok(connective(findings, state, this, Op::And, want, within, made)?);
+            }
+            let arms = arms(state, want)?;
+            let first = first_arm(findings, state, this, arms, within, made)?;
+            Ok(second_arm(findings, state, other, first, want, arms, within, made)?)
+        }
+        Kind::If(test, this, None) => {
+            expression(findings, state, test, Want::Test, within, made)?;
+            Ok(when(findings, state, this, within, made)?)
+        }
+        Kind::While(test, body) => {
+            let test_within = in_test(*within)?;
+            expression(findings, state, test, Want::Test, &test_within, made)?;
+            Ok(while_loop(findings, state, body, within, made)?)
+        }
+        Kind::For(x, low, high, body) => {
+            expression(findings, state, low, Want::Value, within, made)?;
+            let low = low_then(findings, state, high, within, made)?;
+            Ok(for_loop(findings, state, body, *x, low, within, made)?)
+        }
+        Kind::Let(decs, body) => {
+            let before = declarations(findings, state, decs, within, made)?;
+            Ok(scope(findings, state, body, before, want, within, made)?)
+        }
         Kind::Seq(items) => Ok(items_of(findings, state, items, want, within, made)?),
     }
 }
@@ -143,33 +179,8 @@ fn negation(
     Ok(negate(state, made)?)
 }
 
-// An operator. This, and each function below that is handed a whole expression, is called only for
-// an expression of its kind. It has the arguments of `expression`, which calls it last and so holds
-// nothing on the stack meanwhile.
-#[cycle(translation)]
-#[inline(never)]
-fn binary(
-    findings: &Findings,
-    state: &mut TranslationState,
-    e: &Exp,
-    want: Want,
-    within: &Within,
-    made: &mut Made,
-) -> Result<(), Memory>
-    ensures { OnOk result (
-        translation.expression (findings_of findings.now) (plain e.now) want within.now
-        (state_of state.old) ≡ drawn (plain_made made.new) (state_of state.new)) }
-{
-    match &e.kind {
-        Kind::Binary(op, at, a, b) => {
-            expression(findings, state, a, left_want(*op), within, made)?;
-            Ok(with_left(findings, state, b, *op, *at, want, within, made)?)
-        }
-        _ => Err(Memory),
-    }
-}
-
-// An operator whose left side was made.
+// An operator whose left side was made. Each function below that completes a construct of several
+// parts finds what its first part became in `made`, and takes it from there.
 #[cycle(translation)]
 #[inline(never)]
 fn with_left(
@@ -268,58 +279,23 @@ fn creation(
     Ok(create(state, before, &operands, made)?)
 }
 
-// An array.
+// An array, whose size was made.
 #[cycle(translation)]
 #[inline(never)]
 fn array(
     findings: &Findings,
     state: &mut TranslationState,
-    e: &Exp,
-    want: Want,
+    item: &Exp,
     within: &Within,
     made: &mut Made,
 ) -> Result<(), Memory>
     ensures { OnOk result (
-        translation.expression (findings_of findings.now) (plain e.now) want within.now
+        parts.filled (findings_of findings.now) (plain_made made.old) (plain item.now) within.now
         (state_of state.old) ≡ drawn (plain_made made.new) (state_of state.new)) }
 {
-    match &e.kind {
-        Kind::Fill(_, size, item) => {
-            expression(findings, state, size, Want::Value, within, made)?;
-            let size = take_value(state, made)?;
-            expression(findings, state, item, Want::Value, within, made)?;
-            Ok(fill(state, size, made)?)
-        }
-        _ => Err(Memory),
-    }
-}
-
-// An assignment.
-#[cycle(translation)]
-#[inline(never)]
-fn assignment(
-    findings: &Findings,
-    state: &mut TranslationState,
-    e: &Exp,
-    want: Want,
-    within: &Within,
-    made: &mut Made,
-) -> Result<(), Memory>
-    ensures { OnOk result (
-        translation.expression (findings_of findings.now) (plain e.now) want within.now
-        (state_of state.old) ≡ drawn (plain_made made.new) (state_of state.new)) }
-{
-    match &e.kind {
-        Kind::Assign(v, a) => {
-            let place = locate(findings, state, v, within, made)?;
-            if begins_with(findings, a, v) {
-                Ok(update(findings, state, a, place, within, made)?)
-            } else {
-                Ok(assign(findings, state, a, place, within, made)?)
-            }
-        }
-        _ => Err(Memory),
-    }
+    let size = take_value(state, made)?;
+    expression(findings, state, item, Want::Value, within, made)?;
+    Ok(fill(state, size, made)?)
 }
 
 // An assignment to a place.
@@ -396,146 +372,115 @@ fn behind_read(
     }
 }
 
-// A choice between two arms.
+// The first arm of a choice, whose condition was made: both are kept.
 #[cycle(translation)]
 #[inline(never)]
-fn choice(
+fn first_arm(
     findings: &Findings,
     state: &mut TranslationState,
-    e: &Exp,
+    this: &Exp,
+    arms: Want,
+    within: &Within,
+    made: &mut Made,
+) -> Result<Box<FirstArm>, Memory>
+    ensures test { IfOk result (λ first.
+        plain_cond first.value.test ≡ wants.test_of (plain_made made.old)) }
+    ensures arm { IfOk result (λ first.
+        parts.arm_in (findings_of findings.now) (plain this.now) arms within.now
+        (state_of state.old) ≡ drawn (plain_ts first.value.this.value) (state_of state.new)) }
+{
+    let test = take_test(state.alloc, made)?;
+    expression(findings, state, this, arms, within, made)?;
+    Ok(keep_arm(state.alloc, arms, test, made)?)
+}
+
+// The second arm of a choice, and with it the choice.
+#[cycle(translation)]
+#[inline(never)]
+fn second_arm(
+    findings: &Findings,
+    state: &mut TranslationState,
+    other: &Exp,
+    first: Box<FirstArm>,
     want: Want,
+    arms: Want,
     within: &Within,
     made: &mut Made,
 ) -> Result<(), Memory>
     ensures { OnOk result (
-        translation.expression (findings_of findings.now) (plain e.now) want within.now
+        parts.chosen_with (findings_of findings.now) (plain_cond first.value.test)
+        (plain_ts first.value.this.value) (plain other.now) want arms within.now
         (state_of state.old) ≡ drawn (plain_made made.new) (state_of state.new)) }
 {
-    match &e.kind {
-        Kind::If(test, this, Some(other)) => {
-            expression(findings, state, test, Want::Test, within, made)?;
-            if is_conjunction(want, other) {
-                return Ok(connective(findings, state, this, Op::And, want, within, made)?);
-            }
-            Ok(either(findings, state, e, want, within, made)?)
-        }
-        _ => Err(Memory),
-    }
+    expression(findings, state, other, arms, within, made)?;
+    Ok(choose(state.alloc, want, arms, first, made)?)
 }
 
-// One of two arms, whose condition was made.
-#[cycle(translation)]
-#[inline(never)]
-fn either(
-    findings: &Findings,
-    state: &mut TranslationState,
-    e: &Exp,
-    want: Want,
-    within: &Within,
-    made: &mut Made,
-) -> Result<(), Memory>
-    ensures { OnOk result (
-        parts.arms_in (findings_of findings.now) (wants.test_of (plain_made made.old))
-        (plain e.now) want within.now
-        (state_of state.old) ≡ drawn (plain_made made.new) (state_of state.new)) }
-{
-    match &e.kind {
-        Kind::If(_, this, Some(other)) => {
-            let test = take_test(state.alloc, made)?;
-            let arms = arms(state, want)?;
-            expression(findings, state, this, arms, within, made)?;
-            let this = take_arm(state.alloc, arms, made)?;
-            expression(findings, state, other, arms, within, made)?;
-            Ok(choose(state.alloc, want, arms, test, this, made)?)
-        }
-        _ => Err(Memory),
-    }
-}
-
-// What is done where a condition holds.
+// What is done where a condition holds, which was made.
 #[cycle(translation)]
 #[inline(never)]
 fn when(
     findings: &Findings,
     state: &mut TranslationState,
-    e: &Exp,
-    want: Want,
+    this: &Exp,
     within: &Within,
     made: &mut Made,
 ) -> Result<(), Memory>
     ensures { OnOk result (
-        translation.expression (findings_of findings.now) (plain e.now) want within.now
+        parts.when_true (findings_of findings.now) (wants.test_of (plain_made made.old))
+        (plain this.now) within.now
         (state_of state.old) ≡ drawn (plain_made made.new) (state_of state.new)) }
 {
-    match &e.kind {
-        Kind::If(test, this, None) => {
-            expression(findings, state, test, Want::Test, within, made)?;
-            let test = take_test(state.alloc, made)?;
-            expression(findings, state, this, Want::Dropped, within, made)?;
-            Ok(do_when(state.alloc, test, made)?)
-        }
-        _ => Err(Memory),
-    }
+    let test = take_test(state.alloc, made)?;
+    expression(findings, state, this, Want::Dropped, within, made)?;
+    Ok(do_when(state.alloc, test, made)?)
 }
 
-// What is done while a condition holds.
+// What is done while a condition holds, which was made.
 #[cycle(translation)]
 #[inline(never)]
 fn while_loop(
     findings: &Findings,
     state: &mut TranslationState,
-    e: &Exp,
-    want: Want,
+    body: &Exp,
     within: &Within,
     made: &mut Made,
 ) -> Result<(), Memory>
     ensures { OnOk result (
-        translation.expression (findings_of findings.now) (plain e.now) want within.now
+        parts.turned (findings_of findings.now) (wants.test_of (plain_made made.old))
+        (plain body.now) within.now
         (state_of state.old) ≡ drawn (plain_made made.new) (state_of state.new)) }
 {
-    match &e.kind {
-        Kind::While(test, body) => {
-            let test_within = in_test(*within)?;
-            expression(findings, state, test, Want::Test, &test_within, made)?;
-            let test = take_test(state.alloc, made)?;
-            let body_within = in_body(*within);
-            expression(findings, state, body, Want::Dropped, &body_within, made)?;
-            Ok(do_while(state.alloc, test, made)?)
-        }
-        _ => Err(Memory),
-    }
+    let test = take_test(state.alloc, made)?;
+    let body_within = in_body(*within);
+    expression(findings, state, body, Want::Dropped, &body_within, made)?;
+    Ok(do_while(state.alloc, test, made)?)
 }
 
-// What is done for each value of a variable.
+// The last value of a loop's variable, whose first value was made and is kept.
 #[cycle(translation)]
 #[inline(never)]
-fn for_loop(
+fn low_then(
     findings: &Findings,
     state: &mut TranslationState,
-    e: &Exp,
-    want: Want,
+    high: &Exp,
     within: &Within,
     made: &mut Made,
-) -> Result<(), Memory>
-    ensures { OnOk result (
-        translation.expression (findings_of findings.now) (plain e.now) want within.now
-        (state_of state.old) ≡ drawn (plain_made made.new) (state_of state.new)) }
+) -> Result<Box<Tx>, Memory>
+    ensures { IfOk result (λ low.
+        parts.low_then (findings_of findings.now) (plain_made made.old) (plain high.now) within.now
+        (state_of state.old) ≡
+        drawn (record { low = plain_tx low.value; high = plain_made made.new }) (state_of state.new)) }
 {
-    match &e.kind {
-        Kind::For(x, low, high, body) => {
-            expression(findings, state, low, Want::Value, within, made)?;
-            let low = take_value(state, made)?;
-            expression(findings, state, high, Want::Value, within, made)?;
-            Ok(counted(findings, state, body, *x, low, within, made)?)
-        }
-        _ => Err(Memory),
-    }
+    let low = take_value(state, made)?;
+    expression(findings, state, high, Want::Value, within, made)?;
+    Ok(low)
 }
 
 // What is done for each value of a variable, whose last one was made.
 #[cycle(translation)]
 #[inline(never)]
-fn counted(
+fn for_loop(
     findings: &Findings,
     state: &mut TranslationState,
     body: &Exp,
@@ -571,56 +516,39 @@ fn locate(
         (state_of state.old) ≡ drawn (plain_storage p.value) (state_of state.new)) }
 {
     match place {
-        Var::Simple(x) => variable_at(state, within, findings.meaning(x.span.from)),
-        Var::Field(of, field) => field_of(findings, state, of, *field, within, made),
-        Var::Index(_, _) => element_of(findings, state, place, within, made),
+        Var::Simple(x) => Ok(variable_at(state, within, findings.meaning(x.span.from))?),
+        Var::Field(of, field) => {
+            let of = locate(findings, state, of, within, made)?;
+            let number = field_number(findings.meaning(field.span.from));
+            Ok(field_at(state, number, of)?)
+        }
+        Var::Index(of, index) => {
+            let of = locate(findings, state, of, within, made)?;
+            Ok(element_of(findings, state, index, of, within, made)?)
+        }
     }
 }
 
-// The place of a field of a record.
-#[cycle(translation)]
-#[inline(never)]
-fn field_of(
-    findings: &Findings,
-    state: &mut TranslationState,
-    of: &Var,
-    field: Ident,
-    within: &Within,
-    made: &mut Made,
-) -> Result<Box<Storage>, Memory>
-    ensures { IfOk result (λ p.
-        parts.field_in (findings_of findings.now) (plain_var of.now) field within.now
-        (state_of state.old) ≡ drawn (plain_storage p.value) (state_of state.new)) }
-{
-    let place = locate(findings, state, of, within, made)?;
-    let number = field_number(findings.meaning(field.span.from));
-    Ok(field_at(state, number, place)?)
-}
-
-// The place of an element of an array.
+// The place of an element of the array that stands in a place.
 #[cycle(translation)]
 #[inline(never)]
 fn element_of(
     findings: &Findings,
     state: &mut TranslationState,
-    place: &Var,
+    index: &Exp,
+    of: Box<Storage>,
     within: &Within,
     made: &mut Made,
 ) -> Result<Box<Storage>, Memory>
     ensures { IfOk result (λ p.
-        translation.locate (findings_of findings.now) (plain_var place.now) within.now
+        parts.indexed (findings_of findings.now) (constructs.read (plain_storage of.value))
+        (plain index.now) within.now
         (state_of state.old) ≡ drawn (plain_storage p.value) (state_of state.new)) }
 {
-    match place {
-        Var::Index(of, index) => {
-            let of = locate(findings, state, of, within, made)?;
-            let array = array_at(state.alloc, of)?;
-            expression(findings, state, index, Want::Value, within, made)?;
-            let direct = assigns_nothing(index);
-            Ok(element_at(state, direct, array, made)?)
-        }
-        _ => Err(Memory),
-    }
+    let array = array_at(state.alloc, of)?;
+    expression(findings, state, index, Want::Value, within, made)?;
+    let direct = assigns_nothing(index);
+    Ok(element_at(state, direct, array, made)?)
 }
 
 // Arguments, from the left.
@@ -672,29 +600,25 @@ fn fields(
     Ok(operands)
 }
 
-// Expressions in the scope of declarations.
+// Expressions in the scope of declarations, whose statements stand before them.
 #[cycle(translation)]
 #[inline(never)]
 fn scope(
     findings: &Findings,
     state: &mut TranslationState,
-    e: &Exp,
+    body: &Exps,
+    before: Box<Vec<Ts>>,
     want: Want,
     within: &Within,
     made: &mut Made,
 ) -> Result<(), Memory>
     ensures { OnOk result (
-        translation.expression (findings_of findings.now) (plain e.now) want within.now
+        parts.sequence_in (findings_of findings.now) (plain_exps body.now) want
+        (stms_of before.value.items) within.now
         (state_of state.old) ≡ drawn (plain_made made.new) (state_of state.new)) }
 {
-    match &e.kind {
-        Kind::Let(decs, body) => {
-            let mut before = Vec::new(state.alloc);
-            declarations(findings, state, decs, &mut before, within, made)?;
-            Ok(sequence(findings, state, body, &mut before, want, within, made)?)
-        }
-        _ => Err(Memory),
-    }
+    let mut before = Box::into_inner(before);
+    Ok(sequence(findings, state, body, &mut before, want, within, made)?)
 }
 
 // Expressions, one after another.
@@ -747,26 +671,26 @@ fn sequence(
     Ok(stand_behind(state, want, before, made)?)
 }
 
-// The statements of declarations, after others.
+// The statements of declarations.
 #[cycle(translation)]
 #[inline(never)]
 fn declarations(
     findings: &Findings,
     state: &mut TranslationState,
     decs: &Decs,
-    before: &mut Vec<Ts>,
     within: &Within,
     made: &mut Made,
-) -> Result<(), Memory>
-    ensures { OnOk result (
-        translation.declarations (findings_of findings.now) (decs_of decs.now.items.items)
-        (stms_of before.old.items) within.now
-        (state_of state.old) ≡ drawn (stms_of before.new.items) (state_of state.new)) }
+) -> Result<Box<Vec<Ts>>, Memory>
+    ensures { IfOk result (λ before.
+        translation.declarations (findings_of findings.now) (decs_of decs.now.items.items) no_stms
+        within.now
+        (state_of state.old) ≡ drawn (stms_of before.value.items) (state_of state.new)) }
 {
+    let mut before = Vec::new(state.alloc);
     for dec in &decs.items {
-        declaration(findings, state, dec, before, within, made)?;
+        declaration(findings, state, dec, &mut before, within, made)?;
     }
-    Ok(())
+    Ok(Box::new(state.alloc, before)?)
 }
 
 // A declaration.

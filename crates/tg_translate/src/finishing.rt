@@ -107,14 +107,37 @@ pub(crate) fn take_test(alloc: Global, made: &mut Made) -> Result<Box<Cond>, Mem
     Ok(Box::new(alloc, test)?)
 }
 
+/// The condition of a choice and its first arm.
+#[derive(Drop)]
+pub(crate) struct FirstArm {
+    pub(crate) test: Cond,
+    pub(crate) this: Box<Ts>,
+}
+
 /// The statement of an arm, as a part of a choice.
-#[inline(never)]
-pub(crate) fn take_arm(alloc: Global, arms: Want, made: &mut Made) -> Result<Box<Ts>, Memory>
+fn take_arm(alloc: Global, arms: Want, made: &mut Made) -> Result<Box<Ts>, Memory>
     ensures { IfOk result (λ s.
         plain_ts s.value ≡ wants.as_statement arms (plain_made made.old)) }
 {
     let done = as_statement(alloc, arms, take(made))?;
     Ok(Box::new(alloc, done)?)
+}
+
+/// The condition of a choice and its first arm, which was made, are kept.
+#[inline(never)]
+pub(crate) fn keep_arm(
+    alloc: Global,
+    arms: Want,
+    test: Box<Cond>,
+    made: &mut Made,
+) -> Result<Box<FirstArm>, Memory>
+    ensures test { IfOk result (λ first. first.value.test ≡ test.value) }
+    ensures arm { IfOk result (λ first.
+        plain_ts first.value.this.value ≡ wants.as_statement arms (plain_made made.old)) }
+{
+    let this = take_arm(alloc, arms, made)?;
+    let test = Box::into_inner(test);
+    Ok(Box::new(alloc, FirstArm { test, this })?)
 }
 
 /// What was made stands after others, without its value.
@@ -298,21 +321,16 @@ pub(crate) fn choose(
     alloc: Global,
     want: Want,
     arms: Want,
-    test: Box<Cond>,
-    this: Box<Ts>,
+    first: Box<FirstArm>,
     made: &mut Made,
 ) -> Result<(), Memory>
     ensures { OnOk result (plain_made made.new ≡
-        wants.deliver want arms (tree.If (plain_cond test.value) (plain_ts this.value)
-        (wants.as_statement arms (plain_made made.old)))) }
+        wants.deliver want arms (tree.If (plain_cond first.value.test)
+        (plain_ts first.value.this.value) (wants.as_statement arms (plain_made made.old)))) }
 {
     let other = take_arm(alloc, arms, made)?;
-    let all = deliver(
-        alloc,
-        want,
-        arms,
-        Ts::If(Box::into_inner(test), this, other),
-    )?;
+    let FirstArm { test, this } = Box::into_inner(first);
+    let all = deliver(alloc, want, arms, Ts::If(test, this, other))?;
     put(made, all);
     Ok(())
 }

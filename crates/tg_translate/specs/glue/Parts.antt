@@ -4,9 +4,9 @@ use Rattle.tg_syntax.specs.declared.tokens.Ident.{Ident}
 use Rattle.tg_syntax.specs.declared.trees.Op.{Op}
 use Rattle.tg_syntax.specs.declared.trees.FunDec.{FunDec}
 use Rattle.tg_syntax.specs.glue.Plain.{plain}
-use Rattle.tg_syntax.specs.Tree as source
 use Rattle.tg_syntax.specs.Tree.{Exp, LValue, Exps, Inits}
-use Rattle.tg_tree.specs.Tree.{Tx, Const, tx, Cond, Ts, Stms, Txs, no_txs}
+use Rattle.tg_tree.specs.Tree.{Tx, tx, Cond, Ts, If, Stms, Txs, no_txs}
+use Rattle.tg_tree.specs.Forms.{nothing}
 use Rattle.tg_tree.specs.glue.Lists.{join_txs}
 use Rattle.tg_typecheck.specs.declared.notes.Means.{Means}
 use Rattle.tg_translate.specs.declared.wants.Want.{Want}
@@ -19,7 +19,9 @@ use Rattle.tg_translate.specs.mirror.Wants.{
   done,
   value_of,
   value_from,
+  arm_from,
   statement_from,
+  deliver,
   followed,
   behind,
 }
@@ -27,17 +29,17 @@ use Rattle.tg_translate.specs.mirror.Constructs.{
   Storage,
   read,
   none_held,
-  field_place,
+  element_place,
   make_record,
   make_array,
   operation,
   negation,
+  repeat_while,
   in_body,
   count,
 }
 use Rattle.tg_translate.specs.mirror.Scopes.{
   Findings,
-  field_number,
   compares_strings,
   call,
   declare_variable,
@@ -47,7 +49,6 @@ use Rattle.tg_translate.specs.mirror.Functions.{at_of, body}
 use Rattle.tg_translate.specs.mirror.Translate.{
   connective,
   with_left,
-  chosen_arm,
   assigned,
   updated,
   declaration_of,
@@ -82,6 +83,11 @@ negated x = give (value (negation x))
 abbrev pub filled_with : (size : Tx) → (item : Tx) → Translates Made
 filled_with size item = give (value (make_array size item))
 
+-- the first value of a loop's variable, and what its last one became
+pub record Bounds : Type 0 where
+  pub low : Tx
+  pub high : Made
+
 abbrev pub called_with : Within → Option Means → Txs → Translates Made
 called_with within meaning xs = do
   x ← call within meaning xs
@@ -104,11 +110,6 @@ module _ (findings : Findings) where
   read_in v within = do
     place ← locate findings v within
     give (value (read place))
-
-  abbrev pub field_in : LValue → Ident → Within → Translates Storage
-  field_in v f within = do
-    place ← locate findings v within
-    field_place (field_number (findings.meaning (at_of f))) (read place)
 
   abbrev pub negation_in : Exp → Within → Translates Made
   negation_in a within = do
@@ -134,24 +135,58 @@ module _ (findings : Findings) where
     all ← fields findings inits (inits_assign_nothing inits) none_held within
     make_record all
 
+  abbrev pub filled : (size : Made) → Exp → Within → Translates Made
+  filled size item within = do
+    x ← value_of size
+    y ← value_in item within
+    filled_with x y
+
   abbrev pub assigned_in : Storage → Exp → Within → Translates Ts
   assigned_in place e within = assigned place (λ v. expression findings e v within)
 
   abbrev pub updated_in : Storage → Exp → Within → Translates Ts
   updated_in place e within = updated place (λ x v. behind_read findings e x v within)
 
-  -- the arms of a choice, whose condition is known
-  abbrev pub arms_in : Cond → Exp → Want → Within → Translates Made
-  arms_in c (source.If _ _ a b) w within =
-      chosen_arm w c (λ v. expression findings a v within) (λ v. expression findings b v within)
-  arms_in c _ w within = give (value (Const 0))
+  abbrev pub arm_in : Exp → Want → Within → Translates Ts
+  arm_in e arms within = arm_from arms (expression findings e arms within)
+
+  -- a choice whose second arm is left
+  abbrev pub chosen_with : Cond → Ts → (other : Exp) → (want arms : Want) → Within → Translates Made
+  chosen_with c s other w v within = do
+    t ← arm_in other v within
+    give (deliver w v (If c s t))
+
+  abbrev pub when_true : Cond → Exp → Within → Translates Made
+  when_true c a within = do
+    s ← statement_in a within
+    give (done (If c s nothing))
+
+  abbrev pub turned : Cond → Exp → Within → Translates Made
+  turned c a within = do
+    s ← statement_in a (in_body within)
+    give (done (repeat_while c s))
+
+  abbrev pub indexed : (array : Tx) → Exp → Within → Translates Storage
+  indexed array e within = do
+    y ← value_in e within
+    element_place (assigns_nothing e) array y
+
+  abbrev pub low_then : (low : Made) → Exp → Within → Translates Bounds
+  low_then low e within = do
+    x ← value_of low
+    m ← expression findings e want.Value within
+    give (record { low = x; high = m })
+
+  abbrev pub counted : Ident → (low high : Tx) → Exp → Within → Translates Made
+  counted i x y a within = do
+    home ← declare_variable (findings.escapes (at_of i)) within.level (at_of i)
+    turn ← statement_in a (in_body within)
+    done_of (count home x y turn)
 
   abbrev pub counted_to : Ident → (low : Tx) → (high : Made) → Exp → Within → Translates Made
   counted_to i x high a within = do
     y ← value_of high
-    home ← declare_variable (findings.escapes (at_of i)) within.level (at_of i)
-    turn ← statement_in a (in_body within)
-    done_of (count home x y turn)
+    counted i x y a within
 
   abbrev pub sequence_in : Exps → Want → Stms → Within → Translates Made
   sequence_in es w before within = do

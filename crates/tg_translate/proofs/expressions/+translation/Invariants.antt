@@ -1,5 +1,5 @@
 use Rattle.std.proofs.Common.{◌≡◌, ◌+◌, [], length}
-use Rattle.tg_tree.specs.Tree.{Const, no_txs}
+use Rattle.tg_tree.specs.Tree.{Const, no_txs, no_stms}
 use Rattle.tg_tree.specs.glue.Lists.{txs_of, stms_of}
 use Rattle.tg_translate.specs.mirror.States.{state_of}
 use Rattle.tg_translate.specs.mirror.Wants.{value}
@@ -27,7 +27,7 @@ invariant-sequence-loop-e l = record {
 
 abbrev pub invariant-declarations-loop-dec : goal.invariant-declarations-loop-dec
 invariant-declarations-loop-dec l =
-    WalkedTo (declaration_step (findings_of l.findings) l.within) l.dec-items l.dec-index (stms_of l.fn.before.items) (state_of l.fn.state)
+    WalkedTo (declaration_step (findings_of l.findings) l.within) l.dec-items l.dec-index no_stms (state_of l.fn.state)
     (stms_of l.before.items) (state_of l.state)
 
 abbrev pub invariant-bodies-loop-function : goal.invariant-bodies-loop-function
