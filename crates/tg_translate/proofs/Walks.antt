@@ -118,16 +118,12 @@ module _ (findings : Findings) (within : Within) where
       (λ _ t. together (λ _. declarations findings rest before within) (λ _. give before) (λ b. declarations findings rest b within)
       (bodies findings (plain_functions fs) s.label within t) (λ _ _. refl))
 
-  declarations_in : (ds : List CodeDec) (before : Stms) (s : TranslationState) →
+  pub declarations_are : (ds : List CodeDec) (before : Stms) (s : TranslationState) →
       declarations findings (decs_of ds) before within s ≡ in_turn declaration_step ds before s
-  declarations_in [] before s = refl
-  declarations_in (d ∷ ds) before s =
+  declarations_are [] before s = refl
+  declarations_are (d ∷ ds) before s =
       dec_then d (decs_of ds) before s ∙ alike (λ b. declarations findings (decs_of ds) b within) (in_turn declaration_step ds)
-      (declarations findings (plain_dec d no_decs) before within s) (λ b t. declarations_in ds b t)
-
-  pub declarations_are : (ds : List CodeDec) (s : TranslationState) →
-      declarations findings (decs_of ds) no_stms within s ≡ in_turn declaration_step ds no_stms s
-  declarations_are ds s = declarations_in ds no_stms s
+      (declarations findings (plain_dec d no_decs) before within s) (λ b t. declarations_are ds b t)
 
   bodies_in : (fs : List CodeFunDec) (label : ℕ) (s : TranslationState) →
       bodies findings (functions_of fs) label within s ≡ after (in_turn body_step fs label s) (λ _. give tt)

@@ -1,4 +1,4 @@
-ghost use Rattle.std.specs.Prelude.{◌≡◌, IfOk};
+ghost use Rattle.std.specs.Prelude.{◌≡◌, IfOk, OnOk};
 ghost use Rattle.tg_tree.specs.glue.Plain.{plain_tx};
 ghost use Rattle.tg_tree.specs.glue.Lists.{txs_of};
 ghost use Rattle.tg_tree.specs.Memory as memory;
@@ -6,6 +6,7 @@ ghost use Rattle.tg_translate.specs.mirror.States.{drawn, state_of};
 ghost use Rattle.tg_translate.specs.mirror.Wants.{plain_made};
 ghost use Rattle.tg_translate.specs.mirror.Scopes as scopes;
 
+use crate::finishing::put;
 use crate::homes::{Callee, Within};
 use crate::places::frame_at;
 use crate::states::TranslationState;
@@ -74,15 +75,22 @@ fn call_declared(
     }
 }
 
-/// A string that stands in the program: a word of length and the bytes.
-pub(crate) fn literal(state: &mut TranslationState, bytes: &Bytes) -> Result<Made, Memory>
-    ensures { IfOk result (λ m. scopes.literal bytes.now (state_of state.old) ≡
-        drawn (plain_made m) (state_of state.new)) }
+/// A string that stands in the program, a word of length and the bytes, is put where what is made
+/// comes.
+#[inline(never)]
+pub(crate) fn literal(
+    state: &mut TranslationState,
+    bytes: &Bytes,
+    made: &mut Made,
+) -> Result<(), Memory>
+    ensures { OnOk result (scopes.literal bytes.now (state_of state.old) ≡
+        drawn (plain_made made.new) (state_of state.new)) }
 {
     let label = state.draw_label()?;
     let text = string_text(state.alloc, bytes.as_slice())?;
     state.literals.push(Literal { label, text })?;
-    Ok(Made::Value(Tx::Address(label)))
+    put(made, Made::Value(Tx::Address(label)));
+    Ok(())
 }
 
 fn string_text(alloc: Global, bytes: &[u8]) -> Result<Bytes, Memory>

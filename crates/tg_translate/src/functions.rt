@@ -37,6 +37,7 @@ fn asked(
 }
 
 /// A function's text begins: with a frame of its own, and with its parameters declared.
+#[inline(never)]
 pub(crate) fn begin(
     findings: &Findings,
     state: &mut TranslationState,
@@ -44,18 +45,18 @@ pub(crate) fn begin(
     link_in_slot: bool,
     params: &[Param],
     level: u32,
-) -> Result<Outer, Memory>
+) -> Result<Box<Outer>, Memory>
     ensures begun { OnOk result (
         functions.begun (findings_of findings.now).escapes label.0 link_in_slot level params.now
         (state_of state.old) ≡ state_of state.new) }
-    ensures functions { IfOk result (λ o. o.functions ≡ state.old.functions) }
-    ensures frame { IfOk result (λ o. o.frame ≡ state.old.frame) }
+    ensures functions { IfOk result (λ o. o.value.functions ≡ state.old.functions) }
+    ensures frame { IfOk result (λ o. o.value.frame ≡ state.old.frame) }
 {
     let alloc = state.alloc;
     let asked = asked(alloc, findings, link_in_slot, params)?;
     let frame = frame_of(alloc, label, &asked)?;
     declare_params(&mut state.homes, level, params, frame.params.as_slice())?;
-    Ok(state.open(frame))
+    Ok(Box::new(alloc, state.open(frame))?)
 }
 
 // The homes of parameters are those after the static link's.
@@ -80,6 +81,7 @@ fn declare_params(
 
 /// The functions of a group may call each other. Each draws a label, and the group's functions are
 /// declared in a function of this level.
+#[inline(never)]
 pub(crate) fn declare_functions(
     state: &mut TranslationState,
     level: u32,

@@ -10,6 +10,7 @@ mod constructs;
 mod creation;
 mod expressions;
 mod findings;
+mod finishing;
 mod functions;
 mod held;
 mod homes;

@@ -92,6 +92,7 @@ pub(crate) fn variable_place(
 }
 
 /// A new variable of the function at work.
+#[inline(never)]
 pub(crate) fn declare_variable(
     findings: &Findings,
     state: &mut TranslationState,
@@ -181,6 +182,16 @@ pub(crate) fn want_for(place: &Storage) -> Want
     match place {
         Storage::InTemp(temp) => Want::Into(*temp),
         Storage::AtAddress(_, _) => Want::Value,
+    }
+}
+
+/// What a variable of the function at work wants of the value that it becomes.
+pub(crate) fn home_want(home: Access) -> Want
+    ensures { result ≡ constructs.want_for (constructs.own_place home) }
+{
+    match home {
+        Access::InTemp(temp) => Want::Into(temp),
+        Access::InFrame(_) => Want::Value,
     }
 }
 

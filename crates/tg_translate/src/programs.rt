@@ -12,12 +12,12 @@ use crate::findings::Findings;
 use crate::functions::closing;
 use crate::homes::Within;
 use crate::states::{TranslationState, frame_of};
-use crate::wants::Want;
+use crate::wants::{Made, Want};
 use std::alloc::Global;
 use tg_base::{Label, Memory};
 use tg_escape::{Escapes, links};
 use tg_syntax::Exp;
-use tg_tree::{Fragments, Ts};
+use tg_tree::{Fragments, Ts, Tx};
 use tg_typecheck::Checked;
 
 /// The label of the program's body. Labels below it are the runtime's.
@@ -64,6 +64,7 @@ fn program_body(findings: &Findings, state: &mut TranslationState, e: &Exp) -> R
         link_in_slot: false,
         leave: 0,
     };
-    let made = expression(findings, state, e, Want::Dropped, outermost)?;
+    let mut made = Made::Value(Tx::Const(0));
+    expression(findings, state, e, Want::Dropped, &outermost, &mut made)?;
     Ok(closing(state, false, made)?)
 }

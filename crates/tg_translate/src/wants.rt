@@ -102,6 +102,7 @@ pub(crate) fn test_of(alloc: Global, made: Made) -> Result<Cond, Memory>
 }
 
 /// Where the values of arms go of which one is taken: into a temporary, or nowhere.
+#[inline(never)]
 pub(crate) fn arms(state: &mut TranslationState, want: Want) -> Result<Want, Memory>
     ensures { IfOk result
         (λ w. wants.arms want (state_of state.old) ≡ drawn w (state_of state.new)) }

@@ -27,8 +27,8 @@ invariant-sequence-loop-e l = record {
 
 abbrev pub invariant-declarations-loop-dec : goal.invariant-declarations-loop-dec
 invariant-declarations-loop-dec l =
-    WalkedTo (declaration_step (findings_of l.findings) l.within) l.dec-items l.dec-index no_stms (state_of l.fn.state) (stms_of l.before.items)
-    (state_of l.state)
+    WalkedTo (declaration_step (findings_of l.findings) l.within) l.dec-items l.dec-index no_stms (state_of l.fn.state)
+    (stms_of l.before.items) (state_of l.state)
 
 abbrev pub invariant-bodies-loop-function : goal.invariant-bodies-loop-function
 invariant-bodies-loop-function l =
