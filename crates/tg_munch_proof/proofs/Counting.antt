@@ -30,6 +30,7 @@ use Rattle.tg_instr.specs.Running.{Units, everywhere, CodePoint, behind, run_cod
 use Rattle.tg_instr.proofs.CodeRuns.{AlikeReturns, AlikeCode, alike_code, code_down, keep_act, keep_begin, code_steps}
 use Rattle.tg_munch_proof.specs.glue.Places.{each_one}
 use Rattle.tg_munch_proof.specs.laws.Chosen.{MunchIsCorrect, CountsAtMost, MunchKeepsCounts, MunchKeepsWords}
+use Rattle.tg_munch_proof.specs.laws.Chosen.{CodeKeepsCounts, CodeKeepsWords}
 use Rattle.tg_munch_proof.specs.laws.Chosen.{added_work, chosen_code}
 
 module _ (most : ℕ) (some : 1 ≤ most) where
@@ -102,6 +103,9 @@ module _ (most : ℕ) (some : 1 ≤ most) where
         stack_top _ _ (record { memory = begin code.literals; input = input })
         (λ c w. simulates_stopping most 0 n w.input (Ended (Exit (pos 0)))))
 
+pub code_counted : CodeKeepsCounts
+code_counted most count some fits code size floor room body input = counted most some count fits code size floor room body input
+
 pub counts_keep : MunchIsCorrect → MunchKeepsCounts
 counts_keep keep most count some fits code size floor room body input may literals bytes has_room =
     subst (λ k. Preserves k (most * added_work) (flat_run code size floor room body input)
@@ -122,6 +126,9 @@ most_is : (one : Instr) → most_words one ≤ 13
 most_is (instr.Move to from) = omega arith
 most_is (instr.Mark m) = omega arith
 most_is _ = omega arith
+
+pub code_in_words : CodeKeepsWords
+code_in_words = code_counted 13 (everywhere most_words) (omega arith) (λ label left one. most_is one)
 
 pub words_keep : MunchKeepsCounts → MunchKeepsWords
 words_keep keep code size floor room body input may literals bytes has_room =

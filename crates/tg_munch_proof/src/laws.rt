@@ -1,4 +1,6 @@
 ghost use Rattle.tg_munch_proof.specs.laws.Chosen.{
+  CodeKeepsCounts,
+  CodeKeepsWords,
   MunchKeepsCounts,
   MunchIsCorrect,
   MunchKeepsWords,
@@ -14,6 +16,14 @@ use tg_munch::code_is_marked;
 pub fn expressions_give_values()
     ensures expressions { ExpressionsGiveValues }
     ensures branches { BranchesCompare }
+{}
+
+/// The laws of counting: whatever the code, each of its runs is one where instructions are counted
+/// otherwise, with the same fuel, output, input left and end. It does at most as many times the
+/// work as one instruction counts at most; thirteen, where it counts the words that come of it.
+pub fn code_keeps_counts()
+    ensures counts { CodeKeepsCounts }
+    ensures words { CodeKeepsWords }
 {}
 
 /// The laws of runs: instructions do what the flat code of their functions did. Each run of that

@@ -7,4 +7,4 @@
 
 mod laws;
 
-pub use laws::{expressions_give_values, munch_is_correct};
+pub use laws::{code_keeps_counts, expressions_give_values, munch_is_correct};

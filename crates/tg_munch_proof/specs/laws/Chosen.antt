@@ -95,6 +95,18 @@ MunchKeepsCounts =
     (flat_run code size floor room body input)
     (code_run count (chosen_code code) size floor room body input)
 
+-- Whatever the code: counted so, it does at most so many times the work that it does where each
+-- instruction counts a unit.
+abbrev pub CodeKeepsCounts : Type 0
+CodeKeepsCounts =
+    (most : ℕ) (count : Units) →
+    1 ≤ most →
+    CountsAtMost most count →
+    (code : Code (List Instr)) (size : ℕ → ℕ) (floor room body : ℕ) (input : List ℕ) →
+    Preserves most 0
+    (code_run each_one code size floor room body input)
+    (code_run count code size floor room body input)
+
 -- Counted in words, they do so many times the work.
 abbrev pub MunchKeepsWords : Type 0
 MunchKeepsWords =
@@ -106,3 +118,11 @@ MunchKeepsWords =
     Preserves unit_words kept_words
     (flat_run code size floor room body input)
     (code_run (everywhere most_words) (chosen_code code) size floor room body input)
+
+-- whatever the code
+abbrev pub CodeKeepsWords : Type 0
+CodeKeepsWords =
+    (code : Code (List Instr)) (size : ℕ → ℕ) (floor room body : ℕ) (input : List ℕ) →
+    Preserves unit_words 0
+    (code_run each_one code size floor room body input)
+    (code_run (everywhere most_words) code size floor room body input)
