@@ -4,7 +4,6 @@ use Rattle.tg_tree.specs.declared.operators.Bin.TheVariants.{Mul}
 use Rattle.tg_tree.specs.declared.operators.Rel.TheVariants.{Equal}
 use Rattle.tg_tree.specs.Tree.{Const, Binary, Compare, Ts, If, Return, Function, Code}
 use Rattle.tg_fold.specs.laws.Meaning.{folded_code}
-use Rattle.tg_compile.specs.declared.passes.Passes.{Passes}
 use Rattle.tg_compile.specs.Prepared.{prepared}
 
 without_folding : (code : Code Ts) → prepared (record { fold = false }) code ≡ code

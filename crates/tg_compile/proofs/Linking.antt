@@ -4,7 +4,7 @@ use Rattle.std.proofs.Common.{length, inl, inr, ◌≤◌}
 use Rattle.std.specs.Prelude.{◌||◌, ◌==◌, ◌+◌, map, not, IsTrue}
 use Rattle.std.specs.List.{Contains, AllPairs, list_all, sum_by}
 use Rattle.std.proofs.lemmas.Bool.{lt-ltb, and_from, and_parts, or_left, or_right}
-use Rattle.std.proofs.lemmas.Bool.Decides.{eqb_tells, nat_tests}
+use Rattle.std.proofs.lemmas.Bool.Decides.{eqb_tells}
 use Rattle.std.proofs.lemmas.List.Sums.{sum_by-cons}
 use Rattle.tg_base.specs.declared.ids.Label.{Label}
 use Rattle.tg_machine_state.specs.State.{most_bytes, padded}

@@ -1,18 +1,18 @@
 -- What passes over trees make of a program: it is no larger, well formed, linked and of words, as the program was.
-use Rattle.std.proofs.Common.{◌≡◌, ◌≢◌, ◌<◌, ℕ, zero, suc, Bool, true, false, List, [], ◌∷◌, ◌++◌, refl, sym, ap, subst, ◌∙◌, arith}
+use Rattle.std.proofs.Common.{◌≡◌, ◌≢◌, zero, suc, Bool, true, false, List, [], ◌∷◌, ◌++◌, refl, sym, ap, subst, ◌∙◌, arith}
 use Rattle.std.specs.Prelude.{map, if◌then◌else◌}
 use Rattle.std.specs.List.{AllPairs, AllZip, Contains}
 use Rattle.tg_frame.specs.declared.frames.Frame.{Frame}
 use Rattle.tg_tree.specs.Tree.{Ts, Function, Literal, Code}
 use Rattle.tg_tree.specs.glue.Plain.{plain_function}
-use Rattle.tg_tree.specs.Named.{Named, function, literal, fault, constant, named_ts, HasWords, IsLinked}
+use Rattle.tg_tree.specs.Named.{Named, function, literal, fault, constant, HasWords, IsLinked}
 use Rattle.tg_fold.specs.mirror.Folding.{folded}
 use Rattle.tg_fold.specs.laws.Laws.{folded_function, FunctionsShrink, ClosedStays, TempsStay, NamesStay, WordsStay}
 use Rattle.tg_fold.specs.laws.Meaning.{folded_code}
 use Rattle.tg_translate_laws.specs.laws.Laws.{names}
 use Rattle.tg_code_bounds.specs.Reduced.{ReducesTo}
 use Rattle.tg_compile.specs.declared.passes.Passes.{Passes}
-use Rattle.tg_compile.specs.Prepared.{prepared, prepared_function}
+use Rattle.tg_compile.specs.Prepared.{prepared_function}
 use Rattle.tg_compile.specs.glue.Passes.{IsWellFormed, PreparedIsWellFormed}
 use Rattle.tg_compile.specs.laws.Prepared.{PreparedIsReduced, LiteralsStay, PreparedIsLinked, PreparedHasWords}
 

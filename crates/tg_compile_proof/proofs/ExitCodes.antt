@@ -1,14 +1,13 @@
 -- The code of an exit is a word: evaluation by results keeps all values small.
-use Rattle.std.proofs.Common.{◌≡◌, ℕ, zero, suc, ◌+◌, ◌^◌, ◌<◌, ◌≤◌, List, [], ◌∷◌, ◌++◌, length, Option, Some, None}
-use Rattle.std.proofs.Common.{Bool, true, false, nat_lt, refl, sym, subst, arith}
+use Rattle.std.proofs.Common.{◌≡◌, ℕ, zero, suc, ◌+◌, ◌^◌, ◌<◌, ◌≤◌, List, [], ◌∷◌, length, Option, Some, None}
+use Rattle.std.proofs.Common.{Bool, true, false, nat_lt, refl, subst, arith}
 use Rattle.std.specs.Prelude.{if◌then◌else◌, take, slice_get}
 use Rattle.std.specs.List.{sum_by}
 use Rattle.std.proofs.lemmas.List.Sums.{sum_by-cons}
-use Rattle.tg_syntax.specs.declared.tokens.Spanned.{Spanned}
 use Rattle.tg_syntax.specs.Tree.{Exp}
 use Rattle.tg_simulation.specs.Bytes.{AreBytes}
-use Rattle.tg_simulation.specs.Outcomes.{End, ended, out_of_fuel, stuck}
-use Rattle.tg_semantics.specs.Values.{Value, Object, Ending, by_exit, by_heap, SourceWorld, add_heap, put_object}
+use Rattle.tg_simulation.specs.Outcomes.{ended}
+use Rattle.tg_semantics.specs.Values.{Value, by_exit, by_heap, SourceWorld, add_heap}
 use Rattle.tg_semantics.specs.Environments.{outermost_entries}
 use Rattle.tg_semantics.specs.Evaluation.{Job, meaning, program}
 use Rattle.tg_semantics.specs.Direct.{RunState, Result, gives, breaks, is_over, Direct, after, after_body, returned, fuelled}
@@ -16,12 +15,10 @@ use Rattle.tg_semantics.specs.Direct.{found, changed, direct, begin, outcome, ev
 use Rattle.tg_translate_laws.specs.Strings.{strings}
 use Rattle.tg_translate_laws.proofs.Fine.{Each, each_append}
 use Rattle.tg_literal_bounds.specs.laws.Laws.{IsTextOf, TreesAreOfWords, StringsAreShort}
-use Rattle.tg_correctness.specs.Images.{AreSizes}
-use Rattle.tg_correctness.specs.Sources.{IsSourceOf}
 use Rattle.tg_compile_proof.specs.laws.TextLaws.{ExitsAreWords}
-use Rattle.tg_compile_proof.proofs.SmallValues.{each_of_all, each_take, each_drop, each_set, each_get, IsByte, HasShortLength, IsShortString}
-use Rattle.tg_compile_proof.proofs.SmallValues.{IsSmallValue, IsSmallObject, IsFitExp, AreFitEntries, outermost_fit, IsFitJob}
-use Rattle.tg_compile_proof.proofs.SmallRuns.{Known, whatever, ExitIsWord, ActionsKeep, run_kept, program_kept}
+use Rattle.tg_compile_proof.proofs.SmallValues.{each_of_all, each_take, each_drop, each_set, each_get, IsByte, HasShortLength}
+use Rattle.tg_compile_proof.proofs.SmallValues.{IsSmallValue, IsSmallObject, IsFitExp, outermost_fit, IsFitJob}
+use Rattle.tg_compile_proof.proofs.SmallRuns.{Known, ExitIsWord, ActionsKeep, run_kept, program_kept}
 
 -- all that a run has is small
 record IsSmallWorld (w : SourceWorld) : Type 0 where

@@ -1,5 +1,5 @@
 -- Passes over trees keep what a program does, and what follows a source goes on to follow it.
-use Rattle.std.proofs.Common.{◌≡◌, ◌≤◌, ◌+◌, ◌*◌, ℕ, Bool, true, false, List, refl, sym, ◌∙◌, subst, arith}
+use Rattle.std.proofs.Common.{◌≡◌, ◌≤◌, ℕ, Bool, true, false, refl, sym, ◌∙◌, subst, arith}
 use Rattle.std.specs.Prelude.{if◌then◌else◌}
 use Rattle.tg_machine_state.specs.declared.ends.RunEnd.{RunEnd}
 use Rattle.tg_machine_state.specs.declared.ends.RunEnd.TheVariants.{StackFull}
@@ -8,8 +8,7 @@ use Rattle.tg_simulation.specs.Runs.{Run}
 use Rattle.tg_simulation.specs.Ran.{Stop, Ended, WantsFuel, Wrong, Ran}
 use Rattle.tg_simulation.specs.Outcomes.{End, ended, out_of_fuel, stuck}
 use Rattle.tg_simulation.specs.Preserving.{Preserves}
-use Rattle.tg_simulation.specs.Agreement.{Source, Fits, Matches, same, cut, unsaid}
-use Rattle.tg_tree.specs.Tree.{Ts, Code}
+use Rattle.tg_simulation.specs.Agreement.{Fits, Matches, same, cut, unsaid}
 use Rattle.tg_tree.specs.Units.{Trees}
 use Rattle.tg_tree.specs.Running.{tree_run}
 use Rattle.tg_fold.specs.laws.Meaning.{folded_code, FoldIsCorrect}

@@ -1,5 +1,5 @@
 -- Functions in the places of others that are no larger: the one of a function, and what of it holds of all.
-use Rattle.std.proofs.Common.{ℕ, zero, suc, ◌≡◌, ◌≤◌, ◌*◌, ◌+◌, ◌%◌, List, [], ◌∷◌, refl, sym, ap, subst, arith}
+use Rattle.std.proofs.Common.{ℕ, zero, suc, ◌≡◌, ◌%◌, List, [], ◌∷◌, refl, ap, subst, arith}
 use Rattle.std.specs.List.{AllZip, Contains}
 use Rattle.tg_tree.specs.Tree.{Ts, Function}
 use Rattle.tg_tree.specs.FrameSizes.{IsSizeOf}

@@ -8,13 +8,13 @@ use Rattle.tg_syntax.specs.declared.trees.Op.{Op}
 use Rattle.tg_syntax.specs.declared.trees.Op.TheVariants.{Plus, Minus, Times, Divide, And, Or}
 use Rattle.tg_syntax.specs.Tree.{Exp, Nil, Break, Int, Text, Read, Call, Neg, Binary, Make, Fill, Assign, If, When, While, For, Let, Seq, LValue, Simple, Field}
 use Rattle.tg_syntax.specs.Tree.{Index, Exps, no_exps, exp, Inits, no_inits, init, Decs, no_decs, types, variable as variable_dec, functions}
-use Rattle.tg_simulation.specs.Outcomes.{End, ended, stuck}
+use Rattle.tg_simulation.specs.Outcomes.{End, ended}
 use Rattle.tg_semantics.specs.declared.standards.Standard.{Standard}
 use Rattle.tg_semantics.specs.declared.standards.Standard.TheVariants.{Print, Flush, Getchar, Ord, Chr, Size, Substring, Concat, Not, Exit}
 use Rattle.tg_semantics.specs.Values.{Value, int, string, nil, reference, nothing, Object, fields, elements, Entry, Env, by_chr, by_exit, Ending}
 use Rattle.tg_semantics.specs.Actions.{Actions}
 use Rattle.tg_semantics.specs.Environments.{Bound, to_variable, to_function, to_standard, find, name_of}
-use Rattle.tg_semantics.specs.Operators.{exact_quotient, is_below, comparison, identity, truth, string_bytes, field_in, element_in, with_field, with_element}
+use Rattle.tg_semantics.specs.Operators.{exact_quotient, is_below, comparison, identity, string_bytes, field_in, element_in, with_field, with_element}
 use Rattle.tg_semantics.specs.Evaluation as E
 use Rattle.tg_semantics.specs.Evaluation.{Location, in_variable, in_field, in_element, Job, run_function, repeat_while, repeat_for, with_variable}
 use Rattle.tg_translate_laws.specs.Strings.{strings, place_strings, exps_strings, inits_strings, decs_strings, bodies_strings}

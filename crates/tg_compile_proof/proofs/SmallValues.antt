@@ -1,13 +1,12 @@
 -- Values, objects and names of a program whose ints are words: ints below 2^32, and strings of fewer bytes than that.
-use Rattle.std.proofs.Common.{◌≡◌, ℕ, zero, suc, ◌+◌, ◌*◌, ◌/◌, ◌^◌, ◌<◌, ◌≤◌, ◌==◌, List, [], ◌∷◌, ◌++◌, length, Option, Some, None, Bool, true, false}
-use Rattle.std.proofs.Common.{nat_lt, refl, sym, subst, arith}
+use Rattle.std.proofs.Common.{◌≡◌, ℕ, zero, suc, ◌^◌, ◌<◌, ◌==◌, List, [], ◌∷◌, ◌++◌, length, Option, Some, None, Bool, true, false}
+use Rattle.std.proofs.Common.{nat_lt, refl, subst, arith}
 use Rattle.std.specs.Prelude.{if◌then◌else◌, slice_get, slice_set, take, drop, replicate, ◌&&◌}
 use Rattle.std.specs.Str.{bytes_eq}
 use Rattle.std.specs.List.{All}
 use Rattle.std.proofs.lemmas.Bool.{ltb-true}
 use Rattle.tg_syntax.specs.OfWords.{OfWords, PlaceOfWords, ExpsOfWords, InitsOfWords, DecsOfWords, BodiesOfWords}
 use Rattle.tg_syntax.specs.Tree.{Exp, LValue, Exps, Inits, Decs, FunDecs, no_functions, function}
-use Rattle.tg_simulation.specs.Bytes.{AreBytes}
 use Rattle.tg_semantics.specs.Values.{Value, int, string, Object, fields, elements, Entry, variable, group, standard, Env}
 use Rattle.tg_semantics.specs.Environments.{SourceFunction, Bound, to_function, function_named, find, name_of}
 use Rattle.tg_semantics.specs.Environments.{standards, standards_of, standard_text, outermost_from, or_beyond, to_variable, to_standard}

@@ -1,6 +1,6 @@
 -- What the passes over trees promise of the form of a program that may be switched on: what they
 -- make of it is no larger.
-use Rattle.std.specs.Prelude.{◌≡◌, List}
+use Rattle.std.specs.Prelude.{◌≡◌}
 use Rattle.std.specs.List.{AllZip}
 use Rattle.tg_tree.specs.Tree.{Ts, Code}
 use Rattle.tg_tree.specs.Named.{HasWords, IsLinked}

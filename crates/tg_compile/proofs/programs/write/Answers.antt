@@ -1,10 +1,8 @@
-use Rattle.std.proofs.Common.{◌<◌, List, sym, ap, subst, ◌∙◌}
+use Rattle.std.proofs.Common.{List, sym, ap, subst, ◌∙◌}
 use Rattle.std.specs.Prelude.{IsTrue}
 use Rattle.std.specs.List.{list_all}
-use Rattle.tg_machine_state.specs.State.{most_words}
 use Rattle.tg_emit.specs.declared.assembly.Line.{Line}
 use Rattle.tg_emit.specs.Conditions.{has_labels}
-use Rattle.tg_emit.specs.mirror.Lines.{words}
 use Rattle.tg_emit.specs.mirror.Text.{text_of}
 use Rattle.tg_emit_laws.specs.Programs.{AreTyped}
 use Rattle.tg_emit_laws.proofs.HasLabels.{emitted_has_labels}
