@@ -11,6 +11,8 @@ use Rattle.tg_instr.specs.declared.instr.Instr.TheVariants as instr
 use Rattle.tg_munch.specs.laws.Lengths.{InstructionsAreFew, CountsWords, WordsAreFew}
 use Rattle.tg_munch.specs.mirror.Bodies.{count, out_of, out_of_statement, out_of_element, outs, munched}
 use Rattle.tg_instr.specs.Lengths.{most_words}
+use Rattle.tg_redundancy.specs.mirror.Known.{known_code}
+use Rattle.tg_redundancy.specs.laws.Laws.{KnownIsShort}
 use Rattle.tg_regalloc.specs.laws.Growth.{AllocationsAreShort, AllocationsGrowLittle}
 use Rattle.tg_code_bounds.specs.laws.Laws.{LinesAreShort, CodeIsShort, FramesAreSmall, FunctionsArePaid}
 
@@ -63,14 +65,16 @@ others_short _ differs = omega arith
 counts_words : CountsWords most_words
 counts_words = record { moves = λ to from. omega arith; others = others_short }
 
-pub code_is_short : LinesAreShort → carried.LengthStays → AllocationsGrowLittle → WordsAreFew → CodeIsShort
-code_is_short lines length_stays grow words_few rule f a may h turned =
+pub code_is_short : LinesAreShort → carried.LengthStays → AllocationsGrowLittle → WordsAreFew → KnownIsShort → CodeIsShort
+code_is_short lines length_stays grow words_few known_short rule f a may h turned =
     let long = length_stays f may in
     let written = lines turned a.done in
     let grown = (grow rule h.code h.frame a h.allocation).short in
-    let same : sum_by most_words h.code.list ≡ sum_by most_words (munched (flattened f)).code = ap (sum_by most_words) h.chooses.list in
+    let same : sum_by most_words h.code.list ≡ sum_by most_words (known_code (munched (flattened f)).code) =
+    ap (sum_by most_words) h.chooses.list in
+    let known = (known_short (munched (flattened f)).code).short in
     let few = words_few most_words (flattened f) counts_words in
-    omega (arith, long, written, grown, same, few)
+    omega (arith, long, written, grown, same, known, few)
 
 pub functions_are_paid : CodeIsShort → FramesAreSmall → FunctionsArePaid
 functions_are_paid code frames rule m f g a level within reduced may h =

@@ -9,6 +9,7 @@ use Rattle.tg_instr.specs.declared.codes.Allocated.{Allocated}
 use Rattle.tg_instr.specs.Codes.{is_allocated, names_registers}
 use Rattle.tg_munch.specs.mirror.Choosing.{Chosen}
 use Rattle.tg_munch.specs.mirror.Bodies.{munched, outs}
+use Rattle.tg_redundancy.specs.mirror.Known.{known_code}
 use Rattle.tg_irc_definition.specs.Policies.{Rule}
 use Rattle.tg_regalloc.specs.declared.allocations.Allocation.{Allocation}
 use Rattle.tg_regalloc.specs.Allocations.{IsAllocation}
@@ -18,14 +19,14 @@ use Rattle.tg_emit.specs.mirror.Lines.{size_of}
 abbrev pub chosen : Function Ts → Chosen (Unit {0})
 chosen f = munched (flattened f)
 
--- such instructions, and the frame of the function then
+-- such instructions with known words and tests, and the frame of the function then
 pub record Chooses (f : Function Ts) (frame : Frame) (code : Code) : Type 0 where
   pub label : frame.label.0 ≡ f.label
   pub params : frame.params ≡ f.params
   pub slots : frame.slots ≡ f.slots
   pub drawn : frame.temps ≡ (flattened f).temps
   pub out : frame.out ≡ outs (flattened f).body
-  pub list : code.list ≡ (chosen f).code
+  pub list : code.list ≡ known_code (chosen f).code
   pub temps : code.temps ≡ (chosen f).drawn.temp
   pub few : code.temps < 16777216
 

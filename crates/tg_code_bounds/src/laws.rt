@@ -11,6 +11,7 @@ ghost use Rattle.tg_code_bounds.specs.laws.Laws.{
 
 use tg_canon_trace_proof::flatten_is_bounded;
 use tg_munch::munch_is_bounded;
+use tg_redundancy::known_is_bounded;
 use tg_regalloc::{allocations_are_short, regalloc_is_bounded};
 use tg_runtime::routines_are_closed;
 use tg_translate_laws::{bodies_are_closed, temporaries_are_drawn, translate_is_bounded};
@@ -30,10 +31,10 @@ pub fn emit_is_bounded()
 {}
 
 /// Laws of an allocation of a function, by any policy. Its code is at most 12 words for each unit
-/// of the length of the function's tree, and 145 more; its frame has at most as many words as the
+/// of the length of the function's tree, and 295 more; its frame has at most as many words as the
 /// tree's needs and twice its length, and 13 more. So where functions are nested 32 deep at most,
 /// and the tree is no larger than what the function is translated to, the code is at most 1,740
-/// words for each node of the function's body, 72 for each of its parameters, and 361 more, and the
+/// words for each node of the function's body, 72 for each of its parameters, and 511 more, and the
 /// frame 1,992 bytes, 84 and 212.
 pub fn functions_are_bounded()
     ensures code { CodeIsShort }
@@ -43,13 +44,14 @@ pub fn functions_are_bounded()
     emit_is_bounded();
     flatten_is_bounded();
     munch_is_bounded();
+    known_is_bounded();
     allocations_are_short();
     regalloc_is_bounded();
 }
 
 /// The laws of a program that the checker accepts, and of the runtime's functions after it, or of
 /// functions in their places that are no larger, whatever is spilled: together they are at most
-/// 1,900 words of code for each node, and 1,000,000 more, which its segment holds; and the frame of
+/// 1,975 words of code for each node, and 1,000,000 more, which its segment holds; and the frame of
 /// each is below 2^29 bytes.
 pub fn programs_are_bounded()
     ensures code { ProgramCodeFits }

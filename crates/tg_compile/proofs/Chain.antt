@@ -27,6 +27,7 @@ use Rattle.tg_asm_text.specs.Texts.{readings_of}
 use Rattle.tg_instr.specs.declared.codes.Allocated.{Allocated}
 use Rattle.tg_instr.specs.declared.codes.Code.{Code as Instructions}
 use Rattle.tg_munch.specs.mirror.Bodies.{munched, outs}
+use Rattle.tg_redundancy.specs.mirror.Known.{known_code}
 use Rattle.tg_irc_definition.specs.Policies.{Rule}
 use Rattle.tg_regalloc.specs.declared.allocations.Allocation.{Allocation}
 use Rattle.tg_regalloc.specs.Allocations.{codes_of}
@@ -178,21 +179,21 @@ flat_params f = refl
 flat_slots : (f : Function Ts) → (flattened f).slots ≡ f.slots
 flat_slots f = refl
 
--- and the instructions that are chosen for it
-pub chooses : (f : Function Ts) (between new : Frame) (flat : List Linear) (code : Instructions) → plain_function between flat ≡ flattened f →
+-- and the instructions that are chosen for it, with known words and tests
+pub chooses : (f : Function Ts) (between new : Frame) (flat : List Linear) (code known : Instructions) → plain_function between flat ≡ flattened f →
     new.label ≡ between.label → new.params ≡ between.params → new.slots ≡ between.slots → new.temps ≡ between.temps → new.out ≡ outs flat →
     code.list ≡ (munched (plain_function between flat)).code → code.temps ≡ (munched (plain_function between flat)).drawn.temp → code.temps < 16777216 →
-    Chooses f new code
-chooses f between new flat code is label params slots drawn out list temps few =
+    known.list ≡ known_code code.list → known.temps ≡ code.temps → Chooses f new known
+chooses f between new flat code known is label params slots drawn out list temps few known_list known_temps =
     record {
       label = ap (λ (l : Label). l.0) label ∙ ap (λ (g : Function (List Linear)). g.label) is ∙ flat_label f;
       params = params ∙ ap (λ (g : Function (List Linear)). g.params) is ∙ flat_params f;
       slots = slots ∙ ap (λ (g : Function (List Linear)). g.slots) is ∙ flat_slots f;
       drawn = drawn ∙ ap (λ (g : Function (List Linear)). g.temps) is;
       out = out ∙ ap (λ (g : Function (List Linear)). outs g.body) is;
-      list = list ∙ ap (λ (g : Function (List Linear)). (munched g).code) is;
-      temps = temps ∙ ap (λ (g : Function (List Linear)). (munched g).drawn.temp) is;
-      few = few;
+      list = known_list ∙ ap known_code (list ∙ ap (λ (g : Function (List Linear)). (munched g).code) is);
+      temps = known_temps ∙ (temps ∙ ap (λ (g : Function (List Linear)). (munched g).drawn.temp) is);
+      few = subst (λ n. n < 16777216) (sym known_temps) few;
     }
 
 -- what a program is compiled to is assembled to the image of its lines

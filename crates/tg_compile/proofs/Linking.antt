@@ -23,7 +23,9 @@ use Rattle.tg_canon.specs.laws.Laws as canon
 use Rattle.tg_canon.specs.mirror.Canon.{linearized}
 use Rattle.tg_trace_schedule.specs.laws.Laws as trace
 use Rattle.tg_munch.specs.Naming.{names_allowed}
+use Rattle.tg_munch.specs.mirror.Bodies.{munched}
 use Rattle.tg_munch.specs.laws.Laws as munch
+use Rattle.tg_redundancy.specs.laws.Laws.{KnownPassesTests}
 use Rattle.tg_irc_definition.specs.Policies.{Rule}
 use Rattle.tg_regalloc.specs.declared.allocations.Allocation.{Allocation}
 use Rattle.tg_regalloc.specs.laws.Explained.{IgnoresOperands, AllocationsKeepTests}
@@ -47,14 +49,15 @@ names_ignore_operands p =
     record { renaming = renamed_keeps p; load = λ to slot. refl; store = λ from slot. refl }
 
 -- the law of all passes
-pub names_no_more : canon.NamesStay → trace.NamesStay → munch.NamesStay → AllocationsKeepTests → CodeNamesNoMore
-names_no_more hoists lays picks keeps p temps zeros f h rule a c =
+pub names_no_more : canon.NamesStay → trace.NamesStay → munch.NamesStay → KnownPassesTests → AllocationsKeepTests → CodeNamesNoMore
+names_no_more hoists lays picks known keeps p temps zeros f h rule a c =
     let hoisted = linearized f.body f.temps in
     let canonical = hoists p f.body f.temps h (λ i low high. temps i) in
     let flat = lays p hoisted.it zeros canonical in
     let P : List Instr → Type 0 = λ code. IsTrue (list_all (names_allowed p) code) in
     keeps rule c.code c.frame a c.allocation (names_allowed p) (names_ignore_operands p)
-    (subst P (sym c.chooses.list) (picks p (flattened f) flat))
+    (subst P (sym c.chooses.list)
+    (known (names_allowed p) (λ to from. refl) (λ mark. refl) (munched (flattened f)).code (picks p (flattened f) flat)))
 
 -- what is there, as the test of a program tells it, and has a code
 those_told : (fs ls : List ℕ) (one : Instr) → names_allowed (is_there fs ls) one ≡ true → names_those fs ls one ≡ true

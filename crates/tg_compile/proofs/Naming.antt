@@ -9,7 +9,8 @@ use Rattle.tg_instr.specs.declared.operands.Opnd.TheVariants.{Temp, Reg}
 use Rattle.tg_instr.specs.Renaming.{named}
 use Rattle.tg_munch.specs.Naming as munch
 use Rattle.tg_munch.specs.laws.Laws.{RegistersAreFixed, SlotsAreBelow}
-use Rattle.tg_instr.specs.Codes.{has_register, names_registers}
+use Rattle.tg_instr.specs.Codes.{has_register, has_slots_below, names_registers}
+use Rattle.tg_redundancy.specs.laws.Laws.{KnownPassesTests}
 use Rattle.tg_regalloc.specs.Conditions.{is_fixed}
 use Rattle.tg_canon_trace_proof.specs.Flattened.{flattened}
 use Rattle.tg_code_bounds.specs.Allocating.{chosen}
@@ -49,6 +50,12 @@ all_are (one ∷ rest) e =
     (one_is one (and_parts (munch.names_registers one) (list_all munch.names_registers rest) e).0)
     (all_are rest (and_parts (munch.names_registers one) (list_all munch.names_registers rest) e).1)
 
-pub own_names : RegistersAreFixed → SlotsAreBelow → CodeNamesItsOwn
-own_names fixed below f h =
-    record { registers = all_are (chosen f).code (fixed (flattened f)); slots = below (flattened f) h }
+-- and known words and tests name no others
+pub own_names : RegistersAreFixed → SlotsAreBelow → KnownPassesTests → CodeNamesItsOwn
+own_names fixed below known f h =
+    record {
+      registers =
+          known (names_registers is_fixed) (λ to from. refl) (λ mark. refl) (chosen f).code
+          (all_are (chosen f).code (fixed (flattened f)));
+      slots = known (has_slots_below f.slots) (λ to from. refl) (λ mark. refl) (chosen f).code (below (flattened f) h);
+    }

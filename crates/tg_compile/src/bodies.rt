@@ -16,6 +16,7 @@ use tg_frame::Frame;
 use tg_instr::Code;
 use tg_irc_definition::SpillPolicy;
 use tg_munch::munch;
+use tg_redundancy::known;
 use tg_regalloc::{Allocation, allocate};
 use tg_trace_schedule::{blocks, trace};
 use tg_tree::{Fragment, Linear, Ts};
@@ -66,8 +67,8 @@ fn fold_body(alloc: Global, one: Fragment) -> Result<Fragment, Memory>
 }
 
 /// The instructions of a body, over temporaries: those of its canonical statements, cut into basic
-/// blocks and laid in traces (Appel, chapters 8 and 9). The frame draws temporaries and gets its
-/// outgoing words.
+/// blocks and laid in traces (Appel, chapters 8 and 9), with known words moved and known tests left
+/// out (chapter 17). The frame draws temporaries and gets its outgoing words.
 pub fn choose(alloc: Global, frame: &mut Frame, body: Ts) -> Result<Code, Memory>
     requires { IsWellFormed (plain_function frame.old (plain_ts body)) }
     ensures { IfOk result (Chooses (plain_function frame.old (plain_ts body)) frame.new) }
@@ -75,7 +76,8 @@ pub fn choose(alloc: Global, frame: &mut Frame, body: Ts) -> Result<Code, Memory
     let flat = flatten(alloc, frame, body)?;
     let code = flat.as_slice();
     flat_code_is_well_marked();
-    Ok(munch(alloc, code, frame)?)
+    let chosen = munch(alloc, code, frame)?;
+    Ok(known(alloc, &chosen)?)
 }
 
 /// The flat code of a body: canonical statements, cut into blocks and laid in traces.

@@ -22,6 +22,7 @@ use tg_canon::canonical_statements;
 use tg_code_bounds::programs_are_bounded;
 use tg_fold::{fold_is_bounded, shapes_stay};
 use tg_munch::code_names_its_own;
+use tg_redundancy::known_names_its_own;
 use tg_regalloc::allocations_keep_tests;
 use tg_runtime::routines_are_closed;
 use tg_trace_schedule::{blocks_are_well_formed, code_is_well_formed};
@@ -78,6 +79,7 @@ pub fn instructions_name_their_own()
     ensures { CodeNamesItsOwn }
 {
     code_names_its_own();
+    known_names_its_own();
 }
 
 /// The code over registers of a function names no function, literal or fault that its body doesn't
@@ -88,6 +90,7 @@ pub(crate) fn code_names_no_more()
     tg_canon::names_stay();
     tg_trace_schedule::names_stay();
     code_names_its_own();
+    known_names_its_own();
     allocations_keep_tests();
 }
 

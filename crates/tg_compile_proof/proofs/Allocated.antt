@@ -18,6 +18,7 @@ use Rattle.tg_instr.specs.declared.codes.Allocated.{Allocated}
 use Rattle.tg_instr.specs.Codes.{names_registers}
 use Rattle.tg_instr.specs.Running.{everywhere, code_run}
 use Rattle.tg_munch_proof.specs.laws.Chosen.{chosen}
+use Rattle.tg_redundancy_proof.specs.laws.Laws.{with_known}
 use Rattle.tg_irc_definition.specs.Policies.{Rule}
 use Rattle.tg_regalloc_proof.specs.Keeping.{AreHeld, Surroundings}
 use Rattle.tg_regalloc.specs.declared.allocations.Allocation.{Allocation}
@@ -39,10 +40,10 @@ few_steps : (one : Instr) → steps_of one ≤ most_steps one
 few_steps (instr.Call label) = omega arith
 few_steps one = omega arith
 
--- an allocation of a function of trees is one of its instructions; its parameters' slots are the
--- frame's, as the type of frames says
+-- an allocation of a function of trees is one of its instructions, with known words and tests; its
+-- parameters' slots are the frame's, as the type of frames says
 allocates : CodeNamesItsOwn → (rule : Rule) (f : Function Ts) (a : Allocation) → IsAllocationOf rule f a →
-    Allocates rule (chosen (flattened f)) a
+    Allocates rule (with_known (chosen (flattened f))) a
 allocates own rule f a h =
     let c = h.chooses in
     let below : slot_bound f.params ≤ f.slots =
@@ -59,7 +60,7 @@ allocates own rule f a h =
 
 all_allocate : CodeNamesItsOwn → (rule : Rule) (fs : List (Function Ts)) (made : List Allocation) →
     AllZip (IsAllocationOf rule) fs made →
-    AllZip (Allocates rule) (map chosen (map laid (map in_blocks (map canonical fs)))) made
+    AllZip (Allocates rule) (map with_known (map chosen (map laid (map in_blocks (map canonical fs))))) made
 all_allocate own rule [] [] h = tt
 all_allocate own rule [] (a ∷ made) h = absurd h
 all_allocate own rule (f ∷ fs) [] h = absurd h

@@ -1,10 +1,14 @@
--- The instructions of a compiled program: choosing them keeps what its flat code does.
+-- The instructions of a compiled program: choosing them, with known words and tests, keeps what its flat code does.
 use Rattle.std.proofs.Common.{ℕ, zero, suc, ◌≡◌, ◌<◌, ◌≤◌, ◌+◌, ◌-◌, List, [], ◌∷◌, map, length}
-use Rattle.std.proofs.Common.{get_or, refl, sym, ap, ◌∙◌, subst, arith}
-use Rattle.std.specs.Prelude.{All}
+use Rattle.std.proofs.Common.{get_or, refl, sym, ap, ◌∙◌, subst, arith, Bool, true, false, Some}
+use Rattle.std.specs.Prelude.{All, ◌==◌, if◌then◌else◌}
 use Rattle.std.specs.List.{Contains}
 use Rattle.tg_machine_state.specs.State.{stack_top, statics_base, heap_base, padded}
+use Rattle.tg_simulation.specs.Runs.{Run}
+use Rattle.tg_simulation.specs.Ran.{Ran}
 use Rattle.tg_simulation.specs.Bytes.{AreBytes}
+use Rattle.tg_simulation.specs.Preserving.{Preserves}
+use Rattle.tg_simulation.proofs.Agreeing.{passes_compose}
 use Rattle.tg_frame.specs.Homes.{slot_bound, temp_bound}
 use Rattle.tg_tree.specs.declared.fragments.Literal.{Literal}
 use Rattle.tg_tree.specs.Tree as tree
@@ -13,17 +17,25 @@ use Rattle.tg_tree.specs.Memory.{statics_of}
 use Rattle.tg_tree.specs.glue.Plain.{plain_literal}
 use Rattle.tg_tree.specs.Named.{named_ts, HasWords}
 use Rattle.tg_tree.specs.FrameSizes.{IsSizeOf}
+use Rattle.tg_tree.specs.Running.{function_of}
 use Rattle.tg_canon.specs.laws.Meaning.{canonical}
 use Rattle.tg_trace_schedule.specs.laws.Carried.{in_blocks}
 use Rattle.tg_trace_schedule.specs.laws.Traced.{laid}
 use Rattle.tg_canon_trace_proof.specs.Flattened.{flattened}
 use Rattle.tg_emit.specs.Ranges.{LiteralFits}
-use Rattle.tg_munch_proof.specs.laws.Chosen.{chosen, MayBeChosen, HasRoom, MunchKeepsWords}
+use Rattle.tg_instr.specs.declared.instr.Instr.{Instr}
+use Rattle.tg_instr.specs.Running.{code_run}
+use Rattle.tg_munch_proof.specs.glue.Places.{each_one}
+use Rattle.tg_munch_proof.specs.laws.Chosen.{chosen, added_work, MayBeChosen, HasRoom, MunchIsCorrect, CodeKeepsWords}
+use Rattle.tg_regalloc_proof.specs.Keeping.{AreHeld, DoesNoMore, Holds, Surroundings}
+use Rattle.tg_redundancy_proof.specs.laws.Laws.{KnownIsCorrect}
+use Rattle.tg_correctness.specs.laws.Laws.{unit_words}
 use Rattle.tg_compile_proof.specs.laws.Lowering.{MayBeLowered, FlatCodeMayBeChosen}
 use Rattle.tg_emit_proof.specs.LinesRun as lines
 use Rattle.tg_emit_proof.specs.laws.Emission.{FitRegions}
 use Rattle.tg_emit_proof.proofs.Statics as emitted
-use Rattle.tg_compile_proof.specs.Forms.{Compilation, IsCompiled, registers, flat_code, frames}
+use Rattle.tg_compile_proof.specs.Forms.{Compilation, IsCompiled, registers, flat_code, chosen_instructions, instructions, frames}
+use Rattle.tg_compile_proof.specs.Forms.{flat_form, instruction_form}
 use Rattle.tg_compile_proof.specs.laws.Laws.{KeepsChoice, ChoiceIsKept}
 use Rattle.tg_compile_proof.proofs.Compiled.{PairAt, pair, sized, same_there, compiled_may_run}
 
@@ -46,6 +58,25 @@ bytes_at (x ∷ ls) h l (zero, lt, e) =
     subst (λ (y : tree.Literal). AreBytes y.text) e (h 0 x (omega arith)).text
 bytes_at (x ∷ ls) h l (suc k, lt, e) =
     bytes_at ls (λ i d m. h (suc i) d (omega (arith, m))) l (k, omega (arith, lt), e)
+
+-- frames that have the sizes of functions hold their slots and the words for arguments
+held : (size : ℕ → ℕ) (gs : List (Function (List Linear))) →
+    ((g : Function (List Linear)) → Contains gs g → IsSizeOf (chosen g) (size g.label)) → AreHeld size (map chosen gs)
+held size [] sized label f e = cc
+held size (g ∷ gs) sized label f e =
+    by (g.label == label) e (held size gs (λ h there. sized h (suc there.0, (let l = there.1 in omega (arith, l)), there.2)) label f)
+  where
+    same : Some (chosen g) ≡ Some f → chosen g ≡ f
+    same i = cc
+
+    by : (b : Bool) → (if b then Some (chosen g) else function_of label (map chosen gs)) ≡ Some f →
+        (function_of label (map chosen gs) ≡ Some f → Holds size f) → Holds size f
+    by true i later = subst (λ (h : Function (List Instr)). Holds size h) (same i) (sized g (zero, omega arith, refl)).holds
+    by false i later = later i
+
+-- what does no more with as much fuel is preserved
+preserved : {before after : Run Ran} → DoesNoMore before after → Preserves 1 0 before after
+preserved same = record { there = λ n right. (n, omega arith, same n right) }
 
 module _ (may : FlatCodeMayBeChosen) (p : Compilation) (c : IsCompiled p)
     (words : HasWords (λ body. named_ts body []) p.trees) where
@@ -121,12 +152,41 @@ module _ (may : FlatCodeMayBeChosen) (p : Compilation) (c : IsCompiled p)
       let h = fit.heap_most in let s = fit.stack_most in
       record { sizes = all_sized; statics = statics_end; heap = omega (arith, h, s); stack = omega arith }
 
-  kept : MunchKeepsWords → (input : List ℕ) (heap stack : ℕ) → AreBytes input → FitRegions heap stack →
-      KeepsChoice p input heap stack
-  kept keep input heap stack bytes fit =
-      keep (flat_code p) (frames p) (stack_top - stack) heap 32 input all_chosen
-      (λ l there. bytes_at p.literals c.typed.literals l (subst (λ ls. Contains ls l) (sym c.literals) there)) bytes
-      (has_room heap stack fit)
+  module _ (input : List ℕ) (heap stack : ℕ) where
+    -- the runs of instructions, each of which counts a unit
+    abbrev chosen_form : Run Ran
+    chosen_form = code_run each_one (chosen_instructions p) (frames p) (stack_top - stack) heap 32 input
 
-pub choice_is_kept : FlatCodeMayBeChosen → MunchKeepsWords → ChoiceIsKept
-choice_is_kept may keep p c words input heap stack bytes fit = kept may p c words keep input heap stack bytes fit
+    abbrev known_form : Run Ran
+    known_form = code_run each_one (instructions p) (frames p) (stack_top - stack) heap 32 input
+
+    chosen_kept : MunchIsCorrect → AreBytes input → FitRegions heap stack → Preserves 1 added_work (flat_form p input heap stack) chosen_form
+    chosen_kept keep bytes fit =
+        keep (flat_code p) (frames p) (stack_top - stack) heap 32 input all_chosen
+        (λ l there. bytes_at p.literals c.typed.literals l (subst (λ ls. Contains ls l) (sym c.literals) there)) bytes
+        (has_room heap stack fit)
+
+    known_kept : KnownIsCorrect → Preserves 1 0 chosen_form known_form
+    known_kept keep =
+        preserved (keep (chosen_instructions p).functions surroundings (held (frames p) (flat_code p).functions all_sized))
+      where
+        surroundings : Surroundings
+        surroundings = record {
+          literals = p.trees.literals;
+          size = frames p;
+          floor = stack_top - stack;
+          room = heap;
+          body = 32;
+          input = input;
+        }
+
+    kept : MunchIsCorrect → KnownIsCorrect → CodeKeepsWords → AreBytes input → FitRegions heap stack → KeepsChoice p input heap stack
+    kept choice known words_kept bytes fit =
+        passes_compose 1 added_work unit_words 0 (flat_form p input heap stack) chosen_form (instruction_form p input heap stack)
+        (chosen_kept choice bytes fit)
+        (passes_compose 1 0 unit_words 0 chosen_form known_form (instruction_form p input heap stack) (known_kept known)
+        (words_kept (instructions p) (frames p) (stack_top - stack) heap 32 input))
+
+pub choice_is_kept : FlatCodeMayBeChosen → MunchIsCorrect → KnownIsCorrect → CodeKeepsWords → ChoiceIsKept
+choice_is_kept may choice known words_kept p c words input heap stack bytes fit =
+    kept may p c words input heap stack choice known words_kept bytes fit

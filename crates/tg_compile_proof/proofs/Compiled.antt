@@ -18,6 +18,7 @@ use Rattle.tg_instr.proofs.Tests.{left_holds, right_holds, both_hold}
 use Rattle.tg_instr.proofs.Colours.{of_colours}
 use Rattle.tg_munch.specs.mirror.Bodies.{outs}
 use Rattle.tg_munch_proof.specs.laws.Chosen.{chosen}
+use Rattle.tg_redundancy_proof.specs.laws.Laws.{with_known}
 use Rattle.tg_irc_definition.specs.Policies.{Rule}
 use Rattle.tg_regalloc.specs.declared.allocations.Allocation.{Allocation}
 use Rattle.tg_regalloc.specs.Allocations.{codes_of}
@@ -80,14 +81,19 @@ pair_at rule (f ∷ fs) (a ∷ made) h (suc k) l =
       allocated = t.allocated;
     }
 
--- the instructions that are chosen for it stand at its place
-chosen_at : (fs : List (Function Ts)) (k : ℕ) (f : Function Ts) → k < length fs → get_or fs k f ≡ f →
-    get_or (map chosen (map laid (map in_blocks (map canonical fs)))) k (chosen (flattened f)) ≡ chosen (flattened f)
-chosen_at [] k f l e = absurd (omega (arith, l))
-chosen_at (g ∷ fs) zero f l e = ap (λ x. chosen (flattened x)) e
-chosen_at (g ∷ fs) (suc k) f l e = chosen_at fs k f (omega (arith, l)) e
+-- the instructions that are chosen for it, with known words and tests
+abbrev known_of : Function Ts → Function (List Instr)
+known_of f = with_known (chosen (flattened f))
 
-no_more : (fs : List (Function Ts)) → length (map chosen (map laid (map in_blocks (map canonical fs)))) ≡ length fs
+-- stand at its place
+known_at : (fs : List (Function Ts)) (k : ℕ) (f : Function Ts) → k < length fs → get_or fs k f ≡ f →
+    get_or (map with_known (map chosen (map laid (map in_blocks (map canonical fs))))) k (known_of f) ≡ known_of f
+known_at [] k f l e = absurd (omega (arith, l))
+known_at (g ∷ fs) zero f l e = ap known_of e
+known_at (g ∷ fs) (suc k) f l e = known_at fs k f (omega (arith, l)) e
+
+no_more : (fs : List (Function Ts)) →
+    length (map with_known (map chosen (map laid (map in_blocks (map canonical fs))))) ≡ length fs
 no_more [] = refl
 no_more (f ∷ fs) = ap suc (no_more fs)
 
@@ -136,6 +142,9 @@ module _ (p : Compilation) (c : IsCompiled p) (k : ℕ) (l : k < length p.trees.
   pub sized : IsSizeOf (chosen (flattened pair.function)) (frames p pair.function.label)
   sized = record { words = whole; least = least; holds = holds }
 
+  sized_known : IsSizeOf (known_of pair.function) (frames p pair.function.label)
+  sized_known = record { words = whole; least = least; holds = holds }
+
   sized_tree : pair.function.out ≡ 0 → IsSizeOf pair.function (frames p pair.function.label)
   sized_tree none =
       let h = holds in
@@ -148,10 +157,10 @@ frames_are_sizes p c f there =
     let short = there.1 in
     let l : k < length p.trees.functions = omega (arith, short, n) in
     let t = pair p c k l in
-    let is : chosen (flattened t.function) ≡ f =
-    sym (chosen_at p.trees.functions k t.function l t.there)
-    ∙ (same_there (instructions p).functions k (chosen (flattened t.function)) f there.1 ∙ there.2) in
-    subst (λ g. IsSizeOf g (frames p g.label)) is (sized p c k l)
+    let is : known_of t.function ≡ f =
+    sym (known_at p.trees.functions k t.function l t.there)
+    ∙ (same_there (instructions p).functions k (known_of t.function) f there.1 ∙ there.2) in
+    subst (λ g. IsSizeOf g (frames p g.label)) is (sized_known p c k l)
 
 pub frames_are_sizes_of_trees : FramesAreSizesOfTrees
 frames_are_sizes_of_trees p c f there none =

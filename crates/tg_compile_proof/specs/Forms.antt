@@ -17,6 +17,7 @@ use Rattle.tg_instr.specs.declared.codes.Allocated.{Allocated}
 use Rattle.tg_instr.specs.Lengths.{most_words}
 use Rattle.tg_instr.specs.Running.{everywhere, code_run}
 use Rattle.tg_munch_proof.specs.laws.Chosen.{chosen_code}
+use Rattle.tg_redundancy_proof.specs.laws.Laws.{known_program}
 use Rattle.tg_irc_definition.specs.Policies.{Rule}
 use Rattle.tg_regalloc.specs.declared.allocations.Allocation.{Allocation}
 use Rattle.tg_regalloc.specs.Allocations.{codes_of}
@@ -45,8 +46,12 @@ module _ (p : Compilation) where
   abbrev pub flat_code : Code (List Linear)
   flat_code = flattened_code p.trees
 
+  -- the instructions that are chosen, and these with known words and tests
+  abbrev pub chosen_instructions : Code (List Instr)
+  chosen_instructions = chosen_code flat_code
+
   abbrev pub instructions : Code (List Instr)
-  instructions = chosen_code flat_code
+  instructions = known_program chosen_instructions
 
   abbrev pub registers : List Allocated
   registers = codes_of p.allocations

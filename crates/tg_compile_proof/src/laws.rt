@@ -26,15 +26,15 @@ ghost use Rattle.tg_compile_proof.specs.laws.TextLaws.{
 
 use tg_canon_trace_proof::flatten_is_correct;
 use tg_code_bounds::functions_are_bounded;
-use tg_compile::prepared_is_reduced;
+use tg_compile::{instructions_name_their_own, prepared_is_reduced};
 use tg_correctness::{ends_tell, image_agrees, passes_agree};
 use tg_emit_laws::program_has_image;
 use tg_emit_proof::emit_is_correct;
 use tg_fold::fold_is_correct;
 use tg_isa::machine_runs_by_fuel;
 use tg_literal_bounds::{strings_fit_text, trees_are_of_words};
-use tg_munch::code_names_its_own;
-use tg_munch_proof::munch_is_correct;
+use tg_munch_proof::{code_keeps_counts, munch_is_correct};
+use tg_redundancy_proof::known_is_correct;
 use tg_regalloc_proof::regalloc_is_correct;
 use tg_runtime::routines_are_closed;
 use tg_semantics::{forms_agree, programs_as_sources};
@@ -103,19 +103,21 @@ pub fn fragments_have_words()
 }
 
 /// The law of instructions: those that are chosen for a compiled program, whose constants are
-/// words, keep what its flat code does.
+/// words, keep what its flat code does, with known words moved and known tests left out.
 pub fn choice_is_kept()
     ensures { ChoiceIsKept }
 {
     lowering_is_correct();
     munch_is_correct();
+    known_is_correct();
+    code_keeps_counts();
 }
 
 /// The law of registers: the allocations of a compiled program keep what its instructions do.
 pub fn allocation_is_kept()
     ensures { AllocationIsKept }
 {
-    code_names_its_own();
+    instructions_name_their_own();
     regalloc_is_correct();
 }
 

@@ -14,6 +14,7 @@ use Rattle.tg_translate_laws.specs.laws.Laws.{names}
 use Rattle.tg_instr.specs.Codes.{has_slots_below, names_registers}
 use Rattle.tg_instr.specs.declared.codes.Allocated.{Allocated}
 use Rattle.tg_munch.specs.Naming.{names_allowed}
+use Rattle.tg_redundancy.specs.mirror.Known.{known_code}
 use Rattle.tg_irc_definition.specs.Policies.{Rule}
 use Rattle.tg_regalloc.specs.Conditions.{is_fixed}
 use Rattle.tg_regalloc.specs.declared.allocations.Allocation.{Allocation}
@@ -60,8 +61,8 @@ FlatCodeIsWellMarked = (f : Function Ts) → IsWellFormed f → IsWellMarkedFunc
 -- a function whose instructions name registers that code names before allocation, and slots of
 -- their frame
 pub record NamesItsOwn (f : Function Ts) : Type 0 where
-  pub registers : IsTrue (list_all (names_registers is_fixed) (chosen f).code)
-  pub slots : IsTrue (list_all (has_slots_below f.slots) (chosen f).code)
+  pub registers : IsTrue (list_all (names_registers is_fixed) (known_code (chosen f).code))
+  pub slots : IsTrue (list_all (has_slots_below f.slots) (known_code (chosen f).code))
 
 -- the law that the instructions of a function do, where its parameters have slots of its frame
 abbrev pub CodeNamesItsOwn : Type 0

@@ -32,7 +32,7 @@ use Rattle.tg_compile_proof.specs.Forms.{Compilation, IsCompiled, instructions, 
 use Rattle.tg_compile_proof.specs.Forms.{frames, tree_form, flat_form, instruction_form}
 use Rattle.tg_compile_proof.specs.Forms.{register_form, machine_form}
 
--- What is asked of the choice of instructions, on an input.
+-- What is asked of the choice of instructions, with known words and tests, on an input.
 abbrev pub KeepsChoice : (p : Compilation) → (input : List ℕ) → (heap stack : ℕ) → Type 0
 KeepsChoice p input heap stack =
     Preserves unit_words kept_words
@@ -49,8 +49,8 @@ ChoiceIsKept =
 abbrev pub CompiledMayRun : Type 0
 CompiledMayRun = (p : Compilation) → IsCompiled p → MayRun (registers p) p.literals
 
--- The frames of the allocations are frames of the instructions that were chosen; and of the trees,
--- which have no words for arguments.
+-- The frames of the allocations are frames of the instructions; and of the trees, which have no
+-- words for arguments.
 abbrev pub FramesAreSizes : Type 0
 FramesAreSizes =
     (p : Compilation) → IsCompiled p → (f : Function (List Instr)) →

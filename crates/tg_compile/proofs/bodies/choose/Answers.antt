@@ -9,10 +9,12 @@ use Rattle.tg_compile.proofs.bodies.choose.Goals as goal
 
 pub returns : goal.returns
 returns c =
-    let e = c.in_ok-munch.ensures in
+    let e = c.in_ok-chosen.ensures in
+    let known = c.in_ok-known.ensures in
     let same = c.as_slice-code.ensures.value in
     chooses (plain_function c.args.frame.now (plain_ts c.args.body)) c.flatten.new.frame c.munch.new.frame (code_of c.in_ok-flat.flat.items)
-    c.in_ok-munch.field-0 c.in_ok-flat.ensures e.label e.params e.slots e.frame_temps (rw same at e.out) (rw same at e.code) (rw same at e.temps) e.few
+    c.in_ok-chosen.chosen c.in_ok-known.field-0 c.in_ok-flat.ensures e.label e.params e.slots e.frame_temps (rw same at e.out) (rw same at e.code)
+    (rw same at e.temps) e.few known.list known.temps
 
 pub munch-requires : goal.munch-requires
 munch-requires c =
