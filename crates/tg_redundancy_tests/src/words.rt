@@ -1,3 +1,6 @@
+ghost use Rattle.std.specs.Prelude.{◌≡◌};
+ghost use Rattle.tg_instr.specs.declared.operands.Opnd.TheVariants.{Temp as TempOf};
+
 use std::alloc::Global;
 use std::test::Fail;
 use tg_base::{Memory, Temp};
@@ -5,7 +8,9 @@ use tg_instr::{Code, Instr, Instrs, Opnd, push_instr};
 use tg_isa::Bits;
 use tg_redundancy::known;
 
-fn temp(number: u32) -> Opnd {
+fn temp(number: u32) -> Opnd
+    ensures { result ≡ TempOf (record { 0 = number }) }
+{
     Opnd::Temp(Temp(number))
 }
 
