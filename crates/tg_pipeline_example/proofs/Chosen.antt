@@ -2,11 +2,21 @@
 use Rattle.std.proofs.Common.{◌≤◌, refl, arith}
 use Rattle.std.specs.Fmt.{digits}
 use Rattle.tg_munch.specs.mirror.Choosing.{◌>>=◌}
-use Rattle.tg_pipeline_example.specs.laws.Laws.{InstructionsEnd, FramesEnd, ImageEnds, WordsAreCounted}
+use Rattle.tg_pipeline_example.specs.laws.Laws.{
+  InstructionsEnd,
+  KnownEnds,
+  FramesEnd,
+  ImageEnds,
+  WordsAreCounted,
+}
 
 pub instructions_end : InstructionsEnd
 unfolding ◌>>=◌
 instructions_end = (refl, refl)
+
+pub known_ends : KnownEnds
+unfolding ◌>>=◌
+known_ends = (refl, refl)
 
 pub words_are_counted : WordsAreCounted
 unfolding ◌>>=◌

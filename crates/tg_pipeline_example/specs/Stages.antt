@@ -32,6 +32,7 @@ use Rattle.tg_instr.specs.declared.instr.Instr.{Instr}
 use Rattle.tg_instr.specs.Lengths.{words_of, most_words}
 use Rattle.tg_instr.specs.Running.{everywhere, code_run}
 use Rattle.tg_munch.specs.mirror.Bodies.{munched, outs}
+use Rattle.tg_redundancy.specs.mirror.Known.{known_code}
 use Rattle.tg_regalloc.specs.mirror.InFrame.{code_in_frame}
 use Rattle.tg_emit.specs.mirror.Lines.{entry, code_lines}
 use Rattle.tg_emit_laws.specs.Images.{written_line}
@@ -103,6 +104,21 @@ module _ (program : Exp) (found : Findings) where
   instructions =
       record { functions = map chosen_function flat.functions; literals = trees.literals }
 
+  -- without what is known
+  abbrev pub known_function : Function (List Instr) → Function (List Instr)
+  known_function f = record {
+    label = f.label;
+    params = f.params;
+    slots = f.slots;
+    temps = f.temps;
+    out = f.out;
+    body = known_code f.body;
+  }
+
+  abbrev pub known : Code (List Instr)
+  known =
+      record { functions = map known_function instructions.functions; literals = trees.literals }
+
   -- over registers, each temporary in a slot of its own
   abbrev pub function_in_frame : Function (List Instr) → Function (List Instr)
   function_in_frame f = record {
@@ -116,7 +132,7 @@ module _ (program : Exp) (found : Findings) where
 
   abbrev pub in_frames : Code (List Instr)
   in_frames =
-      record { functions = map function_in_frame instructions.functions; literals = trees.literals }
+      record { functions = map function_in_frame known.functions; literals = trees.literals }
 
   -- the image of their lines
   abbrev pub frame_bytes : Function (List Instr) → ℕ
@@ -153,10 +169,13 @@ module _ (program : Exp) (found : Findings) where
   abbrev pub as_instructions : (fuel : ℕ) → Ran
   as_instructions fuel = code_run (everywhere words_of) instructions size bottom 64 32 [] fuel
 
+  abbrev pub as_known : (fuel : ℕ) → Ran
+  as_known fuel = code_run (everywhere words_of) known size bottom 64 32 [] fuel
+
   -- where each instruction counts the words that an allocation makes of it at most
   abbrev pub as_most_words : (fuel : ℕ) → Ran
   as_most_words fuel =
-      code_run (everywhere most_words) instructions size bottom 64 32 [] fuel
+      code_run (everywhere most_words) known size bottom 64 32 [] fuel
 
   abbrev pub as_in_frames : (fuel : ℕ) → Ran
   as_in_frames fuel =

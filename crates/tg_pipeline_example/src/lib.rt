@@ -10,6 +10,7 @@ ghost use Rattle.tg_pipeline_example.specs.laws.Laws.{
   ImageEnds,
   InstructionsEnd,
   IsFound,
+  KnownEnds,
   SourceEnds,
   TreesEnd,
   WordsAreCounted,
@@ -43,6 +44,11 @@ pub fn flat_code_ends()
 /// The program as instructions over temporaries.
 pub fn instructions_end()
     ensures { InstructionsEnd }
+{}
+
+/// The program as instructions of which what is known is left out.
+pub fn known_ends()
+    ensures { KnownEnds }
 {}
 
 /// The words that an allocation makes of the instructions of the run at most, beside the units of

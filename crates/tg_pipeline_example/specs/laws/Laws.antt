@@ -22,6 +22,7 @@ use Rattle.tg_pipeline_example.specs.Stages.{
   as_canonical,
   as_flat,
   as_instructions,
+  as_known,
   as_most_words,
   as_in_frames,
   as_image,
@@ -57,6 +58,9 @@ FlatEnds = IsSo (as_flat program found 40)
 abbrev pub InstructionsEnd : Type 0
 InstructionsEnd = IsSo (as_instructions program found 40)
 
+abbrev pub KnownEnds : Type 0
+KnownEnds = IsSo (as_known program found 40)
+
 abbrev pub FramesEnd : Type 0
 FramesEnd = IsSo (as_in_frames program found 40)
 
@@ -70,7 +74,7 @@ pub record WordsAreCounted : Type 0 where
   pub unit : (to from : Opnd) → most_words (Move to from) ≡ unit_words
   pub kept : kept_words ≡ unit_words * kept_count
   pub flat : (as_flat program found 40).work ≡ 571
-  pub words : (as_most_words program found 40).work ≡ 2669
+  pub words : (as_most_words program found 40).work ≡ 2675
   pub within :
       (as_most_words program found 40).work ≤
       unit_words * (as_flat program found 40).work + kept_words
