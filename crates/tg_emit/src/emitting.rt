@@ -46,6 +46,14 @@ pub fn emit(
     Ok(Assembly::from_vec(list))
 }
 
+/// Whether the lines of functions are so many words of code that each branch in them is turned
+/// round over a jump. They are the lines with no branch turned.
+pub fn are_far(list: &[Line]) -> bool
+    ensures { result ≡ nat_lt 32000 (words list.now) }
+{
+    is_above(list, NEAR)
+}
+
 fn bodies(alloc: Global, functions: &[Allocated], turned: bool) -> Result<Vec<Line>, Memory>
     requires { IsTrue (list_all is_emittable functions.now) }
     ensures lines { IfOk result (λ list. list.items ≡ functions_lines turned functions.now) }

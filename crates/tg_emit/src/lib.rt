@@ -13,5 +13,6 @@ mod rows;
 mod writing;
 
 pub use assembly::{Assembly, Line};
-pub use emitting::emit;
-pub use writing::text;
+pub use bodies::function;
+pub use emitting::{are_far, emit};
+pub use writing::{put_line, text};

@@ -81,7 +81,7 @@ fn switch(text: &mut Vec<u8>, from: bool, to: bool) -> Result<(), Memory>
 }
 
 /// Puts a line at the end, without its newline.
-fn put_line(alloc: Global, text: &mut Vec<u8>, one: &Line) -> Result<(), Memory>
+pub fn put_line(alloc: Global, text: &mut Vec<u8>, one: &Line) -> Result<(), Memory>
     requires { IsTrue (has_labels one.now) }
     ensures { OnOk result (text.new.items ≡ text.old.items ++ line_text one.now) }
 {

@@ -1,12 +1,20 @@
 -- The text of some trees, computed.
-use Rattle.std.specs.Prelude.{ℕ, ◌≡◌, List, [], ◌∷◌, codes, refl}
+use Rattle.std.specs.Prelude.{ℕ, ◌≡◌, List, [], ◌∷◌, Some, codes, map, refl}
 use Rattle.std.specs.Fmt.{digits}
+use Rattle.std.specs.List.{range_with_len}
+use Rattle.tg_frame.specs.declared.accesses.Access.TheVariants.{InTemp, InFrame}
 use Rattle.tg_tree.specs.declared.operators.Bin.TheVariants.{Add}
 use Rattle.tg_tree.specs.declared.operators.Rel.TheVariants.{Less}
 use Rattle.tg_tree.specs.Tree.{Const, Address, Temp, FrameAddress, Binary, Load, Call, no_txs, tx}
 use Rattle.tg_tree.specs.Tree.{Compare, Not, Both, Ts, Move, If, Break, Seq, Return, no_stms, stm}
+use Rattle.tg_instr.specs.declared.operands.Opnd.{Opnd}
+use Rattle.tg_instr.specs.declared.operands.Opnd.TheVariants as operand
+use Rattle.tg_instr.specs.declared.instr.Instr.TheVariants as instr
 use Rattle.tg_show.specs.Trees.{ts_text}
 use Rattle.tg_show.specs.Layout.{laid}
+use Rattle.tg_show.specs.Variables.{variables_lines}
+use Rattle.tg_show.specs.Live.{live_lines, live_text}
+use Rattle.tg_show.specs.Stages.{function_line}
 
 -- t3 is the home of `sum`
 abbrev names : List (List ℕ)
@@ -28,3 +36,33 @@ on_lines : laid 0 (ts_text names long) ≡
     codes "SEQ(\n  MOVE(TEMP t3:sum, BINOP(PLUS, MEM(TEMP t1), CONST -4)),\n  IF(\n    AND(REL(LT, TEMP t3:sum, CONST 0), NOT(REL(LT, CONST 7, TEMP t4))),\n    SEQ(),\n    BREAK 0),\n  RETURN(CALL(NAME f33, FP, NAME s40)))\n"
 unfolding digits
 on_lines = refl
+
+-- a function at level 1 whose `b` is used by a function `g` in it
+variables : variables_lines (record {
+  level = 1;
+  link = Some (InFrame 0);
+  parameters = record { place = record { line = 3; column = 14 }; name = codes "a"; of_type = codes "int"; home = InTemp (record { 0 = 0 }); users = [] } ∷ [];
+  locals = record { place = record { line = 4; column = 9 }; name = codes "b"; of_type = codes "row"; home = InFrame 1; users = codes "g" ∷ codes "h" ∷ [] } ∷ [];
+}) ≡
+    codes "  level 1\n  link slot 0\n  parameter 3:14 a int t0\n  variable 4:9 b row slot 1 escapes to g h\n"
+unfolding digits
+variables = refl
+
+function : function_line 33 (codes "f") (Some (record { line = 2; column = 12 })) ≡ codes "function 33 f 2:12\n"
+unfolding digits
+function = refl
+
+abbrev t : ℕ → Opnd
+t n = operand.Temp (record { 0 = n })
+
+-- t3, which is the home of `sum`, lives across the call, whose result doesn't
+live : live_lines names ((t 3 ∷ []) ∷ (operand.Reg 2 ∷ t 3 ∷ []) ∷ (operand.Reg 2 ∷ []) ∷ [] ∷ []) [] 0
+    (instr.Mark 0 ∷ instr.Call (record { 0 = 33 }) ∷ instr.Sw (t 3) 4 (operand.Reg 2) ∷ instr.Return ∷ []) ≡
+    codes "  .0:  # live t3:sum\n    jal f33  # live $v0 t3:sum  # across t3:sum\n    sw t3:sum, 4($v0)  # live $v0\n    return\n"
+unfolding digits
+live = refl
+
+-- 25 temporaries of which one is another than before
+live_in_numbers : live_text names (t 3 ∷ map t (range_with_len 5 24)) (map t (range_with_len 4 25)) ≡ codes "  # live 25 +t4 -t3:sum"
+unfolding digits
+live_in_numbers = refl

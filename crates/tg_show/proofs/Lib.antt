@@ -1,2 +1,5 @@
 mod Blanks
 mod Examples
+mod StageExamples
+mod Nodes
+mod Steps

@@ -1,6 +1,12 @@
 pub mod Layout
 pub mod Words
+pub mod Variables
 pub mod Trees
 pub mod Flat
+pub mod Blocks
 pub mod Instructions
+pub mod Live
+pub mod Graph
+pub mod Registers
+pub mod Assembly
 pub mod Stages

@@ -106,7 +106,7 @@ fn put_element(text: &mut Vec<u8>, names: &[Bytes], element: &Linear) -> Result<
 }
 
 /// Puts the front of a branch at the end, up to where it leads.
-fn put_comparison(
+pub fn put_comparison(
     text: &mut Vec<u8>,
     names: &[Bytes],
     rel: Rel,

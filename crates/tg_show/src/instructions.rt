@@ -4,8 +4,8 @@ ghost use Rattle.tg_show.specs.Flat.{mark_text};
 ghost use Rattle.tg_show.specs.Instructions as instructions;
 
 use crate::layouts::put_blanks;
-use crate::trees::put_comma;
-use crate::words::{put_number, put_numbered, put_temp, rel_word};
+use crate::trees::{put_comma, put_end};
+use crate::words::{put, put_byte, put_number, put_numbered, put_temp, rel_word};
 use std::alloc::Global;
 use tg_base::{Bytes, Memory};
 use tg_instr::{Instr, Opnd, Test};
@@ -42,11 +42,11 @@ fn put_instruction_line(
     put_told(text, names, b"  # defines", defs.as_slice())?;
     let uses = one.uses(alloc);
     put_told(text, names, b"  # uses", uses.as_slice())?;
-    text.push(b'\n')?;
-    Ok(())
+    put_byte(text, b'\n')
 }
 
-fn instruction_margin(one: &Instr) -> usize
+/// The margin of an instruction's line.
+pub fn instruction_margin(one: &Instr) -> usize
     ensures { result ≡ instructions.instruction_margin one.now }
 {
     match one {
@@ -56,7 +56,7 @@ fn instruction_margin(one: &Instr) -> usize
 }
 
 /// Puts operands at the end behind a word, where there are any.
-fn put_told(
+pub fn put_told(
     text: &mut Vec<u8>,
     names: &[Bytes],
     word: &[u8],
@@ -72,7 +72,8 @@ fn put_told(
     put_operands(text, names, operands)
 }
 
-fn put_operands(text: &mut Vec<u8>, names: &[Bytes], operands: &[Opnd]) -> Result<(), Memory>
+/// Puts operands at the end, each behind a blank.
+pub fn put_operands(text: &mut Vec<u8>, names: &[Bytes], operands: &[Opnd]) -> Result<(), Memory>
     ensures { OnOk result (text.new.items
         ≡ text.old.items ++ instructions.operands_text names.now operands.now) }
 {
@@ -84,7 +85,7 @@ fn put_operands(text: &mut Vec<u8>, names: &[Bytes], operands: &[Opnd]) -> Resul
 }
 
 /// Puts the text of an instruction at the end.
-fn put_instruction(text: &mut Vec<u8>, names: &[Bytes], one: &Instr) -> Result<(), Memory>
+pub fn put_instruction(text: &mut Vec<u8>, names: &[Bytes], one: &Instr) -> Result<(), Memory>
     ensures { OnOk result (text.new.items
         ≡ text.old.items ++ instructions.instruction_text names.now one.now) }
 {
@@ -132,13 +133,6 @@ fn put_instruction(text: &mut Vec<u8>, names: &[Bytes], one: &Instr) -> Result<(
         Instr::Fault(code) => put_numbered(text, b"break ", *code),
         Instr::Return => put(text, b"return"),
     }
-}
-
-fn put(text: &mut Vec<u8>, word: &[u8]) -> Result<(), Memory>
-    ensures { OnOk result (text.new.items ≡ text.old.items ++ word.now) }
-{
-    text.extend_from_slice(word)?;
-    Ok(())
 }
 
 /// Puts an operand at the end: a temporary, or a register's name.
@@ -252,8 +246,7 @@ fn put_memory(
     put_comma(text)?;
     put_signed(text, field)?;
     put_one(text, names, b"(", base)?;
-    text.push(b')')?;
-    Ok(())
+    put_end(text)
 }
 
 fn put_slot(
@@ -293,8 +286,7 @@ fn put_mark(text: &mut Vec<u8>, mark: u32) -> Result<(), Memory>
     ensures { OnOk result (text.new.items ≡ text.old.items ++ (mark_text mark ++ codes ":")) }
 {
     put_numbered(text, b".", mark)?;
-    text.push(b':')?;
-    Ok(())
+    put_byte(text, b':')
 }
 
 fn put_test(text: &mut Vec<u8>, names: &[Bytes], test: &Test, mark: u32) -> Result<(), Memory>

@@ -1,14 +1,25 @@
-//! The texts of the stages of compilation: trees in the book's notation (Appel, chapters 7 to 9).
+//! The texts of the stages of compilation, in the book's notation (Appel, chapters 6 to 12).
 //!
-//! Promises exactly the texts of `specs/`.
+//! Trees, code, what is live, graphs and registers become lines. Promises exactly the texts of
+//! `specs/`.
 #![tactic(auto)]
 
+mod assembly;
+mod blocks;
 mod flat;
+mod graphs;
 mod instructions;
 mod layouts;
+mod liveness;
 mod modes;
+mod registers;
 mod stages;
 mod trees;
+mod variables;
 mod words;
 
-pub use stages::{put_canonical, put_code, put_function, put_traces, put_tree};
+pub use stages::{
+    put_assembly, put_blocks, put_canonical, put_code, put_folded, put_function, put_graph,
+    put_live, put_registers, put_traces, put_tree, put_variables,
+};
+pub use variables::{FunctionVariables, Variable};

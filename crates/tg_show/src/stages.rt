@@ -1,33 +1,72 @@
-ghost use Rattle.std.specs.Prelude.{◌≡◌, ◌∷◌, [], ◌++◌, OnOk};
+ghost use Rattle.std.specs.Prelude.{◌≡◌, ◌∷◌, [], ◌++◌, length, IsTrue, OnOk};
+ghost use Rattle.std.specs.List.{list_all};
 ghost use Rattle.tg_tree.specs.glue.Lists.{code_of, stms_of};
 ghost use Rattle.tg_tree.specs.glue.Plain.{plain_ts};
+ghost use Rattle.tg_trace_schedule.specs.glue.Plains.{plain_blocks};
+ghost use Rattle.tg_emit.specs.Conditions.{has_labels};
 ghost use Rattle.tg_show.specs.Stages as stages;
 
+use crate::assembly::put_assembly_lines;
+use crate::blocks::put_blocks_lines;
 use crate::flat::{put_elements, put_statement, put_statements};
+use crate::graphs::put_graph_lines;
 use crate::instructions::put_instructions;
-use crate::words::put_numbered;
+use crate::liveness::put_live_lines;
+use crate::registers::put_allocation_lines;
+use crate::variables::{FunctionVariables, put_place, put_variables_lines};
+use crate::words::{put, put_byte, put_numbered};
 use std::alloc::Global;
-use tg_base::{Bytes, Label, Memory};
+use tg_base::{Bytes, Label, Memory, Place};
+use tg_emit::Line;
+use tg_graph::Graph;
 use tg_instr::Instr;
+use tg_irc_definition::Move;
+use tg_live::LiveSets;
+use tg_regalloc::Allocation;
+use tg_trace_schedule::Block;
 use tg_tree::{Linear, Ts};
 
-/// Puts the line at the end with which the stages of a function begin: its label's number and its
-/// name.
-pub fn put_function(text: &mut Vec<u8>, label: Label, name: &[u8]) -> Result<(), Memory>
+/// Puts the line at the end with which the stages of a function begin: its label's number, its
+/// name, and the place where the source declares it, if it does.
+pub fn put_function(
+    text: &mut Vec<u8>,
+    label: Label,
+    name: &[u8],
+    place: Option<Place>,
+) -> Result<(), Memory>
     ensures { OnOk result (text.new.items
-        ≡ text.old.items ++ stages.function_line label.0 name.now) }
+        ≡ text.old.items ++ stages.function_line label.0 name.now place) }
 {
     put_numbered(text, b"function ", label.0)?;
-    text.push(b' ')?;
-    put_line(text, name)
+    put_byte(text, b' ')?;
+    put(text, name)?;
+    put_declared(text, place)?;
+    put_byte(text, b'\n')
+}
+
+fn put_declared(text: &mut Vec<u8>, place: Option<Place>) -> Result<(), Memory>
+    ensures { OnOk result (text.new.items ≡ text.old.items ++ stages.declared_text place) }
+{
+    match place {
+        Some(place) => put_place(text, place),
+        None => Ok(()),
+    }
+}
+
+/// Puts the stage of a function's variables at the end.
+pub fn put_variables(text: &mut Vec<u8>, all: &FunctionVariables) -> Result<(), Memory>
+    ensures { OnOk result (text.new.items
+        ≡ text.old.items ++ stages.variables_stage all.now) }
+{
+    put_line(text, b"variables")?;
+    put_variables_lines(text, all)
 }
 
 fn put_line(text: &mut Vec<u8>, line: &[u8]) -> Result<(), Memory>
     ensures { OnOk result (text.new.items ≡ text.old.items ++ (line.now ++ 10 ∷ [])) }
 {
-    text.extend_from_slice(line)?;
-    text.push(b'\n')?;
-    Ok(())
+    put(text, line)?;
+    put_byte(text, b'\n')
 }
 
 /// Puts the stage of a function's tree at the end, given the names of its temporaries by their
@@ -37,6 +76,20 @@ pub fn put_tree(alloc: Global, text: &mut Vec<u8>, names: &[Bytes], body: &Ts) -
         ≡ text.old.items ++ stages.tree_stage names.now (plain_ts body.now)) }
 {
     put_line(text, b"tree")?;
+    put_statement(alloc, text, names, 1, body)
+}
+
+/// Puts the stage of a function's tree after it was folded at the end.
+pub fn put_folded(
+    alloc: Global,
+    text: &mut Vec<u8>,
+    names: &[Bytes],
+    body: &Ts,
+) -> Result<(), Memory>
+    ensures { OnOk result (text.new.items
+        ≡ text.old.items ++ stages.folded_stage names.now (plain_ts body.now)) }
+{
+    put_line(text, b"folded")?;
     put_statement(alloc, text, names, 1, body)
 }
 
@@ -52,6 +105,20 @@ pub fn put_canonical(
 {
     put_line(text, b"canonical")?;
     put_statements(alloc, text, names, 1, statements)
+}
+
+/// Puts the stage of basic blocks at the end.
+pub fn put_blocks(
+    alloc: Global,
+    text: &mut Vec<u8>,
+    names: &[Bytes],
+    blocks: &[Block],
+) -> Result<(), Memory>
+    ensures { OnOk result (text.new.items
+        ≡ text.old.items ++ stages.blocks_stage names.now (plain_blocks blocks.now)) }
+{
+    put_line(text, b"blocks")?;
+    put_blocks_lines(alloc, text, names, blocks)
 }
 
 /// Puts the stage of flat code, in the order of its traces, at the end.
@@ -80,4 +147,53 @@ pub fn put_code(
 {
     put_line(text, b"instructions")?;
     put_instructions(alloc, text, names, list)
+}
+
+/// Puts the stage of liveness at the end.
+pub fn put_live(
+    alloc: Global,
+    text: &mut Vec<u8>,
+    names: &[Bytes],
+    list: &[Instr],
+    sets: &LiveSets,
+) -> Result<(), Memory>
+    requires { length sets.now ≡ length list.now }
+    ensures { OnOk result (text.new.items
+        ≡ text.old.items ++ stages.live_stage names.now sets.now list.now) }
+{
+    put_line(text, b"live")?;
+    put_live_lines(alloc, text, names, list, sets)
+}
+
+/// Puts the stage of an interference graph and the moves between its nodes at the end.
+pub fn put_graph(
+    text: &mut Vec<u8>,
+    names: &[Bytes],
+    graph: &Graph,
+    moves: &[Move],
+) -> Result<(), Memory>
+    ensures { OnOk result (text.new.items
+        ≡ text.old.items ++ stages.graph_stage names.now graph.now moves.now) }
+{
+    put_line(text, b"graph")?;
+    put_graph_lines(text, names, graph, moves)
+}
+
+/// Puts the stage of an allocation at the end.
+pub fn put_registers(text: &mut Vec<u8>, names: &[Bytes], one: &Allocation) -> Result<(), Memory>
+    ensures { OnOk result (text.new.items
+        ≡ text.old.items ++ stages.registers_stage names.now one.now) }
+{
+    put_line(text, b"registers")?;
+    put_allocation_lines(text, names, one)
+}
+
+/// Puts the stage of lines of assembly at the end.
+pub fn put_assembly(alloc: Global, text: &mut Vec<u8>, lines: &[Line]) -> Result<(), Memory>
+    requires { IsTrue (list_all has_labels lines.now) }
+    ensures { OnOk result (text.new.items
+        ≡ text.old.items ++ stages.assembly_stage lines.now) }
+{
+    put_line(text, b"assembly")?;
+    put_assembly_lines(alloc, text, lines)
 }

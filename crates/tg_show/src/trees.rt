@@ -13,7 +13,9 @@ ghost use Rattle.tg_show.specs.Trees.{
   txs_text,
 };
 
-use crate::words::{bin_word, put_number, put_numbered, put_temp, put_word, rel_word};
+use crate::words::{
+    bin_word, put, put_byte, put_number, put_numbered, put_temp, put_word, rel_word,
+};
 use tg_base::{Bytes, Label, Memory};
 use tg_tree::{Cond, Stms, Ts, Tx, Txs};
 
@@ -30,7 +32,7 @@ pub fn put_tx(text: &mut Vec<u8>, names: &[Bytes], x: &Tx) -> Result<(), Memory>
             text.extend_from_slice(b"TEMP ")?;
             put_temp(text, names, *temp)
         }
-        Tx::FrameAddress => put_frame_address(text),
+        Tx::FrameAddress => put(text, b"FP"),
         Tx::Binary(op, left, right) => {
             text.extend_from_slice(b"BINOP(")?;
             text.extend_from_slice(bin_word(*op))?;
@@ -216,13 +218,6 @@ fn put_constant(text: &mut Vec<u8>, word: u32) -> Result<(), Memory>
     put_word(text, word)
 }
 
-fn put_frame_address(text: &mut Vec<u8>) -> Result<(), Memory>
-    ensures { OnOk result (text.new.items ≡ text.old.items ++ codes "FP") }
-{
-    text.extend_from_slice(b"FP")?;
-    Ok(())
-}
-
 fn put_before(text: &mut Vec<u8>, is_first: bool) -> Result<(), Memory>
     ensures { OnOk result (text.new.items ≡ text.old.items ++ before is_first) }
 {
@@ -236,14 +231,12 @@ fn put_before(text: &mut Vec<u8>, is_first: bool) -> Result<(), Memory>
 pub fn put_comma(text: &mut Vec<u8>) -> Result<(), Memory>
     ensures { OnOk result (text.new.items ≡ text.old.items ++ codes ", ") }
 {
-    text.extend_from_slice(b", ")?;
-    Ok(())
+    put(text, b", ")
 }
 
 /// Puts the parenthesis that closes a form at the end.
 pub fn put_end(text: &mut Vec<u8>) -> Result<(), Memory>
     ensures { OnOk result (text.new.items ≡ text.old.items ++ codes ")") }
 {
-    text.push(b')')?;
-    Ok(())
+    put_byte(text, b')')
 }

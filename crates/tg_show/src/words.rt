@@ -1,4 +1,4 @@
-ghost use Rattle.std.specs.Prelude.{◌≡◌, ◌++◌, OnOk};
+ghost use Rattle.std.specs.Prelude.{◌≡◌, ◌∷◌, [], ◌++◌, OnOk};
 ghost use Rattle.std.specs.Fmt.{decimal};
 ghost use Rattle.tg_show.specs.Words as words;
 
@@ -6,13 +6,36 @@ use itoa::Buffer;
 use tg_base::{Bytes, Memory, Temp};
 use tg_tree::{Bin, Rel};
 
+/// Puts bytes at the end.
+pub fn put(text: &mut Vec<u8>, bytes: &[u8]) -> Result<(), Memory>
+    ensures { OnOk result (text.new.items ≡ text.old.items ++ bytes.now) }
+{
+    text.extend_from_slice(bytes)?;
+    Ok(())
+}
+
+/// Puts a byte at the end.
+pub fn put_byte(text: &mut Vec<u8>, byte: u8) -> Result<(), Memory>
+    ensures { OnOk result (text.new.items ≡ text.old.items ++ byte ∷ []) }
+{
+    text.push(byte)?;
+    Ok(())
+}
+
 /// Puts a number's decimal digits at the end.
 pub fn put_number(text: &mut Vec<u8>, number: u32) -> Result<(), Memory>
     ensures { OnOk result (text.new.items ≡ text.old.items ++ decimal number) }
 {
     let mut digits = Buffer::new();
-    text.extend_from_slice(digits.format(number).as_bytes())?;
-    Ok(())
+    put(text, digits.format(number).as_bytes())
+}
+
+/// Puts a count's decimal digits at the end.
+pub fn put_count(text: &mut Vec<u8>, count: usize) -> Result<(), Memory>
+    ensures { OnOk result (text.new.items ≡ text.old.items ++ decimal count) }
+{
+    let mut digits = Buffer::new();
+    put(text, digits.format(count).as_bytes())
 }
 
 /// Puts the int that a word stands for at the end.
@@ -20,8 +43,7 @@ pub fn put_word(text: &mut Vec<u8>, word: u32) -> Result<(), Memory>
     ensures { OnOk result (text.new.items ≡ text.old.items ++ words.int_text word) }
 {
     let mut digits = Buffer::new();
-    text.extend_from_slice(digits.format(word.cast_signed()).as_bytes())?;
-    Ok(())
+    put(text, digits.format(word.cast_signed()).as_bytes())
 }
 
 /// Puts a word and a number at the end.
@@ -36,8 +58,16 @@ pub fn put_numbered(text: &mut Vec<u8>, word: &[u8], number: u32) -> Result<(), 
 pub fn put_temp(text: &mut Vec<u8>, names: &[Bytes], temp: Temp) -> Result<(), Memory>
     ensures { OnOk result (text.new.items ≡ text.old.items ++ words.temp_text names.now temp.0) }
 {
-    put_numbered(text, b"t", temp.0)?;
-    match names.get(temp.0 as usize) {
+    put_temp_at(text, names, temp.0 as usize)
+}
+
+/// Puts the temporary of a number at the end.
+pub fn put_temp_at(text: &mut Vec<u8>, names: &[Bytes], temp: usize) -> Result<(), Memory>
+    ensures { OnOk result (text.new.items ≡ text.old.items ++ words.temp_text names.now temp) }
+{
+    put_byte(text, b't')?;
+    put_count(text, temp)?;
+    match names.get(temp) {
         Some(name) => put_name(text, name.as_slice()),
         None => Ok(()),
     }
@@ -50,8 +80,7 @@ fn put_name(text: &mut Vec<u8>, name: &[u8]) -> Result<(), Memory>
         return Ok(());
     }
     text.push(b':')?;
-    text.extend_from_slice(name)?;
-    Ok(())
+    put(text, name)
 }
 
 /// The word of an operator.
