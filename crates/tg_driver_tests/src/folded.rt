@@ -1,4 +1,4 @@
-use crate::calls::{Outside, are_answered, call};
+use crate::calls::{Outside, are_answered, call, parts_of};
 use std::alloc::Global;
 use std::str;
 use std::test::Fail;
@@ -25,6 +25,66 @@ fn folded_programs_do_the_same(rt: HostRuntime) -> Result<(), Fail> {
     let alloc = rt.alloc();
     are_answered(&rt, alloc, "tiger|run|FILE", &RUNS)?;
     are_answered(&rt, alloc, "tiger|run|FILE|--fold", &RUNS)
+}
+
+// Such rows for sources that call each of their functions, and together each of the runtime's:
+// numbers, strings, lists that are sorted, links three deep, loops that a condition leaves, and
+// what else is standard.
+static BODIES: [&str; 7] = [
+    "13 ||exit(2*3+7/2-(-4))",
+    "0 |ex\n4|let function number(n:int)=(if n>9 then number(n/10); \
+     print(chr(n-n/10*10+ord(\"0\")))) \
+     function say(s:string)=(print(s); print(\"\\n\")) \
+     in say(if \"a\"<\"b\" & concat(\"a\",\"b\")=\"ab\" \
+     then substring(\"text\",1,2) else \"\"); number(size(\"text\")); flush() end",
+    "40 ||let type list={first:int,rest:list} \
+     function inserted(n:int,l:list):list=if l=nil then list{first=n,rest=nil} \
+     else if n<=l.first then list{first=n,rest=l} else (l.rest:=inserted(n,l.rest); l) \
+     function in_order(l:list):list=let var done:list:=nil \
+     in while l<>nil do (done:=inserted(l.first,done); l:=l.rest); done end \
+     var some:list:=nil in for i:=1 to 8 do some:=list{first=i*37-i*i*i,rest=some}; \
+     some:=in_order(some); exit(some.first) end",
+    "16 ||let function f(i:int):int=let var x:=i function g(k:int)= \
+     let function h()=x:=x+k in h(); if k>1 then g(k-1) end in g(3); x end in exit(f(10)) end",
+    "0 ||let type ints=array of int var all:=ints[3] of 7 in while 1 do \
+     (for i:=0 to (if all[0]=7 & 1<2|0 then 2 else (break; 9)) do all[i]:=all[i]*2+1; \
+     while (if all[1]>7 then (break; 1) else 0) do print(getchar()); exit(all[2])) end",
+    "15 |x|let type ints=array of int var all:=ints[3] of 7 in while 1 do \
+     (for i:=0 to 3-1 do all[i]:=all[i]*2+1; print(getchar()); exit(all[2])) end",
+    "1 |ige|(print(substring(concat(\"tiger\",\"hi\"),1,2)); \
+     print(chr(ord(\"a\")+size(\"four\"))); flush(); exit(not(0)+not(7)))",
+];
+
+/// The source of a row.
+fn source_of(row: &str) -> Result<&str, Fail> {
+    let (_, more) = parts_of(row)?;
+    Ok(parts_of(more)?.1)
+}
+
+/// The steps that a watched run of a source tells in its first line.
+fn steps(alloc: Global, line: &str, source: &str) -> Result<u64, Fail> {
+    let seen = call(alloc, line, Outside::of(source.as_bytes()))?;
+    let Some(first) = str::from_utf8(&seen.error)?.lines().next() else {
+        return Err(Fail::from("no report"));
+    };
+    let Some(steps) = first.strip_prefix("steps ") else {
+        return Err(Fail::from("no steps"));
+    };
+    Ok(steps.parse::<u64>().ok().ok_or("no number")?)
+}
+
+#[test]
+fn bodies_do_the_same_by_no_more_steps(rt: HostRuntime) -> Result<(), Fail> {
+    let alloc = rt.alloc();
+    are_answered(&rt, alloc, "tiger|run|FILE", &BODIES)?;
+    are_answered(&rt, alloc, "tiger|run|FILE|--fold", &BODIES)?;
+    for row in BODIES {
+        let source = source_of(row)?;
+        let before = steps(alloc, "tiger|run|FILE|--watch", source)?;
+        let behind = steps(alloc, "tiger|run|FILE|--watch|--fold", source)?;
+        assert!(rt; behind <= before, "{source}");
+    }
+    Ok(())
 }
 
 /// What a command writes of a source, of which it must be no fault.

@@ -2,7 +2,6 @@ use std::alloc::Global;
 use std::test::Fail;
 use tg_base::{Memory, Temp};
 use tg_fold::fold;
-use tg_runtime::runtime;
 use tg_tree::{Bin, Rel, Ts, Tx, binary, compare, if_else, sequence};
 
 // The word that a folded operator on two constants is, if it is one.
@@ -79,17 +78,5 @@ fn copies_go_through_a_long_body(rt: HostRuntime) -> Result<(), Fail> {
     };
     let copies = folded.items.iter().filter(|one| copies_first(one)).count();
     assert_eq!(rt; copies, 20_000);
-    Ok(())
-}
-
-// What each does before and after is computed in `proofs/Routines.antt`.
-#[test]
-fn the_runtime_folds(rt: HostRuntime) -> Result<(), Fail> {
-    let alloc = rt.alloc();
-    let all = runtime(alloc)?;
-    assert_eq!(rt; all.functions.len(), 13);
-    for function in all.functions {
-        fold(alloc, function.body)?;
-    }
     Ok(())
 }

@@ -1,4 +1,4 @@
-//! Tests of passes over texts: tokens, trees, faults, notes, folded bodies.
+//! Tests of passes over texts: tokens, trees, faults, notes, escaping variables, frames.
 //!
 //! They are of calls that several crates make up, one file a subject, and nothing but tests. They
 //! stand apart from the crates that they call, since a crate with tests is proved twice.
@@ -8,8 +8,6 @@
 mod counting;
 #[cfg(test)]
 mod escaping;
-#[cfg(test)]
-mod folding;
 #[cfg(test)]
 mod framing;
 #[cfg(test)]
