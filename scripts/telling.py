@@ -82,7 +82,7 @@ def text_fault(path, line, rule, words, origins):
     last = re.search(r"([\w.$]+)\s*(?:#.*)?$", text)
     name = item[1] if rule == "A2" else last[1] if rule == "A5" and last else ""
     column = (last.start(1) if rule == "A5" and last else item.start(1)) + 1
-    cure = "docs/SPIM.md says what is there" if origins and rule == "A2" else cures()[rule]
+    cure = "docs/MACHINE.md says what is there" if origins and rule == "A2" else cures()[rule]
     return shown(path, line, f"{rule} {words} {name}".rstrip(), text, column, cure)
 
 
