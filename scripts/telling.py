@@ -9,9 +9,13 @@ from answering import TOP, program
 
 FAULT = re.compile(rb"tiger: (\d+):(\d+): ([LST]\d+) (.*)\n")
 LINE_FAULT = re.compile(rb"tiger: line (\d+): (A\d+) (.*)\n")
+# A line of a list: its rule, its source or another key, the place and words that are told of it, and behind the colon what
+# to do.
+LISTED = re.compile(r"- (?:\*\*(\w+)\*\* )?(?:`(.+?)`|([^`:]+?))(?:,? ((?:\w+ )?\d+(?::\d+)?(?: [A-Za-z ]+)?))?: (.*)")
+LINK = re.compile(r"\[[^\]]*\]\(([^)#]+)[^)]*\)")
 NAMED = {"T1", "T2", "T3", "T4", "T5", "T7", "T8", "T10", "T11", "T15", "T16", "T17", "T18", "S1", "L1"}
 
-# Frequent slips of docs/FAULTS.md: the rule, what stands before the mark, what stands at it, and what the row begins with.
+# Frequent slips of examples/slips.md: the rule, what stands before the mark, what stands at it, and the slip that is shown.
 SLIPS = [
     ("L1", r"^$", r"\xef\xbb\xbf", "a byte order mark at the begin"),
     ("L1", r"", r"!=", "a != b"),
@@ -39,12 +43,17 @@ SLIPS = [
 ]
 
 
+def lines_of(page):
+    """What a page tells in lines of lists: of each its rule, or None, its source or key, what is told of it, and the cure."""
+    with open(os.path.join(TOP, page), encoding="utf-8") as file:
+        found = [LISTED.fullmatch(line.rstrip("\n")) for line in file]
+    return [(it[1], it[2] or it[3], it[4] or "", it[5]) for it in found if it]
+
+
 def cures():
-    """What docs/FAULTS.md has in the last column for each rule, and for each line of an end."""
-    with open(os.path.join(TOP, "docs", "FAULTS.md"), encoding="utf-8") as page:
-        rows = [re.findall(r"(?:[^|`]|`[^`]*`)+", line) for line in page if line.startswith("| ")]
-    texts = {row[0].strip(" `"): re.sub(r"\[(\S+)\]\(\S+\)", r"docs/\1", row[-2]) for row in rows if len(row) > 2}
-    return {row: text.strip().replace("\\|", "|") for row, text in texts.items()}
+    """What to do by docs/FAULTS.md and examples/slips.md, for each rule, each slip and each line of an end."""
+    told = lines_of("docs/FAULTS.md") + lines_of("examples/slips.md")
+    return {rule or key: LINK.sub(lambda it: os.path.normpath("docs/" + it[1]), cure) for rule, key, _, cure in told}
 
 
 def cure_of(rule, before, at):
@@ -53,8 +62,8 @@ def cure_of(rule, before, at):
         if its == rule and re.search(behind, before) and re.match(ahead, at):
             return cures()[row]
     if rule == "S1":
-        return "docs/FAULTS.md has the frequent slips" if at else "more is wanted here: an expression, `end` or a closing bracket"
-    return "docs/FAULTS.md has the cases of T6" if rule == "T6" else cures()[rule]
+        return "examples/slips.md has the frequent slips" if at else "more is wanted here: an expression, `end` or a closing bracket"
+    return "examples/slips.md has the cases of T6" if rule == "T6" else cures()[rule]
 
 
 def shown(path, place, words, line, column, cure):
@@ -82,7 +91,7 @@ def text_fault(path, line, rule, words, origins):
     last = re.search(r"([\w.$]+)\s*(?:#.*)?$", text)
     name = item[1] if rule == "A2" else last[1] if rule == "A5" and last else ""
     column = (last.start(1) if rule == "A5" and last else item.start(1)) + 1
-    cure = "docs/SPIM.md says what is there" if origins and rule == "A2" else cures()[rule]
+    cure = "docs/MACHINE.md says what is there" if origins and rule == "A2" else cures()[rule]
     return shown(path, line, f"{rule} {words} {name}".rstrip(), text, column, cure)
 
 

@@ -3,6 +3,10 @@
 # Sourced by `tiger` and by `scripts/dist`, with `here`, the top of the checkout. What is decided rests on sums: of all
 # that `rt` reads to build the program, and of the program. What was decided is noted with the time, and looked at again
 # where any time isn't as it was: a source newer than the note, or a program newer or older than it was then.
+#
+# Summing all sources takes a tenth of a second and the program some milliseconds, more than a start, so times are looked
+# at first, and alone to see whether sums have to be taken again. A source that is written with its old time isn't seen, nor
+# is an edited specification or proof, which changes no program: `--prove`, the gate and `scripts/dist` take sums always.
 
 out=$here/crates/tg_cli/out
 built=$out/tg_cli
