@@ -17,16 +17,21 @@ fn in_brackets(
     Ok(text)
 }
 
-// Brackets, the operation in each, and how often it stands there. The tree has 635 levels, while no
-// place of the text is nested deeper than 214.
-static BUILT: [(usize, &str, usize); 1] = [(3, "*1", 210)];
+// Brackets, the operation in each, how often it stands there, and the status of the run. The first
+// tree has 635 levels, while no place of the text is nested deeper than 214; the others have 2,000.
+static BUILT: [(usize, &str, usize, u8); 4] = [
+    (3, "*1", 210, 1),
+    (20, "*1", 100, 1),
+    (20, "+1", 100, 209),
+    (20, "&1", 100, 1),
+];
 
 #[test]
 fn deep_trees_are_built_and_run(rt: HostRuntime) -> Result<(), Fail> {
     let alloc = rt.alloc();
-    for (brackets, operation, times) in BUILT {
+    for (brackets, operation, times, status) in BUILT {
         let text = in_brackets(alloc, brackets, operation.as_bytes(), times)?;
-        answers(&rt, alloc, "tiger|run|FILE", &text, 1, "")?;
+        answers(&rt, alloc, "tiger|run|FILE", &text, status, "")?;
     }
     Ok(())
 }

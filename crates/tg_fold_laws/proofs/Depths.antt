@@ -1,5 +1,5 @@
 -- What is folded is no deeper.
-use Rattle.std.proofs.Common.{◌≡◌, ◌≤◌, ◌+◌, ℕ, Bool, true, false, suc, refl, ap, sym, subst, arith}
+use Rattle.std.proofs.Common.{◌≡◌, ◌≤◌, ◌+◌, ℕ, Bool, true, false, suc, refl, arith}
 use Rattle.std.specs.Prelude.{if◌then◌else◌, max, Option, Some, None}
 use Rattle.tg_tree.specs.declared.operators.Bin.{Bin}
 use Rattle.tg_tree.specs.declared.operators.Rel.{Rel}

@@ -22,8 +22,8 @@ use tg_base::Memory;
 use tg_syntax::{Dec, Exp, Exps, FunDecs, Inits, Kind, Program, Var};
 
 /// The greatest depth of a tree that the parser gives, in nodes. What is deeper is refused as out of
-/// memory, since passes walk trees by recursion: measured at this depth, on products in brackets,
-/// `format` took 1.5 MiB of the process's stack and `check` 4.1 MiB.
+/// memory, since passes walk trees by recursion: of the deepest sources that `bench/depth` has, up to
+/// this depth, `check` and `format` take at most 2.6 MiB of the process's stack and `build` 4.7.
 pub const MOST_DEPTH: u32 = 8000;
 
 /// A program, if its tree is no deeper than `MOST_DEPTH`.
