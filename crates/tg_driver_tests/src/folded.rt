@@ -1,5 +1,4 @@
-use crate::calls::{Outside, are_answered, call};
-use std::alloc::Global;
+use crate::calls::{are_answered, written};
 use std::str;
 use std::test::Fail;
 
@@ -25,19 +24,6 @@ fn folded_programs_do_the_same(rt: HostRuntime) -> Result<(), Fail> {
     let alloc = rt.alloc();
     are_answered(&rt, alloc, "tiger|run|FILE", &RUNS)?;
     are_answered(&rt, alloc, "tiger|run|FILE|--fold", &RUNS)
-}
-
-/// What a command writes of a source, of which it must be no fault.
-fn written(alloc: Global, line: &str, source: &str) -> Result<Vec<u8>, Fail> {
-    let outside = Outside {
-        room: 1_000_000,
-        ..Outside::of(source.as_bytes())
-    };
-    let seen = call(alloc, line, outside)?;
-    if seen.status != 0 {
-        return Err(Fail::from("a fault"));
-    }
-    Ok(seen.out)
 }
 
 /// How many lines of an assembly text begin so, up to the runtime's first function.
