@@ -1,5 +1,6 @@
 -- Steps of the walk, as its code takes them.
-use Rattle.std.proofs.Common.{ℕ, zero, suc, ◌≡◌, ◌-◌, ◌<◌, List, [], ◌∷◌, ◌++◌, length, take, Bool, true, false, cond, nat_eq, Option, Some, None, refl, sym, ap, ap₂, ◌∙◌, subst, append-nil, arith}
+use Rattle.std.proofs.Common.{ℕ, zero, suc, ◌≡◌, ◌-◌, ◌<◌, List, [], ◌∷◌, ◌++◌, take, Bool, true}
+use Rattle.std.proofs.Common.{false, cond, nat_eq, Option, Some, None, refl, sym, ap, ap₂, ◌∙◌, subst, append-nil, arith}
 use Rattle.std.specs.Prelude.{if◌then◌else◌, is_some}
 use Rattle.tg_base.specs.declared.ids.Label.{Label}
 use Rattle.tg_tree.specs.declared.operators.Rel.{Rel}

@@ -1,5 +1,6 @@
 -- Ways of a code, from its end.
-use Rattle.std.proofs.Common.{ℕ, zero, suc, ◌≡◌, ◌==◌, ◌||◌, ◌+◌, ◌<◌, ◌≤◌, nat_eq, List, [], ◌∷◌, length, get_or, set, drop, Bool, true, false, cond, Option, Some, None, refl, sym, ap, ◌∙◌, subst, arith}
+use Rattle.std.proofs.Common.{ℕ, zero, suc, ◌≡◌, ◌==◌, ◌||◌, ◌+◌, ◌<◌, nat_eq, List, [], ◌∷◌, length, get_or}
+use Rattle.std.proofs.Common.{set, drop, Bool, true, false, cond, Some, None, refl, sym, ap, ◌∙◌, subst, arith}
 use Rattle.std.proofs.lemmas.List.{at_drop_more, drop_more, drop-set, drop_all}
 use Rattle.std.specs.HashSet.{HashSet, contains}
 use Rattle.tg_instr.specs.declared.instr.Instr.{Instr}
@@ -64,7 +65,8 @@ flag_at code at one flag below is is_flag =
     let within : at < length (flags code) = omega arith in
     let left = drop_more (flags code) at flag within in
     let right = at_drop_more flags code at one below in
-    let both : get_or (flags code) at flag ∷ drop (at + 1) (flags code) ≡ comes_back (drop (at + 1) code) (shape (get_or code at one)) ∷ flags (drop (at + 1) code)
+    let both : get_or (flags code) at flag ∷ drop (at + 1) (flags code)
+    ≡ comes_back (drop (at + 1) code) (shape (get_or code at one)) ∷ flags (drop (at + 1) code)
     = sym left ∙ (flags_drop at code ∙ right) in
     let heads : get_or (flags code) at flag ≡ comes_back (drop (at + 1) code) (shape (get_or code at one)) = cc in
     is_flag ∙ (heads ∙ ap (λ i. comes_back (drop (at + 1) code) (shape i)) (sym is))

@@ -1,9 +1,9 @@
 //! Known words and tests (Appel, chapter 17): nothing is computed or tested twice on a path.
 //!
 //! On each extended basic block a word that a temporary has already is moved from there, a branch
-//! that is known to fall through goes, and one that is known to be taken is a jump. Promises exactly
-//! the known code of `specs/`, or out of memory, and the laws that known code is code, names what
-//! the code named, and is hardly longer.
+//! that is known to fall through goes, and one that is known to be taken is a jump. Promises
+//! exactly the known code of `specs/`, or out of memory, and the laws that known code is code, names
+//! what the code named, and is hardly longer.
 #![tactic(auto)]
 
 mod changes;
