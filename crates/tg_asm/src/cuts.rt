@@ -1,3 +1,6 @@
+// A line is cut into labels, an item's word, operands and a comment. The word runs up to a
+// blank, `,`, `"` or `#`. So a word that names no item has A2, whatever its shape.
+
 ghost use Rattle.std.specs.Prelude.{◌≡◌, false, map, MatchOption, Some, None, IfOk, length};
 ghost use Rattle.tg_asm_text.specs.Lines as lines;
 ghost use Rattle.tg_asm.specs.glue.Cuts.{found_cut, found_operand, gap_of, operand_of, pair_of};

@@ -1,3 +1,24 @@
+// A label belongs to the segment in force where it stands, and waits for that segment's next
+// item. `.text`, `.data` and `.globl` have no place, so labels before them wait on. A label at
+// the end of the statics names the end before any padding.
+//
+// Labels are sorted once, when all lines are laid out, in at most n log n comparisons, so no
+// choice of names makes the sort or a search long. Before a name stands the number that its
+// first eight bytes make: most comparisons are decided by it, without a look at the text. Labels
+// with one name are neighbours then. The least line at which one stands again is told before any
+// other fault, since lines are laid out no further than to the first other one. A search for
+// each label as it came, in a tree of millions of names, took up to six times as long. No more
+// than 2^24 labels are kept, so that a text of labels that are all the same takes no more memory
+// than others: where a text has more, one of those stands again, and wherever memory runs out,
+// those so far are sorted all the same. A line's labels aren't listed: the line is cut again
+// when they are added.
+//
+// A search for a label begins at signposts, every 1,024th name, which stand close together in
+// memory. After the last that isn't after the name 32 marks are looked through, every 32nd name,
+// and then 32 labels. A plain search among four million labels reads memory that is far away
+// some twenty times. No answer rests on signposts and marks: where the 32 don't have the label,
+// all are searched, which a text asks for once, since an unknown label ends it.
+
 ghost use Rattle.std.specs.Prelude.{◌≡◌, [], IfSome, Some, MatchResult, map};
 ghost use Rattle.tg_asm_text.specs.Assembly.{spot_among};
 ghost use Rattle.tg_asm.specs.glue.Entries.{

@@ -1,3 +1,6 @@
+// What operands of `.word` and `.byte` put into the statics is read where it is wanted, four
+// times over two passes. A list of it would take more memory than all else.
+
 ghost use Rattle.std.specs.Prelude.{
   ◌≡◌,
   ◌≤◌,

@@ -1,3 +1,6 @@
+// A number above 2^33 is outside every range. The definition lets it stand for 2^33, so that one
+// word holds a number of any length.
+
 ghost use Rattle.std.specs.Prelude.{◌≡◌, ◌≤◌, ◌<◌, ◌^◌, ◌-◌, ◌%◌, if◌then◌else◌};
 ghost use Rattle.tg_asm_text.specs.Operands as operands;
 ghost use Rattle.tg_asm.specs.glue.Numbers.{found_number, signed_of};

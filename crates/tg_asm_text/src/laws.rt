@@ -1,3 +1,7 @@
+// The image of a text is told twice: by two passes, which give the first fault its line, and by
+// where items and labels stand (`Placement.antt`). `text_is_placed` ties the second to the
+// first; that each image of a text is the one that its readings tell isn't proved.
+
 ghost use Rattle.tg_asm_text.specs.laws.Laws.{LinesHaveImage, ReadingsHaveImage};
 
 /// The law of an assembly text: its image is that of its readings. The code and the statics are the

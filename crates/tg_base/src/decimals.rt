@@ -1,3 +1,6 @@
+// Decimal texts are made with `itoa`, whose contract names the same text as the definition of
+// service 1.
+
 ghost use Rattle.std.specs.Prelude.{◌≡◌, ◌≤◌, take};
 ghost use Rattle.std.specs.Fmt.{signed_decimal};
 

@@ -1,3 +1,6 @@
+// Lists are one generic type `ListOf<T>` with names for its instances (`Bytes`, `Words`), since
+// a macro of a repository may not write the `impl Model` of each.
+
 ghost use Rattle.std.specs.Prelude.{◌≡◌, List};
 ghost use Rattle.std.specs.Cmp.Lexicographic.{pointwise, lists_per, lists_equiv};
 

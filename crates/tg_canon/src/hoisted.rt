@@ -1,3 +1,6 @@
+// Whatever reads memory or may trap is held before any statement that follows, a plain `Move`
+// too: a run must not write, read or take heap before a trap on the left.
+
 ghost use Rattle.std.specs.Prelude.{◌≡◌, ◌∷◌, ◌++◌, [], IfOk};
 ghost use Rattle.tg_tree.specs.Tree as tree;
 ghost use Rattle.tg_tree.specs.glue.Plain.{plain_tx};

@@ -1,3 +1,7 @@
+// A condition whose right side is hoisted is tested part by part, in loops that are left at
+// their ends. Cutting into blocks makes of it just the jumps of jumping code: no flag, no
+// temporary and no second test.
+
 ghost use Rattle.std.specs.Prelude.{◌≡◌, IfOk};
 ghost use Rattle.tg_tree.specs.Shapes.{is_flat, is_flat_condition};
 ghost use Rattle.tg_tree.specs.Tree as tree;

@@ -1,3 +1,7 @@
+// A read or a write that a signal interrupts is made again, 100 times in a row at most, so that
+// one signal ends no run, and each call returns whatever the system answers. The kit makes an
+// interrupted `open` again by itself.
+
 ghost use Rattle.std.specs.Io.{ReadsAtMost, WritesAtMost};
 ghost use Rattle.std.specs.Io.KnownBytes.{ReadConsumes, WriteAppends};
 

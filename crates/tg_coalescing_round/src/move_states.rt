@@ -1,3 +1,6 @@
+// A waiting move is woken by fewer events than the rule tries again: `waiting_fails` says that
+// no other could pass, so no step shows the difference.
+
 ghost use Rattle.std.specs.Prelude.{
   ◌≡◌,
   ◌<◌,

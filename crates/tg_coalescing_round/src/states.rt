@@ -1,3 +1,8 @@
+// Each method of a round's code is an equation: what is kept afterwards is a function in
+// `specs/` of what was kept before, so the laws of steps
+// (`tg_coalescing_round/specs/glue/Advancing.antt`) touch no code. Where the rule leaves free
+// under which node a merged class stands, it stands under the one of larger degree.
+
 ghost use Rattle.std.specs.Prelude.{
   ◌≡◌,
   ◌<◌,

@@ -1,3 +1,12 @@
+// That fields are few is shown by a walk over typing (`Fields` of `tg_compile_proof`), since
+// typing alone tells a field's place. So the constants of trees are words.
+//
+// `lowering_is_correct` takes any trees that may be flattened and whose constants are words, so
+// what a pass over trees, as folding, makes of them needs no second proof. Which passes are
+// switched on is one record, `Passes`, and `prepared` is what they make of a program. Bounds
+// hold of functions in the places of others that are no larger (`ReducesTo`), so the measures of
+// the text pay for folded functions too.
+
 ghost use Rattle.tg_compile_proof.specs.laws.Laws.{
   AllocationIsKept,
   ChoiceIsKept,

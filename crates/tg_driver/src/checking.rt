@@ -1,3 +1,6 @@
+// `check` doesn't free the tree, which took a quarter of the instructions of a long source. Who
+// calls `tiger` in a process that goes on loses that memory.
+
 ghost use Rattle.std.specs.Prelude.{◌≡◌, ⊤};
 ghost use Rattle.tg_syntax.specs.glue.Plain.{plain};
 ghost use Rattle.tg_command.specs.Commands.{asked_of};

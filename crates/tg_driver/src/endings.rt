@@ -1,3 +1,7 @@
+// After a run no memory is taken: the line of an end that names a number is written in pieces,
+// and so is the summary of `gen`. The contract says only that out of memory is never answered
+// after something was read or written; a run that does neither may be answered so.
+
 ghost use Rattle.std.specs.Prelude.{◌≡◌, [], ◌∷◌, ◌++◌, ◌<◌, IfErr, length};
 ghost use Rattle.tg_base.specs.Causes.{HasCause};
 ghost use Rattle.tg_base.specs.Writes.{TakesAll};

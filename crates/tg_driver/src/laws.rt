@@ -1,3 +1,8 @@
+// What the end of a run says is a law, and not a clause of the contract (`runs_are_as_meant`,
+// `commands_are_as_meant`). The contract says for every input that the run is the machine's, on
+// a text that does what the source means. The law speaks of the bytes of the input, which the
+// contract gives: those that it tells, or those that were read where it tells none.
+
 ghost use Rattle.std.specs.Prelude.{◌≡◌, ◌⊎◌, ℕ, List, [], Some, take};
 ghost use Rattle.tg_machine_state.specs.declared.ends.RunEnd.{RunEnd};
 ghost use Rattle.tg_isa.specs.declared.images.Image.{Image};

@@ -1,3 +1,6 @@
+// Watchers that no word asks for are dropped before the run, which then is as fast as without
+// any. Else each step is fetched twice, once for them.
+
 ghost use Rattle.std.specs.Prelude.{◌≡◌, ⊤};
 ghost use Rattle.tg_command.specs.Commands.{KeepsLimits, asked_of};
 ghost use Rattle.tg_compile.specs.Compiling.{HasImage};

@@ -1,3 +1,11 @@
+// The contract is told mode first, a file a mode, so a further mode adds a file and rewrites
+// none.
+//
+// One definition of what the program answers, over two relations of texts. By the first an
+// assembly text does what its source means, and no pass is named; by the second, of the clause
+// `compiled`, the source is compiled to it. So who reads what is promised of programs reads no
+// pass, and a `build` by another policy is refused all the same.
+
 ghost use Rattle.std.specs.Prelude.{◌≡◌, ◌≤◌, ⊤, [], map, string_bytes};
 ghost use Rattle.tg_command.specs.Counts.{IsWithin, function_limits};
 ghost use Rattle.tg_command.specs.Commands.{Ask, Asked, KeepsLimits, asked_of};

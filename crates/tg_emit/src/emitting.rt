@@ -1,3 +1,6 @@
+// Code above 32,000 words has all its branches turned round, each over a jump, so no branch has
+// to know how far it leads.
+
 ghost use Rattle.std.specs.Prelude.{◌≡◌, ◌++◌, ◌<◌, ◌^◌, IsTrue, IfOk, OnOk, nat_lt};
 ghost use Rattle.std.specs.List.{All, list_all};
 ghost use Rattle.tg_emit.specs.Ranges.{FunctionFits, LiteralFits};

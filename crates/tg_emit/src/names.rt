@@ -1,3 +1,7 @@
+// Names in assembly texts are `main` for the program's body, `f33` for other functions, `f33.5`
+// for a mark of one, `f33_7` for the place after the branch at place 7 that is turned round, and
+// `s40` for literals.
+
 ghost use Rattle.std.specs.Prelude.{◌≡◌, IfOk, OnOk, ◌++◌, codes, ◌<◌, ◌^◌};
 ghost use Rattle.std.specs.Fmt.{decimal};
 ghost use Rattle.tg_emit.specs.mirror.Names.{function_name, mark_name, behind_name, literal_name};

@@ -1,3 +1,6 @@
+// Literals are written as `.byte`s, their length and padding among them, so that any byte can
+// stand in them and nothing has to be escaped.
+
 ghost use Rattle.std.specs.Prelude.{◌≡◌, ◌++◌, ◌∷◌, [], IsTrue, IfOk, OnOk};
 ghost use Rattle.std.specs.List.{list_all};
 ghost use Rattle.tg_asm_text.specs.Operands.{is_label};

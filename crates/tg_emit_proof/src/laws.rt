@@ -1,3 +1,7 @@
+// Emission is proved in two halves, over runs of lines: functions, frames and large offsets
+// above; words, places and labels below. Which word a call puts into `$ra` is a parameter of
+// such a run, so neither half speaks of addresses of code.
+
 ghost use Rattle.tg_emit_proof.specs.laws.Emission.{
   EmissionAgrees,
   EmitIsCorrect,

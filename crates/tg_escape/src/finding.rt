@@ -1,3 +1,6 @@
+// Escapes are found by scopes, and not by the checker's notes, which would take a search for
+// each use. So the definition needs nothing of typing, and the walk keeps one scoped table.
+
 ghost use Rattle.std.specs.Prelude.{◌≡◌, IfOk};
 ghost use Rattle.std.specs.FinSet.{from_list};
 ghost use Rattle.tg_syntax.specs.glue.Plain.{plain};

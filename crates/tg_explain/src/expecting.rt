@@ -1,3 +1,8 @@
+// What is expected at a fault S1 doesn't count nesting, as S1 doesn't: a kind is expected where
+// some program of the grammar goes on with it, though with the nesting at 256 that token would
+// have S2. Whether a program within the nesting goes on is another question, which the parser
+// doesn't answer: behind `array` at 256 every program goes on too deep.
+
 ghost use Rattle.std.specs.Prelude.{◌≡◌, ◌++◌, IfOk, OnOk, take};
 ghost use Rattle.tg_syntax.specs.SyntaxFaults.{EndsOnce};
 ghost use Rattle.tg_explain.specs.Expected.{IsFaultless, AreExpected, ArePicked};

@@ -1,3 +1,6 @@
+// Constants aren't passed on: a temporary has the length 0 and a constant 2, so a function could
+// grow.
+
 ghost use Rattle.std.specs.Prelude.{◌≡◌, ◌%◌, ◌<◌, IfOk};
 ghost use Rattle.tg_base.specs.Words as words;
 ghost use Rattle.tg_tree.specs.Operators.{operate, holds};

@@ -1,3 +1,5 @@
+// An empty sequence and an expression after one stay: making statements canonical drops them.
+
 ghost use Rattle.std.specs.Prelude.{◌≡◌, IfOk, reverse};
 ghost use Rattle.tg_tree.specs.glue.Plain.{plain_tx, plain_cond, plain_ts};
 ghost use Rattle.tg_tree.specs.glue.Lists.{txs_of, stms_of};

@@ -1,3 +1,6 @@
+// Copies go to the next statement alone, and only where it assigns neither temporary anywhere: a
+// loop further on would need what is live.
+
 ghost use Rattle.std.specs.Prelude.{◌≡◌, None, IfOk, reverse};
 ghost use Rattle.tg_tree.specs.glue.Plain.{plain_ts};
 ghost use Rattle.tg_tree.specs.glue.Lists.{stms_of};

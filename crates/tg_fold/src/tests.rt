@@ -1,3 +1,6 @@
+// A right side that is known stays after a left one that acts: it becomes a comparison of 0 with
+// itself, which is no longer.
+
 ghost use Rattle.std.specs.Prelude.{◌≡◌, IfOk};
 ghost use Rattle.tg_tree.specs.glue.Plain.{plain_tx, plain_cond, plain_ts};
 ghost use Rattle.tg_fold.specs.glue.Views.{plain_tested};

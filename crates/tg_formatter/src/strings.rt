@@ -1,3 +1,7 @@
+// A string of `format` is written by a table of escapes, 64 bytes at a time into an array that
+// the text takes at once. Byte by byte, each with its own tests, took half as many instructions
+// again.
+
 ghost use Rattle.std.specs.Prelude.{◌≡◌, ◌++◌, ◌∷◌, [], OnOk};
 ghost use Rattle.tg_formatter.specs.Canonical as canonical;
 

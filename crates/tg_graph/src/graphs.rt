@@ -1,3 +1,7 @@
+// A graph is seen as its nodes and, for each temporary, its neighbours in the order of joining,
+// from which the set of pairs follows. Registers have no lists, as in the article: no test and
+// no step asks for the neighbours of one.
+
 ghost use Rattle.std.specs.Prelude.{
   ◌≡◌,
   ◌≢◌,

@@ -1,3 +1,10 @@
+// The bits of pairs stand in tiles of 128 by 128 nodes, and a tile takes its 2 KiB when a pair
+// in it is joined. Most temporaries live shortly, and interfere with near numbers: these pairs
+// stand along the diagonal. A few, as those that keep `$s0` to `$s7` and `$ra` for the caller,
+// interfere with all others: theirs stand in one row and one column. Other orders of the bits
+// put each pair of the one kind or the other on a page of its own, or are written nearly whole.
+// All tiles that aren't there take a hundredth of all bits.
+
 ghost use Rattle.std.specs.Prelude.{
   ◌≡◌,
   ◌<◌,

@@ -1,3 +1,6 @@
+// A branch is `Branch(Test, mark)`: that its comparison is one row of the table is a ghost field
+// of `Test`, since a variant can't have one.
+
 ghost use Rattle.std.specs.Prelude.{IsTrue};
 ghost use Rattle.tg_instr.specs.Operands.{is_one_row};
 

@@ -1,3 +1,7 @@
+// A round is defined by its steps, and all freedom lies in which is taken: a step is taken only
+// where no step of an earlier kind is possible. Ready and waiting moves are told apart by the
+// code alone.
+
 /// A step of a round (George and Appel 1996, section 4). Nodes are named by the node under which
 /// their class stands, and moves by their place.
 #[derive(Clone, Copy, Debug, PartialEq, Eq)]

@@ -1,3 +1,6 @@
+// Fields of instructions are numbers of type `Bits<N>`, which keep in their type that they fit,
+// and contracts see the plain number.
+
 ghost use Rattle.std.specs.Prelude.{◌≡◌, ℕ, ◌^◌, ◌<◌};
 
 use std::marker::Model;

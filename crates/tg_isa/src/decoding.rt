@@ -1,3 +1,6 @@
+// `decode_of` is a function in `specs/`, although a relation would be shorter: the definition of
+// a run has to compute. The contract of `decode` and `encode` ties it to the table.
+
 ghost use Rattle.std.specs.Prelude.{◌≡◌, ◌≢◌, ◌/◌, ◌^◌, IfSome, IfNone};
 ghost use Rattle.tg_isa.specs.Table.{
   decode_compared_form,

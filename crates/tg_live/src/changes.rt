@@ -1,3 +1,8 @@
+// What is live is kept as what comes and what goes at each place, and each set is made of the
+// one before as the interference graph is built. A set for each place takes 8 bytes for each
+// pair of a place and an operand that is live there: a call of 2,000 arguments that are calls
+// has 8 million pairs and 10,000 changes.
+
 ghost use Rattle.std.specs.Prelude.{
   ◌≡◌,
   ◌<◌,

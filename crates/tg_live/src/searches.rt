@@ -1,3 +1,7 @@
+// What is live is searched for backwards from each use, so each pair of place and operand is
+// visited once. A matrix of bits over places and operands would have a thousand million bits for
+// the largest bodies. Codes of 2^32 instructions and more are answered as out of memory.
+
 ghost use Rattle.std.specs.Prelude.{
   ◌≡◌,
   ◌<◌,

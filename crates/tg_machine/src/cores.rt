@@ -1,3 +1,6 @@
+// An address below the stack's floor, down to 40000000, is `StackFull`, so a program that runs
+// out of stack ends by that name.
+
 ghost use Rattle.std.specs.Prelude.{◌≡◌, ◌<◌, ◌≤◌, ◌%◌, IfErr, IfOk, Err, None};
 ghost use Rattle.tg_base.specs.Words.{product_high, product_low};
 ghost use Rattle.tg_isa.specs.Effects as effects;

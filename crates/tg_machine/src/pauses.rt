@@ -1,3 +1,5 @@
+// Each input is a list of bytes, since it ends once, whether its source tells them or not.
+
 ghost use Rattle.tg_machine.specs.glue.Pauses.{Pauses};
 
 use crate::cores::Core;

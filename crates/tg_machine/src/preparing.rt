@@ -1,3 +1,9 @@
+// A word of code is prepared once, at load, into a row of 8 bytes: immediates extended, a
+// branch's distance and a jump's target in bytes. With the word itself, which watchers see, that
+// is 12 bytes a word. The place is a variable of the loop, written back at a pause. A branch
+// writes it into the core too: so it stays a branch, which the processor foresees, where a
+// selected place would wait for the test.
+
 ghost use Rattle.std.specs.Prelude.{◌≡◌};
 ghost use Rattle.tg_machine.specs.mirror.Rows.{distance, prepared, row_of};
 

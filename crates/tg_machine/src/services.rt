@@ -1,3 +1,10 @@
+// Service 12 gives -1 at the end of input. The SPIM manual, whose table of services this is,
+// says nothing of it.
+//
+// A service writes a text from the heap or the statics where it stands. Only a text on the
+// stack, or across regions, is copied, in a function of its own, since a function clears its
+// locals when it is entered.
+
 ghost use Rattle.std.specs.Prelude.{
   ◌≡◌,
   ◌<◌,

@@ -1,3 +1,6 @@
+// Bytes become words by `byteorder` in the machine and the assembler. Of three ways to store a
+// word that `bench/compare` compared, one `write_u32` took the fewest instructions.
+
 ghost use Rattle.std.specs.Prelude.{◌≡◌, ◌≢◌, ◌+◌, ◌≤◌, ◌/◌, ◌%◌, [], ◌∷◌, length, vec_capacity};
 ghost use Rattle.std.specs.Prelude.{◌<◌, ◌^◌, IfSome, slice_range};
 ghost use Rattle.tg_base.specs.Words.{extended, extended_byte, rem};

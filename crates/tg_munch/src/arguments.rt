@@ -1,3 +1,7 @@
+// Arguments past the fourth are stored to the frame first, unless one of the first four may end
+// the run (`tg_munch/specs/mirror/Arguments.antt`). One frame address serves all parameters past
+// the fourth.
+
 ghost use Rattle.std.specs.Prelude.{◌≡◌};
 ghost use Rattle.tg_tree.specs.glue.Lists.{txs_of};
 ghost use Rattle.tg_tree.specs.glue.Plain.{plain_tx};

@@ -1,3 +1,7 @@
+// A product and its upper word take one `mult` (`tg_munch/specs/mirror/Products.antt`), so
+// `munch` looks at an element of flat code and the one before it. After a mark, where a run may
+// come from elsewhere, the upper word is multiplied anew.
+
 ghost use Rattle.std.specs.Prelude.{◌≡◌, option_map};
 ghost use Rattle.tg_tree.specs.glue.Plain.{plain_linear, plain_ts, plain_tx};
 ghost use Rattle.tg_munch.specs.mirror.Products as products;

@@ -1,3 +1,7 @@
+// The theorem on the choice of instructions counts a unit each, and a law of its own turns that
+// into any other count: thirteen words a unit, since a move between two places in the frame may
+// be thirteen. Where flat code goes wrong, nothing is said of the instructions.
+
 ghost use Rattle.tg_munch_proof.specs.laws.Chosen.{
   CodeKeepsCounts,
   CodeKeepsWords,

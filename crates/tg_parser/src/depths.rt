@@ -1,3 +1,7 @@
+// The parser looks at each expression as it ends, if it has so many tokens that it may be too
+// deep, so none that it holds or lets go should be deeper than 8,000 by more than the operators
+// of one bracket; the contract says it of the answer alone.
+
 ghost use Rattle.std.specs.Prelude.{◌≡◌, ◌≤◌, IsTrue, IfOk};
 ghost use Rattle.tg_syntax.specs.Tree.{no_decs};
 ghost use Rattle.tg_syntax.specs.glue.Plain.{

@@ -1,3 +1,6 @@
+// What watchers stand for is a relation, since their counters fit many lists of fetches. Their
+// reports are functions of such a list, and the contract of `tiger` names those alone.
+
 ghost use Rattle.std.specs.Prelude.{◌≡◌, ◌<◌, ◌^◌, [], ℕ, List, length, OnOk};
 ghost use Rattle.tg_machine.specs.declared.fetches.Seen.{Seen};
 ghost use Rattle.tg_profiler.specs.Watching.{Report};

@@ -1,3 +1,8 @@
+// `Location` has two senses, far apart: what an l-value is evaluated to (`tg_semantics`), and
+// where a temporary is after allocation (`tg_regalloc`). Each is its field's word, and no file
+// speaks of both. Constructors of two relations may have one name, as `blank` and `comment` of
+// two relations on texts.
+
 ghost use Rattle.std.specs.Prelude.{◌≡◌, ◌++◌, ◌∷◌, [], IfOk};
 
 use tg_base::{ListOf, Memory};

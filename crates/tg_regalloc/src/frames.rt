@@ -1,3 +1,7 @@
+// `in_frame` puts temporary t in slot `slots + t`. Operands go through `$t0` and `$t1`, which it
+// asks code before allocation not to name; a move between a slot and a register is one load or
+// store.
+
 ghost use Rattle.std.specs.Prelude.{[], ◌≡◌, ◌<◌, ◌+◌, ◌^◌, IsTrue, IfOk, cond};
 ghost use Rattle.std.specs.List.{list_all};
 ghost use Rattle.tg_instr.specs.Codes.{

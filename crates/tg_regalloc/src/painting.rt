@@ -1,3 +1,6 @@
+// A class that is spilled takes a slot exactly where it stands under a temporary of the code
+// that was handed in: it stands under one where it holds one, so its node tells.
+
 ghost use Rattle.std.specs.Prelude.{◌≡◌, ◌<◌, ◌≤◌, ◌++◌, ◌∷◌, [], IfOk, IsTrue, OnOk, length, cond};
 ghost use Rattle.std.specs.List.{list_all};
 ghost use Rattle.tg_instr.specs.Codes.{has_temps_below, is_below};

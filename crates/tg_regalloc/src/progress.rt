@@ -1,3 +1,6 @@
+// Every temporary goes to the frame where a round spills made temporaries alone: what was loaded
+// for one use would only be loaded anew. That round is kept, so that `alloc` tells why.
+
 ghost use Rattle.std.specs.Prelude.{
   ◌≡◌,
   ◌<◌,

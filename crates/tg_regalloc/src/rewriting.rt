@@ -1,3 +1,6 @@
+// Each use and each definition gets a temporary of its own, also where two operands of one
+// instruction are one temporary, as in the article.
+
 ghost use Rattle.std.specs.Prelude.{
   ◌≡◌,
   ◌<◌,

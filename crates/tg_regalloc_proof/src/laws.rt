@@ -1,3 +1,9 @@
+// Instructions are charged by their place (label, and how many are left), so a bound on work
+// carries over rounds of spilling, where one load may count what another doesn't.
+//
+// A slot that allocation adds is one of the own activation: what stands for a function changes
+// no other, so the frames of all open activations are compared one by one.
+
 ghost use Rattle.tg_regalloc_proof.specs.Keeping.{
   ChargedLessDoesNoMore,
   KeepsCompose,

@@ -1,3 +1,6 @@
+// A record is made by service 9 where it stands. The runtime's function for records is kept, as
+// each program keeps all of them, and none calls it.
+
 ghost use Rattle.std.specs.Prelude.{◌≡◌, IfOk};
 ghost use Rattle.tg_tree.specs.glue.Plain.{plain_ts};
 ghost use Rattle.tg_runtime.specs.mirror.Routines as routines;

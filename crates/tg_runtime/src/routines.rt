@@ -1,3 +1,5 @@
+// One function compares strings, by -1, 0 or 1, for all six comparisons.
+
 ghost use Rattle.std.specs.Prelude.{◌≡◌};
 ghost use Rattle.tg_runtime.specs.mirror.Labels.{label_of};
 

@@ -1,3 +1,10 @@
+// A new string asks service 9 for its length and 4 bytes more, since the service rounds up to
+// words. No function of the runtime uses a literal or calls another.
+//
+// `concat` copies its first string word by word, since strings begin at multiples of 4. What the
+// last word brings along is replaced by the second string, or stands after the end of the new
+// one, where nothing looks.
+
 ghost use Rattle.std.specs.Prelude.{◌≡◌, IfOk};
 ghost use Rattle.tg_tree.specs.glue.Plain.{plain_tx, plain_cond, plain_ts};
 ghost use Rattle.tg_runtime.specs.mirror.Routines as routines;

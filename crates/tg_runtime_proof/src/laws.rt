@@ -1,3 +1,6 @@
+// The law of the runtime speaks of any run by steps, so trees, and trees whose static links are
+// looked at, share it.
+
 ghost use Rattle.tg_runtime_proof.specs.laws.Serving.{
   LinkedAreServed,
   RuntimeIsCorrect,

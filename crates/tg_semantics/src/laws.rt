@@ -1,3 +1,19 @@
+// Evaluation is written once, over a set of actions, and has two forms: functions from a state
+// to a result explain the language; runs that take what comes next are what a translation is
+// compared with. One induction over the tree (`tg_semantics/proofs/Related.antt`) serves every
+// law.
+//
+// An activation opens before its unit of fuel is used, so its weight and depth count even where
+// no fuel is left. A callee's name is looked up, and the levels out to it paid, before the
+// arguments are evaluated, since the static link is the first argument. Neither can be seen in
+// an accepted program with fuel enough.
+//
+// One `Outcome`, by the endings that a program has. Agreement says nothing of the heap that is
+// taken: an end by a full heap shows in the ending.
+//
+// A store reads its place first, so what isn't there is stuck, also a variable. A read costs
+// nothing, so no number changes.
+
 ghost use Rattle.tg_semantics.specs.MachineRuns.{TurnsAsSource, NoEndingIsFull, OnlyStuckIsStuck};
 ghost use Rattle.tg_semantics.specs.laws.Laws.{
   FormsAgree,

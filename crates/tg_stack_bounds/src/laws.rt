@@ -1,3 +1,13 @@
+// How large a tree is, is told by what a node of the text pays, for its own tree and for what
+// its place adds. The dearest node is a call without arguments over 32 levels. What the
+// translation makes of a text is as large whatever state it begins in, so the walk for sizes
+// knows no state.
+//
+// Static links are paid by the levels that the finished translation has found, so
+// `tg_stack_bounds` stands above `tg_translate_proof`, which shows that these are the levels of
+// the text. The bounds of `tg_translate_laws` count 32 levels at each use; with them a frame
+// might exceed what its activation weighs.
+
 ghost use Rattle.tg_stack_bounds.specs.laws.Weights.{
   AcceptedTreesAreLight,
   FramesAreLight,

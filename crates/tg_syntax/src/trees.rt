@@ -1,3 +1,6 @@
+// Trees with lists of trees (`Exps`, `Inits`, `Decs`, `FunDecs`) are structs with a public
+// vector, and contracts see the plain tree.
+
 use crate::tokens::Ident;
 use tg_base::{Bytes, ListOf, Span};
 

@@ -1,3 +1,7 @@
+// A block that only fails is laid behind the trace of its check, so a test that is passed falls
+// through, and one that is known to pass can go. A branch is otherwise followed by its true side
+// where that isn't laid yet.
+
 ghost use Rattle.std.specs.Prelude.{◌≡◌, true, length, slice_set, IfOk, OnOk};
 ghost use Rattle.tg_tree.specs.Tree.{no_stms};
 ghost use Rattle.tg_trace_schedule.specs.glue.Plains.{plain_block, plain_blocks, plain_end, plain_order};

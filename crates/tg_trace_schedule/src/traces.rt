@@ -1,3 +1,12 @@
+// No block that only jumps is laid but heads of loops: each way back goes to its own loop's
+// head, whose jump falls through in a trace. What follows a statement that leaves its sequence
+// is dropped; other code that is never come to stays.
+//
+// A way back stays one where blocks are laid. Blocks take a unit of fuel for a way back alone,
+// flat code for each jump and each branch taken, so the code wants no less. A way back would
+// fall through only where a trace came to a block of a loop before its head; `trace` asks that
+// loops are entered at their heads alone, and `blocks` gives it.
+
 ghost use Rattle.std.specs.Prelude.{◌≡◌, ◌<◌, ◌+◌, IfOk, OnOk};
 ghost use Rattle.std.specs.Prelude.{◌++◌, length, slice_set, slice_get, slice_index};
 ghost use Rattle.tg_tree.specs.glue.Lists.{code_of};

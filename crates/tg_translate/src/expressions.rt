@@ -1,3 +1,8 @@
+// What an expression becomes is put where the caller says (`made`), and a construct goes on
+// after its first part in a function of its own. So a level of the tree takes at most 512 bytes
+// of the process's stack, for a function within a function; with values held across the
+// recursion it took 3.4 KiB.
+
 ghost use Rattle.std.specs.Prelude.{◌≡◌, [], IfOk, OnOk};
 ghost use Rattle.tg_syntax.specs.glue.Plain.{
   plain,

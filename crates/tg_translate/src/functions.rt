@@ -1,3 +1,6 @@
+// A static link stands in a slot only where a nested function goes through it, and then in the
+// first one.
+
 ghost use Rattle.std.specs.Prelude.{◌≡◌, ◌+◌, length, IfOk, OnOk};
 ghost use Rattle.tg_syntax.specs.glue.Plain.{plain_functions};
 ghost use Rattle.tg_tree.specs.glue.Plain.{plain_ts};

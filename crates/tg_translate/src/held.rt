@@ -1,3 +1,7 @@
+// A value that is used several times stands in a temporary: an array and its index, a record, a
+// product's factors. A variable's own temporary serves where nothing assigns it until its last
+// use.
+
 ghost use Rattle.std.specs.Prelude.{◌≡◌, IfOk};
 ghost use Rattle.tg_tree.specs.glue.Plain.{plain_tx};
 ghost use Rattle.tg_tree.specs.glue.Lists.{stms_of};

@@ -1,3 +1,10 @@
+// Sums and products that overflow: the code uses the trapping `add` and `sub`. MIPS I has no
+// trapping product: the code compares the product's upper word with the sign of its lower one,
+// and where they differ adds 80000000 to itself, which traps.
+//
+// The division by a number other than 0 and -1 has no check, and the negation of a number is a
+// number.
+
 ghost use Rattle.std.specs.Prelude.{◌≡◌, IfOk};
 ghost use Rattle.tg_syntax.specs.glue.Plain.{plain};
 ghost use Rattle.tg_tree.specs.glue.Plain.{plain_tx, plain_cond, plain_ts};

@@ -1,3 +1,6 @@
+// Names are known by the bytes of their declarations, so homes and labels are never taken back.
+// What isn't declared, of which an accepted program has nothing, reads 0.
+
 ghost use Rattle.std.specs.Prelude.{◌≡◌, IfOk};
 ghost use Rattle.std.specs.FinSet as set;
 ghost use Rattle.tg_tree.specs.glue.Plain.{plain_tx, plain_ts};

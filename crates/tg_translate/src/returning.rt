@@ -1,3 +1,7 @@
+// A function whose made tree has no loop returns from the arms of its choices. With a loop it
+// returns once, at its end: else the copies of the saved registers would gain uses, and others
+// be spilled first.
+
 ghost use Rattle.std.specs.Prelude.{◌≡◌, ◌||◌, IfOk};
 ghost use Rattle.tg_tree.specs.glue.Plain.{plain_tx, plain_cond, plain_ts};
 ghost use Rattle.tg_tree.specs.glue.Lists.{txs_of, stms_of};

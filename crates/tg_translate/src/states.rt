@@ -1,3 +1,11 @@
+// Bounds that no crate below gives are tested, and out of memory is answered beyond them, in
+// each pass; `docs/THEOREM.md` lists them. `translate` tests besides that a field's place, a
+// record's number of fields and a slot's number are below 2^30, and labels, levels, loops that a
+// `break` leaves and a string's bytes below 2^32.
+//
+// Some laws stand with the definitions that they are about, and
+// `tg_translate/specs/mirror/Scopes.antt` has the types of what is found.
+
 ghost use Rattle.std.specs.Prelude.{◌≡◌, ◌<◌, ◌+◌, map, IfOk, OnOk};
 ghost use Rattle.tg_tree.specs.glue.Plain.{
   plain_ts,

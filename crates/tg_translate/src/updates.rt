@@ -1,3 +1,7 @@
+// An assignment whose value begins with a read of the place that it assigns finds that place
+// once, as in `a[i] := a[i] + x` (`tg_translate/specs/mirror/Updates.antt`). What the address is
+// made of is kept, and the read has no check of its own.
+
 ghost use Rattle.std.specs.Prelude.{◌≡◌};
 ghost use Rattle.tg_syntax.specs.glue.Plain.{plain, plain_lvalue as plain_var};
 ghost use Rattle.tg_translate.specs.mirror.Scopes.{findings_of};

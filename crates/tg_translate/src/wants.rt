@@ -1,3 +1,11 @@
+// An expression becomes a value, a statement or a condition (the book's Ex, Nx and Cx), for what
+// its place wants: a value, a value put into a temporary, nothing, or a condition. So the arms
+// of an `if`, the last of a sequence and a `let`'s body write where their value goes, and a test
+// is never made a number first.
+//
+// `if a then b else 0` is `a & b` where a condition is wanted: the language has no other
+// difference between the two.
+
 ghost use Rattle.std.specs.Prelude.{◌≡◌, IfOk, OnOk};
 ghost use Rattle.tg_tree.specs.glue.Plain.{plain_tx, plain_cond, plain_ts};
 ghost use Rattle.tg_tree.specs.glue.Lists.{stms_of};

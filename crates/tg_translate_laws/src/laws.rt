@@ -1,3 +1,18 @@
+// The shapes of its trees are laws in a crate of their own (`tg_translate_laws`), so the
+// translation isn't proved again with each. `Want`, `Within`, `Home`, `Callee`, `Operand` and
+// `HeldAddress` are exported for that. One walk gives all of them, with breaks and temporaries
+// as a parameter, so each law asks for no more than it needs.
+//
+// Laws of frames go function by function, over what the text says of each function's own
+// parameters and body. How far a tree goes is told by accesses of memory one within another,
+// since the load of a link and that of a variable in a first slot look alike.
+//
+// A label stands as often as it was drawn: every step of the translation keeps that, counted for
+// each number. Each is drawn once, so all labels differ and each called one stands there.
+//
+// Laws over checked programs speak of plain trees, so they can be cited where only a text is
+// known.
+
 ghost use Rattle.tg_translate_laws.specs.laws.GivingBack.{LinkedTreesGiveBack, TreesGiveBack};
 ghost use Rattle.tg_translate_laws.specs.laws.Laws.{
   BodiesAreClosed,

@@ -1,3 +1,16 @@
+// The relation of typed parts says what the translation goes by: that a declared function has a
+// result exactly where its header names one, and that there are values of the type of each
+// variable, parameter, field and element. Without it what is shown of each expression would be
+// false.
+//
+// Links are right for one body on one input, since other bodies and inputs may differ. The
+// theorem simulates the run that looks at them; that of the trees comes of it, since it never
+// goes wrong.
+//
+// What an expression is translated by is a parameter of its situation (`SituationBy`,
+// `LeftSide`): an update's value is translated after a read whose value is known
+// (`behind_read`), any other by `expression`. So each operator has one lemma for both.
+
 ghost use Rattle.tg_translate_proof.specs.laws.Activations.{
   AssignmentsFindTheirActivation,
   TemporariesAreOwn,

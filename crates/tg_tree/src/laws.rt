@@ -1,3 +1,6 @@
+// A byte stored into a slot of the frame that holds no word yet makes a run of trees go wrong,
+// since the other bytes of that word have no value. No pass stores bytes into frames.
+
 ghost use Rattle.tg_tree.specs.Carrying.{FunctionsCarryCalls, FunctionsCarryPrograms};
 ghost use Rattle.tg_tree.specs.FlatValue.{FlatRunsAsValue, FlatSpendsLength, FlatWordSpendsAll};
 ghost use Rattle.tg_tree.specs.Links.{LinkedRunsStep, LinkedRunsStayOver, LinkedRunsAreRuns};

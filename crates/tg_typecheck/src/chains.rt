@@ -1,3 +1,6 @@
+// Cycles of type names are found by squaring the chains of names that stand for others of their
+// group, in n log n steps. A walk from each name could take n squared.
+
 ghost use Rattle.std.specs.Prelude.{◌≡◌, ◌<◌, ℕ, length, map, slice_index_or, IfOk, All};
 ghost use Rattle.tg_syntax.specs.glue.Plain.{plain_type, plain_form};
 ghost use Rattle.tg_typecheck.specs.declared.chains.Chain.{Chain as Place};

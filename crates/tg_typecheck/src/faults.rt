@@ -1,3 +1,6 @@
+// A fault stands where a part of the program begins (`faults_stand_within`), so its line and
+// column can always be told.
+
 use tg_base::Faulty;
 
 /// A rule of typing.

@@ -1,3 +1,9 @@
+// T20 to T22 are told last, after a fault of another rule, wherever it stands (`finding_of` in
+// `tg_typecheck/specs/Accepted.antt`): of a program with too many nodes and an unknown name the
+// name is told. A count while parsing could tell that a program is too large, and not that it
+// has no other fault, so the walk is due in any case. What bounds its stack is the depth, which
+// is counted before anything is walked.
+
 ghost use Rattle.std.specs.Prelude.{◌≡◌, ◌≤◌, [], ◌++◌, List};
 ghost use Rattle.tg_syntax.specs.glue.Plain.{
   plain,
