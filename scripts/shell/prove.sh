@@ -269,7 +269,7 @@ compare() {
 prove_all() {
     for tool in rt flock; do
         command -v "$tool" >/dev/null ||
-            fail 69 "--prove takes $tool, and that isn't on the PATH (rt is the command of rattle-kit-13f)"
+            fail 69 "--prove takes $tool, and that isn't on the PATH (rt is the command of rattle-kit-13)"
     done
     { mkdir -p "$out" && echo >>"$out/tiger.lock" && echo >>"$log"; } 2>/dev/null ||
         fail 69 "--prove writes to $here, and that can't be written to"
