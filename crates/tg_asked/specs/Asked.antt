@@ -31,8 +31,8 @@ call_by rule reporters words before after =
 abbrev pub reports : List Report
 reports = profile_report ∷ coverage_report ∷ trace_report ∷ []
 
--- the status is the program's answer to the words, by the rule of `LeastUse` and with those reports;
--- and what it built or ran is what the source is compiled to
+-- the status is the program's answer to the words, by the rule of `LeastUse` and with those
+-- reports; and what it built or ran is what the source is compiled to
 pub record IsAsked (words : List (List ℕ)) (before after : Objects) (status : ℕ) : Type 0 where
   pub answers : Answers (call_by least_use reports words before after) status
   pub compiled : AnswersCompiled (call_by least_use reports words before after) status

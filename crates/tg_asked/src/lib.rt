@@ -1,7 +1,7 @@
-//! The program over texts in memory, as the page asks it: with the command line's policy and watchers.
+//! The program over texts in memory, as the page asks it, with the command line's watchers.
 //!
 //! Promises that a call is answered as the top call answers it over these objects, by the rule of
-//! `LeastUse`.
+//! `LeastUse` and with the reports of the three watchers.
 #![tactic(auto)]
 
 ghost use Rattle.std.specs.Prelude.{IfOk, map, string_bytes};

@@ -32,6 +32,8 @@ returns c =
     let is = read_made own-2 (own-2.entry (inl tt)) _ refl _ (λ entry policy. entry.1.rule policy) _ _ _ c.into_dyn_box-2.ensures.1 in
     let profile = read_made own-1 (own-1.entry (inl tt)) _ refl _ (λ entry watcher. entry.1.report watcher) _ _ _ c.into_dyn_box.ensures.1 in
     let coverage = read_made own-1 (own-1.entry (inr (inl tt))) _ refl _ (λ entry watcher. entry.1.report watcher) _ _ _ c.into_dyn_box-in_ok-new-2.ensures.1 in
-    let trace = read_made own-1 (own-1.entry (inr (inr (inl tt)))) _ refl _ (λ entry watcher. entry.1.report watcher) _ _ _ c.into_dyn_box-in_ok-new-3.ensures.1 in
-    let are = pushed _ _ _ _ _ _ _ _ _ _ _ c.new-watchers.ensures.items c.in_ok-push.ensures.items c.in_ok-push-2.ensures.items c.in_ok-push-3.ensures.items profile coverage trace in
+    let trace = read_made own-1 (own-1.entry (inr (inr (inl tt)))) _ refl _ (λ entry watcher. entry.1.report watcher) _ _ _
+    c.into_dyn_box-in_ok-new-3.ensures.1 in
+    let are = pushed _ _ _ _ _ _ _ _ _ _ _ c.new-watchers.ensures.items c.in_ok-push.ensures.items
+    c.in_ok-push-2.ensures.items c.in_ok-push-3.ensures.items profile coverage trace in
     by_rule _ _ _ _ _ _ is are c.tiger.ensures.answers c.tiger.ensures.compiled
