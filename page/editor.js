@@ -47,8 +47,8 @@ function follow() {
   at("gutter").scrollTop = scrollTop;
 }
 
-// Marks and tells the fault that a line of the program names, if it names one.
-function tell_fault(line) {
+// Marks and tells the fault that a line of the program names, if it names one, with what explains it.
+function tell_fault(line, more) {
   const text = at("source").value;
   const found = /^tiger: (?:(\d+):(\d+): |line (\d+): )(.*)/m.exec(line);
   editor.fault = null;
@@ -56,7 +56,7 @@ function tell_fault(line) {
     const row = Number(found[1] ?? found[3]), column = Number(found[2] ?? 1);
     editor.fault = { line: row, offset: offset_of(text, row, column) };
     const key = found[1] ? "fault" : "fault_line";
-    at("fault").replaceChildren(text_of(key, { line: row, column, what: found[4] }));
+    at("fault").replaceChildren([text_of(key, { line: row, column, what: found[4] }), ...more].join("\n"));
   }
   at("fault").hidden = !found;
   draw_editor();

@@ -3,7 +3,7 @@ const MODES = ["run", "check", "build", "alloc", "format", "exec"], SETTINGS = [
 const DEFAULTS = { heap: 16777216, stack: 67108864, steps: 1000000000 };
 const TABS = { answer: () => {}, stages: () => open_stages(), allocator: () => open_allocator(), simulator: () => open_simulator() };
 const FIRST_LEG = 2 ** 24, OF_STEPS = /^tiger: step limit$/m;
-const shell = { worker: null, module: null, waits: new Map(), calls: 0, mode: "", from: 0 };
+const shell = { worker: null, module: null, waits: new Map(), calls: 0, mode: "", from: 0, has: {} };
 const decoded = (bytes) => new TextDecoder().decode(bytes);
 const seconds = (ms) => (ms < 1000 ? `${ms.toFixed(1)} ms` : `${(ms / 1000).toFixed(2)} s`);
 const fill_options = (select, options) => select.replaceChildren(...options.map(([value, name]) => new Option(name, value)));
@@ -50,7 +50,7 @@ function words_for(mode, steps) {
     if (said !== String(DEFAULTS[it])) words.push(`--${it}`, said);
   }
   if (at("watch").checked && (mode === "run" || mode === "exec")) words.push("--watch");
-  if (at("fold").checked && ["run", "build", "alloc"].includes(mode)) words.push("--fold");
+  if (at("fold").checked && ["run", "build", "alloc", "show"].includes(mode)) words.push("--fold");
   return words;
 }
 
@@ -70,8 +70,15 @@ async function asked(mode, { tell, shows, limit = 0 }) {
     at("out").textContent = decoded(answer.out);
   }
   at("bar").hidden = true;
-  if (answer && !answer.trap && tell) tell_fault(mode === "exec" || answer.status === 65 ? decoded(answer.err) : "");
+  if (answer && !answer.trap && tell) tell_fault(mode === "exec" || answer.status === 65 ? decoded(answer.err) : "", await explained(mode, answer));
   return answer?.trap ? null : answer;
+}
+
+// The lines that explain a fault of a source, where the program has the flag.
+async function explained(mode, { status }) {
+  if (status !== 65 || mode === "exec" || !shell.has.explain) return [];
+  const more = await call({ kind: "ask", words: ["tiger", "check", "page.tig", "--explain"], text: at("source").value, input: "" });
+  return more?.err ? decoded(more.err).trim().split("\n").slice(1).map((it) => it.replace(/^tiger:\s+/, "")) : [];
 }
 
 async function press(mode) {
@@ -211,8 +218,8 @@ async function begin() {
   at("state").textContent = TEXTS.begins;
   shell.module = Uint8Array.from(atob(MODULE), (it) => it.charCodeAt(0));
   begin_worker();
-  const probe = await call({ kind: "ask", words: ["tiger", "build", "page.tig", "--fold"], text: "0", input: "" });
-  at("fold_label").hidden = probe?.status !== 0;
+  for (const [name, words] of Object.entries({ show: ["show", "page.tig"], explain: ["check", "page.tig", "--explain"] }))
+    shell.has[name] = (await call({ kind: "ask", words: ["tiger", ...words], text: "0", input: "" }))?.status === 0;
   at("state").textContent = TEXTS.ready;
 }
 

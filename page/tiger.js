@@ -103,3 +103,27 @@ function allocations_of(text) {
   }
   return found;
 }
+
+// What `show` tells: the functions by the numbers of their labels, each with its name, its line in the source and its stages.
+function shown_functions(text) {
+  const found = [];
+  let lines = [];
+  for (const line of text.split("\n")) {
+    const head = /^function (\d+) (\S+)(?: (\d+):\d+)?$/.exec(line);
+    if (head) found.push({ number: Number(head[1]), name: head[2], line: Number(head[3] ?? 0), stages: new Map() });
+    else if (line.startsWith("  ")) lines.push(line.slice(2));
+    else if (line) found.at(-1).stages.set(line, (lines = []));
+  }
+  return found;
+}
+
+// The neighbours of each node of the first round's graph, as the stage `graph` tells them: a name, what its degree is, and the others.
+function neighbours_of(lines) {
+  const near = new Map(), bare = (it) => it.split(":")[0];
+  const of = (it) => near.get(bare(it)) ?? near.set(bare(it), new Set()).get(bare(it));
+  for (const [name, , ...others] of lines.map((it) => it.split(" ")).filter(([word]) => word !== "move")) {
+    of(name);
+    for (const other of others) of(name).add(bare(other)), of(other).add(bare(name));
+  }
+  return near;
+}

@@ -1,14 +1,14 @@
 ghost use Rattle.std.specs.Prelude.{◌≡◌, ◌≤◌, ◌%◌, ℕ, List, length, IfOk, OnErr};
 ghost use Rattle.tg_machine_state.specs.State.{most_bytes, most_room, most_words};
-ghost use Rattle.tg_page.specs.glue.Requests.{request_of};
+ghost use Rattle.tg_page.specs.glue.Requests.{refusal, request_of};
 ghost use Rattle.tg_page.specs.Looks.{IsLook, IsLookedAt, nowhere, place_told, room_of};
 
 use crate::buffers::put;
 use crate::stopping::{Stops, run_to_stop};
 use crate::viewing::{tell_registers, tell_words};
 use std::alloc::Global;
-use tg_asm::assemble;
-use tg_base::{Faulty, Memory, PlainSource, RoomSink};
+use tg_asm::{AsmFault, assemble};
+use tg_base::{Memory, PlainSource, RoomSink};
 use tg_isa::Image;
 use tg_machine::{Machine, load};
 
@@ -146,8 +146,17 @@ fn look_at_text(
             Ok(place) => place,
             Err(_) => nowhere(70, 0),
         },
-        Err(Faulty::Bad { rule: _, at }) => nowhere(65, at),
-        Err(Faulty::Memory) => nowhere(70, 0),
+        Err(fault) => refused(fault),
+    }
+}
+
+/// What is told of a text without an image: the line of its fault, or that memory ran out.
+fn refused(fault: AsmFault) -> Place
+    ensures { result ≡ refusal fault }
+{
+    match fault {
+        AsmFault::Bad { rule: _, at } => nowhere(65, at),
+        AsmFault::Memory => nowhere(70, 0),
     }
 }
 
