@@ -142,11 +142,11 @@ fn look_at_text(
         }) result }
 {
     match assemble(alloc, text) {
+        Err(fault) => refused(fault),
         Ok(image) => match look(alloc, &image, asked, registers, words, counts, out) {
             Ok(place) => place,
             Err(_) => nowhere(70, 0),
         },
-        Err(fault) => refused(fault),
     }
 }
 

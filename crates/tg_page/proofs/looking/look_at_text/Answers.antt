@@ -19,4 +19,4 @@ pub returns-in-Ok-look : goal.returns-in-Ok-look
 returns-in-Ok-look c = looked c.in-Ok.image c.in-Ok.ensures.image (c.in-Ok-look.ensures.looked c.args.text.now)
 
 pub returns-in-Err : goal.returns-in-Err
-returns-in-Err c = untold _ _ c.in-Err.fault _ c.in-Err.ensures.image c.refused-in-Err.ensures
+returns-in-Err c = untold _ _ c.in-Err.fault _ c.in-Err.ensures.image c.refused.ensures
