@@ -2,13 +2,13 @@
 use Rattle.std.proofs.Common.{◌≡◌, ◌≢◌, ◌<◌, ◌≤◌, ◌+◌, ◌-◌, ◌*◌, ◌^◌, ℕ, zero, suc, List, [], ◌∷◌, ◌++◌, length, drop, get_or}
 use Rattle.std.proofs.Common.{Option, Some, None, Bool, true, false, ◌⊎◌, inl, inr}
 use Rattle.std.proofs.Common.{arith, refl, sym, ap, ◌∙◌, subst, length-append, append-nil}
-use Rattle.std.specs.Prelude.{All, min, ◌&&◌, nat_le, is_some, if◌then◌else◌}
-use Rattle.std.proofs.lemmas.Bool.{leb-true, le-leb, and_parts, and_cases, ne_eqb}
+use Rattle.std.specs.Prelude.{All, ◌&&◌, nat_le, is_some, if◌then◌else◌}
+use Rattle.std.proofs.lemmas.Bool.{le-leb, and_cases, ne_eqb}
 use Rattle.std.proofs.lemmas.List.Elements.{All-append}
 use Rattle.std.proofs.lemmas.List.Sums.{sum_by-append}
 use Rattle.tg_machine_state.specs.declared.ends.RunEnd.{RunEnd}
 use Rattle.tg_machine_state.specs.declared.ends.RunEnd.TheVariants.{StepLimit}
-use Rattle.tg_machine_state.specs.State.{MachineState, code_base}
+use Rattle.tg_machine_state.specs.State.{code_base}
 use Rattle.tg_machine.specs.declared.fetches.Seen.{Seen}
 use Rattle.tg_machine.specs.declared.status.Status.{Status}
 use Rattle.tg_machine.specs.declared.status.Status.TheVariants.{Running, Ended}
@@ -17,7 +17,7 @@ use Rattle.tg_machine.specs.Machines.{Simulated, simulated, end_of}
 use Rattle.tg_machine.specs.Ran.{IsSimulation}
 use Rattle.tg_machine.proofs.Chaining.{watched_calls_chain}
 use Rattle.tg_machine.proofs.Fetching.{watched_step, watched_none}
-use Rattle.tg_page.specs.Stops.{is_at, next_is_at, fetched_at, AreCounted, Halts, all_made, ended, at_breakpoint, RunsToStop}
+use Rattle.tg_page.specs.Stops.{is_at, next_is_at, fetched_at, AreCounted, Halts, ended, RunsToStop}
 
 -- what holds of the one element, or of none
 only : (P : Seen → Type 0) (x : Seen) → P x → All P (x ∷ [])
@@ -43,7 +43,7 @@ all_passed breakpoints passing k seen (Some x) size apart h =
     passed_more (λ y. is_at breakpoints y ≡ false) passing seen x (λ le. let there : passing ≤ k = omega (arith, le, size) in apart there) h
 all_passed breakpoints passing k seen None size apart h = rw (append-nil seen) h
 
--- a run goes on here, or stops
+-- a run goes on here
 pub goes_on_here : (breakpoints : List ℕ) (passing k : ℕ) (o : Option Seen) → (nat_le passing k && next_is_at breakpoints o) ≡ false →
     passing ≤ k → next_is_at breakpoints o ≡ false
 goes_on_here breakpoints passing k o h le = by (and_cases (nat_le passing k) (next_is_at breakpoints o) h)
@@ -51,12 +51,6 @@ goes_on_here breakpoints passing k o h le = by (and_cases (nat_le passing k) (ne
     by : (nat_le passing k ≡ false) ⊎ (next_is_at breakpoints o ≡ false) → next_is_at breakpoints o ≡ false
     by (inl p) = let q = le-leb passing k le in cc (p, q)
     by (inr p) = p
-
-pub halts_here : (steps passing k : ℕ) (breakpoints : List ℕ) (m : Simulated) → k < steps → (nat_le passing k && next_is_at breakpoints (seen_next m)) ≡ true →
-    Halts steps passing breakpoints m k
-halts_here steps passing k breakpoints m lt h =
-    let both = and_parts (nat_le passing k) (next_is_at breakpoints (seen_next m)) h in
-    at_breakpoint lt (leb-true passing k both.0) both.1
 
 -- counts of fetches, and of more
 pub counted_more : (s t : List Seen) (a b c : List ℕ) → AreCounted s a b → AreCounted t b c → AreCounted (s ++ t) a c

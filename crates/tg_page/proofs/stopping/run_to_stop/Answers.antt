@@ -1,5 +1,5 @@
 use Rattle.std.proofs.Common.{arith, sym, ◌∙◌, ◌≡◌, ◌<◌, ◌^◌, get_or, refl}
-use Rattle.tg_page.proofs.StopLemmas.{begun, went_on, came_to_end, came_to_stop, halts_here}
+use Rattle.tg_page.proofs.StopLemmas.{begun, went_on, came_to_end, came_to_stop}
 use Rattle.tg_page.specs.Stops.{all_made}
 use Rattle.tg_page.proofs.stopping.run_to_stop.Goals as goal
 
