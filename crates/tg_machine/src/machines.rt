@@ -1,11 +1,13 @@
 ghost use Rattle.std.specs.Prelude.{◌≡◌, ◌≢◌, ◌<◌, None, IfSome};
 ghost use Rattle.tg_machine.specs.Machines.{HasEnded, end_of};
 ghost use Rattle.tg_machine.specs.Ran.{IsSimulation};
+ghost use Rattle.tg_machine_state.specs.State as state;
 
 use crate::cores::Core;
 use crate::status::Status;
 use std::marker::Model;
 use tg_base::{Sink, Source};
+use tg_isa::Reg;
 use tg_machine_state::RunEnd;
 
 /// A machine with a program: its registers and its regions, how it ended if it has, how many bytes
@@ -36,6 +38,42 @@ impl Machine {
         ensures { result ≡ self.now.written }
     {
         self.written
+    }
+
+    /// How the machine ended, where it has.
+    pub fn end(&self) -> Option<RunEnd>
+        ensures { result ≡ self.now.end }
+    {
+        self.end
+    }
+
+    /// The value of a register.
+    pub fn register(&self, number: Reg) -> u32
+        ensures { result ≡ state.register self.now.state number }
+    {
+        self.core.register(number)
+    }
+
+    /// The value of hi: the upper word of a product, or the remainder of a division.
+    pub fn hi(&self) -> u32
+        ensures { result ≡ self.now.state.hi }
+    {
+        self.core.hi()
+    }
+
+    /// The value of lo: the lower word of a product, or the quotient of a division.
+    pub fn lo(&self) -> u32
+        ensures { result ≡ self.now.state.lo }
+    {
+        self.core.lo()
+    }
+
+    /// The word in memory at an address. The error, where the address isn't a multiple of 4 or isn't
+    /// served, is the end that a load of it comes to.
+    pub fn load_word(&self, address: u32) -> Result<u32, RunEnd>
+        ensures { result ≡ state.load_word self.now.state address }
+    {
+        self.core.load_word(address)
     }
 
     /// Makes one step, whose fetch counts. A machine that has ended answers its end again and does
