@@ -177,13 +177,13 @@ pub record StaticsAre (lines : List Line) (ls : List Literal) : Type 0 where
       (found_address (position_of (positions (texts.readings_of (written lines ls))) name) ≡ a) × (a < 2 ^ 32)
 
 module _ (lines : List Line) (ls : List Literal) (has : HasImage lines ls) where
-  abbrev read : List texts.Line
+  abbrev pub read : List texts.Line
   read = written lines ls
 
-  abbrev image : Assembled
+  abbrev pub image : Assembled
   image = image_of (texts.readings_of read)
 
-  abbrev labels : Positions
+  abbrev pub labels : Positions
   labels = positions (texts.readings_of read)
 
   code_is : code_in (texts.readings_of read) ≡ coded_in lines
@@ -206,7 +206,7 @@ module _ (lines : List Line) (ls : List Literal) (has : HasImage lines ls) where
   labels_are : labels ≡ labels_from 0 lines ++ more
   labels_are = code_positions 0 0 lines (statics_written ls) has.code
 
-  lines_stand : StandAt image.code labels (returns_in lines) 0 lines
+  pub lines_stand : StandAt image.code labels (returns_in lines) 0 lines
   lines_stand =
       stand image.code labels (returns_in lines) [] 0 lines has.code image_code refl
       (subst (λ n. WordsReach labels n 0 (coded_in lines)) (sym (placed_length 0 (code_in (texts.readings_of read))))
@@ -214,7 +214,7 @@ module _ (lines : List Line) (ls : List Literal) (has : HasImage lines ls) where
       has.sound.words_reach))
       (λ k l. refl)
 
-  all_stands : StaticsAre lines ls → Stands image.code labels (returns_in lines) lines ls
+  pub all_stands : StaticsAre lines ls → Stands image.code labels (returns_in lines) lines ls
   all_stands statics =
       let short = has.short in
       let n = length_is in

@@ -10,7 +10,7 @@ use Rattle.tg_emit.specs.mirror.Lines.{words}
 use Rattle.tg_emit_proof.specs.LinesRun.{calls}
 use Rattle.tg_emit_proof.specs.laws.Laws.{word_behind, PlacesAreReturns}
 
-behind_first : (at : ℕ) (ls : List Line) (k : ℕ) → k < calls ls → (at < word_behind at ls k)
+pub behind_first : (at : ℕ) (ls : List Line) (k : ℕ) → k < calls ls → (at < word_behind at ls k)
     × (word_behind at ls k ≤ at + words ls)
 behind_first at [] k h = absurd (omega (arith, h))
 behind_first at (Label name ∷ ls) k h = let r = behind_first (at + 0) ls k h in let a = r.0 in let b = r.1 in
@@ -32,7 +32,7 @@ behind_first at (One (row.Jal n) target ∷ ls) k h = by (calls ls == k) refl (b
 behind_first at (One one target ∷ ls) k h = let r = behind_first (at + 1) ls k h in let a = r.0 in let b = r.1 in
     (omega (arith, a), omega (arith, b))
 
-behind_differ : (at : ℕ) (ls : List Line) (j k : ℕ) → j < k → k < calls ls → word_behind at ls k < word_behind at ls j
+pub behind_differ : (at : ℕ) (ls : List Line) (j k : ℕ) → j < k → k < calls ls → word_behind at ls k < word_behind at ls j
 behind_differ at [] j k l h = absurd (omega (arith, h))
 behind_differ at (Label name ∷ ls) j k l h = behind_differ (at + 0) ls j k l h
 behind_differ at (La r name ∷ ls) j k l h = behind_differ (at + 2) ls j k l h
@@ -52,7 +52,7 @@ behind_differ at (One (row.Jal n) target ∷ ls) j k l h =
     by false d false e first later = later (grind (arith, nat_tests, e, h))
 behind_differ at (One one target ∷ ls) j k l h = behind_differ (at + 1) ls j k l h
 
-below_or : (j k : ℕ) → (lt : j < k → ⊥) → (gt : k < j → ⊥) → j ≡ k
+pub below_or : (j k : ℕ) → (lt : j < k → ⊥) → (gt : k < j → ⊥) → j ≡ k
 below_or j k lt gt = grind (arith, lt, gt)
 
 pub places_are_returns : PlacesAreReturns

@@ -1,0 +1,2 @@
+pub mod DelayedRun
+pub mod laws
