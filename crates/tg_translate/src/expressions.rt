@@ -475,7 +475,8 @@ fn low_then(
     ensures { IfOk result (λ low.
         parts.low_then (findings_of findings.now) (plain_made made.old) (plain high.now) within.now
         (state_of state.old) ≡
-        drawn (record { low = plain_tx low.value; high = plain_made made.new }) (state_of state.new)) }
+        drawn (record { low = plain_tx low.value; high = plain_made made.new })
+        (state_of state.new)) }
 {
     let low = take_value(state, made)?;
     expression(findings, state, high, Want::Value, within, made)?;

@@ -26,7 +26,7 @@ mod updates;
 mod wants;
 
 pub use held::HeldAddress;
-pub use homes::{Callee, Home, Within};
+pub use homes::{Callee, Home, TranslatedProgram, Within};
 pub use operands::Operand;
-pub use programs::translate;
+pub use programs::{translate, translate_with_homes};
 pub use wants::Want;

@@ -10,7 +10,7 @@ ghost use Rattle.tg_translate.specs.mirror.Translate as translation;
 use crate::expressions::expression;
 use crate::findings::Findings;
 use crate::functions::closing;
-use crate::homes::Within;
+use crate::homes::{TranslatedProgram, Within};
 use crate::states::{TranslationState, frame_of};
 use crate::wants::{Made, Want};
 use std::alloc::Global;
@@ -33,6 +33,36 @@ pub fn translate(alloc: Global, checked: &Checked, escapes: &Escapes) -> Result<
         (from_list (links_of (plain checked.now.program.body))))
         (plain checked.now.program.body)) }
 {
+    let TranslatedProgram {
+        fragments,
+        homes: _,
+        callees: _,
+    } = translate_with_homes(alloc, checked, escapes)?;
+    Ok(fragments)
+}
+
+/// The trees that `translate` makes, and where what the program declares is: the home of each of
+/// its variables and parameters, with the level of the function that declares it, and the label of
+/// each of its functions. It fails only where memory runs out.
+pub fn translate_with_homes(
+    alloc: Global,
+    checked: &Checked,
+    escapes: &Escapes,
+) -> Result<TranslatedProgram, Memory>
+    ensures code { IfOk result (λ t. plain_fragments t.fragments ≡
+        translation.translated
+        (found checked.now.notes escapes.now
+        (from_list (links_of (plain checked.now.program.body))))
+        (plain checked.now.program.body)) }
+    ensures homes { IfOk result (λ t. t.homes ≡ (translation.last_state
+        (found checked.now.notes escapes.now
+        (from_list (links_of (plain checked.now.program.body))))
+        (plain checked.now.program.body)).homes) }
+    ensures callees { IfOk result (λ t. t.callees ≡ (translation.last_state
+        (found checked.now.notes escapes.now
+        (from_list (links_of (plain checked.now.program.body))))
+        (plain checked.now.program.body)).callees) }
+{
     let links = links(alloc, checked)?;
     let findings = Findings {
         notes: &checked.notes,
@@ -42,10 +72,14 @@ pub fn translate(alloc: Global, checked: &Checked, escapes: &Escapes) -> Result<
     Ok(program(alloc, &findings, &checked.program.body)?)
 }
 
-/// The trees of a program, by what was found of it.
-fn program(alloc: Global, findings: &Findings, e: &Exp) -> Result<Fragments, Memory>
-    ensures { IfOk result (λ code. plain_fragments code ≡
+/// The trees of a program and its homes, by what was found of it.
+fn program(alloc: Global, findings: &Findings, e: &Exp) -> Result<TranslatedProgram, Memory>
+    ensures code { IfOk result (λ t. plain_fragments t.fragments ≡
         translation.translated (findings_of findings.now) (plain e.now)) }
+    ensures homes { IfOk result (λ t. t.homes ≡
+        (translation.last_state (findings_of findings.now) (plain e.now)).homes) }
+    ensures callees { IfOk result (λ t. t.callees ≡
+        (translation.last_state (findings_of findings.now) (plain e.now)).callees) }
 {
     let frame = frame_of(alloc, Label(BODY), &[])?;
     let mut state = TranslationState::new(alloc, BODY + 1, frame);

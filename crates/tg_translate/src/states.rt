@@ -17,7 +17,7 @@ ghost use Rattle.tg_translate.specs.mirror.States as states;
 ghost use Rattle.tg_translate.specs.mirror.States.{drawn, state_of};
 ghost use Rattle.tg_translate.specs.mirror.Functions as functions;
 
-use crate::homes::{Callee, Home};
+use crate::homes::{Callee, Home, TranslatedProgram};
 use std::alloc::Global;
 use std::mem::replace;
 use tg_base::{Label, Memory, Temp};
@@ -131,24 +131,31 @@ impl TranslationState {
     }
 
     /// The program's text ends: its body stands before its functions.
-    pub(crate) fn finish(self, body: Ts) -> Result<Fragments, Memory>
-        ensures { IfOk result (λ f. plain_fragments f ≡
+    pub(crate) fn finish(self, body: Ts) -> Result<TranslatedProgram, Memory>
+        ensures code { IfOk result (λ t. plain_fragments t.fragments ≡
             functions.program_of (state_of self) (plain_ts body)) }
+        ensures homes { IfOk result (λ t. t.homes ≡ self.homes) }
+        ensures callees { IfOk result (λ t. t.callees ≡ self.callees) }
     {
         let TranslationState {
             alloc,
             label: _,
             literals,
             functions: mut inner,
-            homes: _,
-            callees: _,
+            homes,
+            callees,
             frame,
         } = self;
         let mut functions = vec![in alloc; Fragment { frame, body }]?;
         functions.append(&mut inner)?;
-        Ok(Fragments {
+        let fragments = Fragments {
             functions,
             literals,
+        };
+        Ok(TranslatedProgram {
+            fragments,
+            homes,
+            callees,
         })
     }
 }

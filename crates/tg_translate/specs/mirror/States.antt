@@ -38,6 +38,9 @@ state_of s = record {
 pub data Translated (A : Type 0) : Type 0 where
   drawn : A → TranslationState → Translated A
 
+abbrev pub state_after : {A : Type 0} → Translated A → TranslationState
+state_after (drawn _ s) = s
+
 abbrev pub Translates : Type 0 → Type 0
 Translates A = TranslationState → Translated A
 

@@ -50,7 +50,15 @@ use Rattle.tg_typecheck.specs.declared.notes.Means.{Means}
 use Rattle.tg_translate.specs.declared.wants.Want.{Want}
 use Rattle.tg_translate.specs.declared.wants.Want.TheVariants as want
 use Rattle.tg_translate.specs.declared.homes.Within.{Within}
-use Rattle.tg_translate.specs.mirror.States.{Translates, ◌>>=◌, ◌>>◌, give, next_label}
+use Rattle.tg_translate.specs.mirror.States.{
+  TranslationState,
+  Translates,
+  ◌>>=◌,
+  ◌>>◌,
+  give,
+  next_label,
+  state_after,
+}
 use Rattle.tg_translate.specs.mirror.Wants.{
   Made,
   value,
@@ -316,3 +324,8 @@ program_body findings e = do
 abbrev pub translated : Findings → Exp → Code Ts
 translated findings e =
     program (program_body findings e (beginning 33 (frame_for 32 [])))
+
+-- what the translation of a program ends with: the homes of all its variables and parameters, and
+-- the labels of all its functions
+abbrev pub last_state : Findings → Exp → TranslationState
+last_state findings e = state_after (program_body findings e (beginning 33 (frame_for 32 [])))
