@@ -53,17 +53,17 @@ abbrev pub bytes_of : Option ℕ → List ℕ
 bytes_of (Some b) = b ∷ []
 bytes_of None = []
 
-record Taken {I : Type 0} (left : I → Option (List ℕ)) (input input' : I) (e f : Bool) (answer : Option ℕ) : Type 0 where
-  are_bytes : AreBytes (bytes_of answer)
-  gives : Consumes (left input) (left input') (bytes_of answer)
-  meets : MeetsEnd left e f (bytes_of answer) input input'
-  first : (rest : List ℕ) → MayFollow f rest → first_answer (answers (bytes_of answer ++ rest)) ≡ answer
-  later : (rest : List ℕ) → MayFollow f rest → later_answers (answers (bytes_of answer ++ rest)) ≡ answers rest
+pub record Taken {I : Type 0} (left : I → Option (List ℕ)) (input input' : I) (e f : Bool) (answer : Option ℕ) : Type 0 where
+  pub are_bytes : AreBytes (bytes_of answer)
+  pub gives : Consumes (left input) (left input') (bytes_of answer)
+  pub meets : MeetsEnd left e f (bytes_of answer) input input'
+  pub first : (rest : List ℕ) → MayFollow f rest → first_answer (answers (bytes_of answer ++ rest)) ≡ answer
+  pub later : (rest : List ℕ) → MayFollow f rest → later_answers (answers (bytes_of answer ++ rest)) ≡ answers rest
 
 kept_consumes : (old new : Option (List ℕ)) → Keeps old new → Consumes old new []
 kept_consumes old new k = Consumes-kept old old new [] (Consumes-nil old) k
 
-answer_taken : {I : Type 0} (left : I → Option (List ℕ)) (input input' : I) (e f : Bool) (answer : Option ℕ) → Answers left input input' e f answer →
+pub answer_taken : {I : Type 0} (left : I → Option (List ℕ)) (input input' : I) (e f : Bool) (answer : Option ℕ) → Answers left input input' e f answer →
     Taken left input input' e f answer
 answer_taken left input input' e f (Some b) h = rw (h.2, h.3) (record {
   are_bytes = All-cons (λ n. n < 256) b [] h.0 (All-nil (λ n. n < 256));
@@ -129,7 +129,7 @@ later_write n m w le c =
     record { steps = c.steps; world = c.world; bytes = c.bytes; within = within; comes = c.comes; writing = c.writing }
 
 -- what a touch of the source or the sink says goes on to what follows later
-onto : {A : Type 0} (e f : Bool) (read more : List ℕ) (P Q : List ℕ → Type 0) →
+pub onto : {A : Type 0} (e f : Bool) (read more : List ℕ) (P Q : List ℕ → Type 0) →
     ((rest : List ℕ) → MayFollow f rest → MayFollow e (more ++ rest)) → ((l : List ℕ) → P l → Q l) →
     A ⊎ ((rest : List ℕ) → MayFollow e rest → P (read ++ rest)) →
     A ⊎ ((rest : List ℕ) → MayFollow f rest → Q ((read ++ more) ++ rest))
@@ -269,10 +269,10 @@ reached_more left read_faults taken write_faults n old mid new first input input
 pub own_limit : (e : RunEnd) → IsOwn e → e ≡ StepLimit → ⊥
 own_limit e own h = subst IsOwn h own
 
-own_read : (e : RunEnd) → IsOwn e → e ≡ ReadFault → ⊥
+pub own_read : (e : RunEnd) → IsOwn e → e ≡ ReadFault → ⊥
 own_read e own h = subst IsOwn h own
 
-own_write : (e : RunEnd) → IsOwn e → e ≡ WriteFault → ⊥
+pub own_write : (e : RunEnd) → IsOwn e → e ≡ WriteFault → ⊥
 own_write e own h = subst IsOwn h own
 
 -- all steps were made

@@ -17,7 +17,7 @@ use Rattle.tg_machine.specs.declared.rows.Row.{Row}
 use Rattle.tg_machine.specs.glue.Moves.{RowIsDone, IsOwn}
 use Rattle.tg_machine.specs.mirror.Rows.{does, known, prepared, row_at, row_of, row_there}
 
-prepared_does : (one : Mips) (s : MachineState) → does (prepared one) s ≡ effect one s
+pub prepared_does : (one : Mips) (s : MachineState) → does (prepared one) s ≡ effect one s
 prepared_does (mips.Sll rd rt shamt) s = refl
 prepared_does (mips.Srl rd rt shamt) s = refl
 prepared_does (mips.Sra rd rt shamt) s = refl

@@ -170,9 +170,10 @@ impl Core {
         Err(self.fault(address))
     }
 
-    /// The row at a place, where it is that of a word of the code.
+    /// The row of the word at a place. None comes exactly where the place isn't a multiple of 4 or
+    /// is outside the code.
     #[inline(always)]
-    pub(crate) fn row_at(&self, place: u32) -> Option<Row>
+    pub fn row_at(&self, place: u32) -> Option<Row>
         ensures { result ≡ row_at self.now.code place }
     {
         // The two lowest bits go to the front: a place between two words is beyond all code.
@@ -187,7 +188,7 @@ impl Core {
 
     /// How a run ends at a place outside the code. Place 0 ends it with exit code 0.
     #[inline(never)]
-    pub(crate) fn outside(&self, place: u32) -> RunEnd
+    pub fn outside(&self, place: u32) -> RunEnd
         requires { row_at self.now.code place ≡ None }
         ensures value { Err result ≡ effects.fetch (state.go self.now place) }
         ensures own { IsOwn result }
@@ -199,6 +200,22 @@ impl Core {
             return RunEnd::Unaligned(place);
         }
         RunEnd::BadAddress(place)
+    }
+
+    /// The place of the next step.
+    #[inline(always)]
+    pub fn place(&self) -> u32
+        ensures { result ≡ self.now.place }
+    {
+        self.place
+    }
+
+    /// Puts the place of the next step, which may be any.
+    #[inline(always)]
+    pub fn go(&mut self, place: u32)
+        ensures { self.new ≡ state.go self.old place }
+    {
+        self.place = place;
     }
 
     /// The value of lo.

@@ -149,9 +149,10 @@ impl Core {
         Ok(place)
     }
 
-    /// What a row does that calls no service.
+    /// Does a row that calls no service, where the step behind it is at `next`, and answers the
+    /// place to go on at. The place in the core isn't read, and may be left as any.
     #[inline(always)]
-    pub(crate) fn execute(&mut self, one: Row, next: u32) -> Result<u32, RunEnd>
+    pub fn execute(&mut self, one: Row, next: u32) -> Result<u32, RunEnd>
         requires { one ≢ Row.Syscall }
         ensures { RowIsDone (rows.does one (state.go self.old next)) result self.new }
     {

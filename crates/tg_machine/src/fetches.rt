@@ -16,9 +16,10 @@ pub struct Seen {
 }
 
 impl Core {
-    /// What the next step fetches, where its place is that of a word of the code.
+    /// What the next step fetches. None comes exactly where its place isn't a multiple of 4 or is
+    /// outside the code.
     #[inline(always)]
-    pub(crate) fn seen(&self) -> Option<Seen>
+    pub fn seen(&self) -> Option<Seen>
         ensures { result ≡ seen_of self.now }
     {
         if self.place % 4 != 0 {

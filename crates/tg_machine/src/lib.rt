@@ -25,5 +25,6 @@ pub use fetches::Seen;
 pub use laws::{calls_chain, ends_again, watched_calls_chain};
 pub use loading::load;
 pub use machines::Machine;
+pub use rows::Row;
 pub use status::Status;
 pub use tg_machine_state::RunEnd;

@@ -19,7 +19,8 @@ pub(crate) enum Pause {
 
 impl Core {
     /// Makes at most so many steps, up to a service. Where one is due, its place was passed. The
-    /// only caller of `execute`, and without type parameters, so that a program has one such loop.
+    /// only caller of `execute` here, and without type parameters, so that a program has one such
+    /// loop.
     #[inline(never)]
     pub(crate) fn run_alone(&mut self, steps: u64) -> Pause
         ensures { Pauses steps self.old self.new result }

@@ -7,7 +7,7 @@ use tg_isa::{Bits, Reg};
 /// next instruction, and a jump has its target in bytes within the 256 MiB of the next instruction.
 /// Registers stand before the word, so that no row takes more room.
 #[derive(Clone, Copy)]
-pub(crate) enum Row {
+pub enum Row {
     Sll(Reg, Reg, Bits<5>),
     Srl(Reg, Reg, Bits<5>),
     Sra(Reg, Reg, Bits<5>),
