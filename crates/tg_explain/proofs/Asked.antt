@@ -42,7 +42,7 @@ where_is [] rest front t after h = behind front refl (sym h)
 where_is (x ∷ before) rest [] t after h = inside before (ap (λ w. w ∷ before) (head_is h))
 where_is (x ∷ before) rest (y ∷ front) t after h = one_more x y (head_is h) (where_is before rest front t after (rest_is h))
 
-begins_front : (a b : List Spanned) → BeginsProgram (a ++ b) → BeginsProgram a
+pub begins_front : (a b : List Spanned) → BeginsProgram (a ++ b) → BeginsProgram a
 begins_front a b h = record { rest = b ++ h.rest; tree = h.tree; is = subst (λ w. IsProgram w h.tree) (append_assoc a b h.rest) h.is }
 
 shallow_front : (counts : List ℕ) (a b : List Spanned) → NestsWithin 256 counts (a ++ b) → NestsWithin 256 counts a

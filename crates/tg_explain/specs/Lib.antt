@@ -1,6 +1,10 @@
 pub mod Kinds
 pub mod Expected
 pub mod Openers
+pub mod Details
+pub mod Words
+pub mod Lines
+pub mod Lexical
 pub mod laws
 pub mod glue
 pub mod mirror

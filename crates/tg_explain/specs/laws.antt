@@ -1,1 +1,2 @@
 pub mod AllExpected
+pub mod WholeEscapes
