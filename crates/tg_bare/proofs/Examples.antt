@@ -2,7 +2,7 @@
 use Rattle.std.proofs.Common.{ℕ, ◌≡◌, ◌+◌, ◌/◌, List, [], ◌∷◌, map, refl, pos}
 use Rattle.tg_machine_state.specs.declared.ends.RunEnd.TheVariants.{Exit, BadWord, BadAddress, BadService}
 use Rattle.tg_machine_state.specs.State.{code_base, initial_machine}
-use Rattle.tg_simulation.specs.Ran.{Ran, Stop, Ended}
+use Rattle.tg_simulation.specs.Ran.{Stop, Ended}
 use Rattle.tg_isa.specs.declared.mips.Mips.{Mips}
 use Rattle.tg_isa.specs.declared.mips.Mips.TheVariants as row
 use Rattle.tg_isa.specs.Table.{word_of}

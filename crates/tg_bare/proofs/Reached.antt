@@ -1,5 +1,5 @@
 -- What the code has come to after so many steps, and what it leaves at each way out.
-use Rattle.std.proofs.Common.{◌≡◌, ◌<◌, ◌≤◌, ◌⊎◌, inl, inr, ◌+◌, ◌^◌, ℕ, List, [], ◌∷◌, ◌++◌, length, Bool, true, false, Option, Some, None, Result, Ok, Err}
+use Rattle.std.proofs.Common.{◌≡◌, ◌<◌, ◌≤◌, ◌⊎◌, inl, inr, ◌+◌, ◌^◌, ℕ, List, [], ◌++◌, length, Bool, false, Option, Some, None, Result, Ok, Err}
 use Rattle.std.proofs.Common.{arith, refl, sym, ap, ◌∙◌, subst, append_assoc, append-nil, length-append}
 use Rattle.std.proofs.lemmas.List.Elements.{All-nil, All-append}
 use Rattle.std.specs.Io.KnownBytes.{Appends, Consumes, Keeps}
@@ -16,7 +16,7 @@ use Rattle.tg_machine.specs.Ran.{MayFollow, MeetsEnd, saturating_sum}
 use Rattle.tg_machine.specs.glue.Moves.{IsOwn, Answers, Moved}
 use Rattle.tg_machine.proofs.Reached.{answer_taken, bytes_of, may_before, meets_none, meets_then, onto, onto_same, own_limit, own_read}
 use Rattle.tg_machine.proofs.Reached.{own_write, rose_later, saturating_sum-add}
-use Rattle.tg_bare.specs.Delayed.{Bare, Did, Goes, Ends, Reads, Writes, bare_step}
+use Rattle.tg_bare.specs.Delayed.{Bare, Goes, Ends, Reads, Writes, bare_step}
 use Rattle.tg_bare.specs.BareRuns.{BareExecution, Running, run_bare, bare_begun, answered_bare}
 use Rattle.tg_bare.specs.Machines.{bare_simulated}
 use Rattle.tg_bare.specs.Ran.{IsBareSimulation, BareComesToRead, BareComesToWrite, bare_standing, still, ended, read_failed, write_failed}

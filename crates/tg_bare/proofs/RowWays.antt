@@ -10,7 +10,7 @@ use Rattle.tg_machine_state.specs.Services as plain
 use Rattle.tg_machine_state.specs.Services.{Step, service}
 use Rattle.tg_isa.specs.declared.mips.Mips.{Mips}
 use Rattle.tg_isa.specs.declared.mips.Mips.TheVariants as mips
-use Rattle.tg_isa.specs.Effects.{decoded, effect, fetch, fetched}
+use Rattle.tg_isa.specs.Effects.{decoded, fetch, fetched}
 use Rattle.tg_isa.specs.Table.{decode_of, word_of}
 use Rattle.tg_isa.specs.laws.Anywhere.{step_on}
 use Rattle.tg_isa.proofs.Anywhere.{effects_are_anywhere}
@@ -228,10 +228,10 @@ calls_done s mid at there one link place h l d =
     at_slot : MachineState → ℕ → Bare
     at_slot u p = record { state = u; next = p; in_slot = true }
 
-pub calls_end : (s mid new : MachineState) (at : Places) (one : Row) (link place : ℕ) (e : RunEnd) → row_at s.code at.place ≡ Some one →
-    Leads (to.Calls link place) (row_way one (go s at.next)) (go s at.next) → HasEntered (Err e) at place s mid →
+pub calls_end : (s new : MachineState) (at : Places) (one : Row) (link place : ℕ) (e : RunEnd) → row_at s.code at.place ≡ Some one →
+    Leads (to.Calls link place) (row_way one (go s at.next)) (go s at.next) → HasEntered (Err e) at place s s →
     HasStepped (bare_step (machine_at s at)) (Err e) new
-calls_end s mid new at one link place e h l d =
+calls_end s new at one link place e h l d =
     refused s new at one e (Some place) (set_register (go s at.next) link (add at.next 4)) h (leads_calls link place _ _ l) d.0 d.1
 
 on_within : (t : MachineState) (d : Step) → straight_on (step_on t.code t.place d) ≡ within (behind t) (step_on t.code t.place d)

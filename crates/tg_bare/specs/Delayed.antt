@@ -1,7 +1,7 @@
 -- The machine with delayed branches: behind an instruction that jumps or branches it does the one
 -- in the delay slot, the next word, and only then goes on where that one leads (MIPS I manual,
 -- jumps and branches; SPIM does so with `-delayed_branches`).
-use Rattle.std.specs.Prelude.{ℕ, ◌+◌, ◌==◌, Bool, true, false, if◌then◌else◌, Option, Some, None}
+use Rattle.std.specs.Prelude.{ℕ, ◌==◌, Bool, true, false, if◌then◌else◌, Option, Some, None}
 use Rattle.std.specs.Prelude.{Result, Ok, Err, List}
 use Rattle.tg_base.specs.Words.{add, less}
 use Rattle.tg_machine_state.specs.declared.ends.RunEnd.{RunEnd}

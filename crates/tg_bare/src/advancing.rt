@@ -82,10 +82,12 @@ pub(crate) fn advance(core: &mut Core, one: Row, at: Places) -> Result<Places, R
     match way {
         Way::Straight => go_on(core, one, at.next),
         Way::Turns(place) => enter(core, at, place),
-        Way::Calls(link, place) => {
-            let there = enter(core, at, place)?;
-            core.set(link, at.next.wrapping_add(4));
-            Ok(there)
-        }
+        Way::Calls(link, place) => match enter(core, at, place) {
+            Ok(there) => {
+                core.set(link, at.next.wrapping_add(4));
+                Ok(there)
+            }
+            Err(end) => Err(end),
+        },
     }
 }

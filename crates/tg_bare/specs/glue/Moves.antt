@@ -1,5 +1,5 @@
 -- What a step of the code leaves, by what the step of the definition does.
-use Rattle.std.specs.Prelude.{ℕ, ◌+◌, ◌≡◌, Bool, true, false, Some, Result, Ok, Err}
+use Rattle.std.specs.Prelude.{ℕ, ◌≡◌, true, false, Some, Result, Ok, Err}
 use Rattle.tg_base.specs.Words.{add}
 use Rattle.tg_machine_state.specs.declared.ends.RunEnd.{RunEnd}
 use Rattle.tg_machine_state.specs.declared.ends.RunEnd.TheVariants.{BadWord}

@@ -1,5 +1,5 @@
 -- Where a word of code leads, as the machine executes it.
-use Rattle.std.specs.Prelude.{ℕ, ◌==◌, Some}
+use Rattle.std.specs.Prelude.{◌==◌, Some}
 use Rattle.tg_base.specs.Words.{add, less}
 use Rattle.tg_machine_state.specs.State.{MachineState, register, set_register}
 use Rattle.tg_machine.specs.declared.rows.Row.{Row}

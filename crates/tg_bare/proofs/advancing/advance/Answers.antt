@@ -9,12 +9,12 @@ pub returns-in-Turns : goal.returns-in-Turns
 returns-in-Turns c =
     turns_done c.args.core.now _ c.args.at c.args.one c.in-Turns.place _ c.requires.found c.in-Turns.ensures c.enter.ensures
 
-pub returns-in_err-there : goal.returns-in_err-there
-returns-in_err-there c =
-    calls_end c.args.core.now _ _ c.args.at c.args.one c.in-Calls.link c.in-Calls.place _ c.requires.found c.in-Calls.ensures c.in_err-there.ensures
+pub returns-in-Err : goal.returns-in-Err
+returns-in-Err c =
+    calls_end c.args.core.now _ c.args.at c.args.one c.in-Calls.link c.in-Calls.place _ c.requires.found c.in-Calls.ensures c.in-Err.ensures
 
-pub returns-in-Calls : goal.returns-in-Calls
-returns-in-Calls c =
+pub returns-in-Ok : goal.returns-in-Ok
+returns-in-Ok c =
     rw c.set.ensures
-    (calls_done c.args.core.now _ c.args.at c.in_ok-there.there c.args.one c.in-Calls.link c.in-Calls.place c.requires.found c.in-Calls.ensures
-    c.in_ok-there.ensures)
+    (calls_done c.args.core.now _ c.args.at c.in-Ok.there c.args.one c.in-Calls.link c.in-Calls.place c.requires.found c.in-Calls.ensures
+    c.in-Ok.ensures)

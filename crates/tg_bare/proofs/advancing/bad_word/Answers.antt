@@ -1,4 +1,4 @@
-use Rattle.std.proofs.Common.{◌≡◌, Some, ap, ◌∙◌}
+use Rattle.std.proofs.Common.{◌≡◌, ap, ◌∙◌}
 use Rattle.tg_machine_state.specs.declared.ends.RunEnd.TheVariants.{BadWord}
 use Rattle.tg_isa.specs.Table.{word_of}
 use Rattle.tg_bare.proofs.advancing.bad_word.Goals as goal

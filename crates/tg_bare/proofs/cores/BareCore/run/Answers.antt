@@ -1,6 +1,7 @@
 use Rattle.std.proofs.Common.{arith, ◌≡◌, ◌+◌, ◌-◌, ◌<◌, ◌≤◌}
 use Rattle.tg_machine_state.specs.declared.ends.RunEnd.TheVariants.{StepLimit}
 use Rattle.tg_machine.proofs.Reached.{moved_apart, own_limit}
+use Rattle.tg_bare.specs.glue.Inside.{machine_of}
 use Rattle.tg_bare.proofs.Reached.{reached_none, reached_more, ran_all, ran_out, ran_ended}
 use Rattle.tg_bare.proofs.Pausing.{reached_runs}
 use Rattle.tg_bare.proofs.cores.BareCore.run.Goals as goal
@@ -14,7 +15,7 @@ loop-made-preserved g c =
     let all : c.loop-made.made + (c.in-Due.more + 1) ≡ c.loop-made.made + c.in-Due.more + 1 = omega arith in
     let within : c.loop-made.made + (c.in-Due.more + 1) ≤ c.args.steps = omega (arith, is.1, c.loop-made-test.true) in (
       within,
-      rw all (reached_more _ _ _ _ _ _ _ _ _ _ _ _ _ _ _ _ _ _ _ _ _ _ c.in_default.field-0
+      rw all (reached_more _ _ _ _ _ _ _ (machine_of c.run_alone.new.self) _ _ _ _ _ _ _ _ _ _ _ _ _ _ c.in_default.field-0
           (reached_runs _ _ _ _ _ _ _ _ _ _ _ _ _ _ _ _ _ c.loop-made.invariant.1 is.2) is.3 c.in_default.ensures),
     )
 
@@ -22,7 +23,7 @@ pub returns-in-Err-clause-ran : goal.returns-in-Err-clause-ran
 returns-in-Err-clause-ran g c =
     let is = c.in-Due.ensures in
     let within : c.loop-made.made + c.in-Due.more < c.args.steps = omega (arith, is.1, c.loop-made-test.true) in
-    ran_out _ _ _ _ _ _ _ _ _ _ _ _ _ _ _ _ _ _ _ _ _ _ _ _ c.service.result _ within
+    ran_out _ _ _ _ _ _ _ _ (machine_of c.run_alone.new.self) _ _ _ _ _ _ _ _ _ _ _ _ _ _ _ c.service.result _ within
     (reached_runs _ _ _ _ _ _ _ _ _ _ _ _ _ _ _ _ _ c.loop-made.invariant.1 is.2) is.3 c.in-Err.is c.service.ensures
 
 pub returns-in-Ended-clause-ran : goal.returns-in-Ended-clause-ran

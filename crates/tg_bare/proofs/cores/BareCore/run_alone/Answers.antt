@@ -1,5 +1,4 @@
 use Rattle.std.proofs.Common.{arith, ◌≡◌, ap, sym, ◌∙◌, subst}
-use Rattle.tg_machine_state.specs.State.{go}
 use Rattle.tg_machine_state.specs.Services.{service}
 use Rattle.tg_bare.specs.Delayed.{Bare, performed}
 use Rattle.tg_bare.specs.glue.Inside.{machine_at, machine_of}
@@ -41,4 +40,4 @@ loop-made-preserved c = runs_more _ _ _ _ c.loop-made.invariant (goes_on_at _ _ 
 pub returns : goal.returns
 returns c =
     let over : c.args.steps ≡ c.loop-made.made = omega (arith, c.loop-made-test.false, c.loop-made.auto.made-end) in
-    rw over (subst (λ (b : Bare). BareRunsTo c.loop-made.made (machine_of c.args.self.now) b) (sym c.stand.ensures) c.loop-made.invariant)
+    rw over (subst (λ (b : Bare). BareRunsTo c.loop-made.made (machine_of c.args.self.now) b) (sym c.stand-2.ensures) c.loop-made.invariant)
