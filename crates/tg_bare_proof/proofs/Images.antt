@@ -52,7 +52,7 @@ given_filled lines =
     (λ bytes rest h. h) (λ one target rest e h. h) (λ one target rest e h. h)
     (λ one target other there rest e h. h) lines
 
-filled_words : (lines : List Line) → (words (filled lines) ≤ 2 * words lines) × (words lines ≤ words (filled lines))
+pub filled_words : (lines : List Line) → (words (filled lines) ≤ 2 * words lines) × (words lines ≤ words (filled lines))
 filled_words lines =
     by_filling (λ ls ms. (words ms ≤ 2 * words ls) × (words ls ≤ words ms)) (omega arith, omega arith)
     (λ name rest h. let a = h.0 in let b = h.1 in (omega (arith, a), omega (arith, b)))
@@ -71,7 +71,7 @@ filled_rows P none lines =
     (λ one target other there rest e h k. (k.1.0, (k.0, h k.1.1))) lines
 
 -- where labels of the code stand
-placed_label : (w : ℕ) (ls : List Line) (more : Positions) (name : List ℕ) (rest : List Line) → behind name ls ≡ Some (left rest) →
+pub placed_label : (w : ℕ) (ls : List Line) (more : Positions) (name : List ℕ) (rest : List Line) → behind name ls ≡ Some (left rest) →
     (at : ℕ) × (position_of (labels_from w ls ++ more) name ≡ Some (AtWord at)) × (at + words rest ≡ w + words ls)
 placed_label w [] more name rest h = cc
 placed_label w (Label other ∷ ls) more name rest h = by (bytes_eq name other) h (placed_label w ls more name rest)
@@ -93,7 +93,7 @@ placed_label w (La r other ∷ ls) more name rest h =
 placed_label w (Statics bytes ∷ ls) more name rest h =
     let x = placed_label w ls more name rest h in let q = x.2 in (x.0, x.1, omega (arith, q))
 
-unplaced : (w : ℕ) (ls : List Line) (more : Positions) (name : List ℕ) → behind name ls ≡ None →
+pub unplaced : (w : ℕ) (ls : List Line) (more : Positions) (name : List ℕ) → behind name ls ≡ None →
     position_of (labels_from w ls ++ more) name ≡ position_of more name
 unplaced w [] more name h = refl
 unplaced w (Label other ∷ ls) more name h = by (bytes_eq name other) h (unplaced w ls more name)
@@ -107,7 +107,7 @@ unplaced w (One one target ∷ ls) more name h = unplaced (w + 1) ls more name h
 unplaced w (La r other ∷ ls) more name h = unplaced (w + 2) ls more name h
 unplaced w (Statics bytes ∷ ls) more name h = unplaced w ls more name h
 
-behind_not_zero : (name : List ℕ) (ls : List Line) → behind name ls ≡ Some at_zero → ⊥
+pub behind_not_zero : (name : List ℕ) (ls : List Line) → behind name ls ≡ Some at_zero → ⊥
 behind_not_zero name [] h = cc
 behind_not_zero name (Label other ∷ ls) h = by (bytes_eq name other) h (behind_not_zero name ls)
   where
@@ -139,11 +139,11 @@ literals_at_bytes w b (l ∷ ls) = by (padded l.text) (λ v c. literals_at_bytes
     by [] later = byte_first _ _ _ (later _ _)
     by (c ∷ bytes) later = byte_first _ _ _ (later _ _)
 
-statics_at_bytes : (w : ℕ) (ls : List Literal) → NoWords (positions_from Code w 0 (texts.readings_of (statics_written ls)))
+pub statics_at_bytes : (w : ℕ) (ls : List Literal) → NoWords (positions_from Code w 0 (texts.readings_of (statics_written ls)))
 statics_at_bytes w [] = λ name at e. cc
 statics_at_bytes w (l ∷ ls) = literals_at_bytes _ _ (l ∷ ls)
 
-some_by_names : (ps qs : Positions) (name : List ℕ) → names_of ps ≡ names_of qs → IsSome (position_of ps name) →
+pub some_by_names : (ps qs : Positions) (name : List ℕ) → names_of ps ≡ names_of qs → IsSome (position_of ps name) →
     IsSome (position_of qs name)
 some_by_names [] [] name e h = h
 some_by_names [] (q ∷ qs) name e h = cc
@@ -165,7 +165,7 @@ some_by_names (p ∷ ps) (q ∷ qs) name e h =
     by false false f k later = later k
 
 -- A row's label, wherever the row is: in so many words of code.
-abbrev IsGood : Positions → ℕ → Coded → Type 0
+abbrev pub IsGood : Positions → ℕ → Coded → Type 0
 IsGood ps n (Fixed one) = Unit {0}
 IsGood ps n (Branch one label) = (at : ℕ) × (position_of ps label ≡ Some (AtWord at)) × (at ≤ n)
 IsGood ps n (Jump one label) = (at : ℕ) × (position_of ps label ≡ Some (AtWord at)) × (at < n)
@@ -197,7 +197,7 @@ AreTurned (One one around ∷ rest) = (branches one ≡ true → IsBehindJump ar
 AreTurned (line ∷ rest) = AreTurned rest
 
 module _ (ps : Positions) (n : ℕ) where
-  branch_row : (w : ℕ) (one : Mips) (label : List ℕ) → branches one ≡ true → BranchReaches w (position_of ps label) →
+  pub branch_row : (w : ℕ) (one : Mips) (label : List ℕ) → branches one ≡ true → BranchReaches w (position_of ps label) →
       WordReaches ps n w (coded_row one label)
   branch_row w (row.Beq rs rt k) label b h = h
   branch_row w (row.Bne rs rt k) label b h = h
@@ -207,7 +207,7 @@ module _ (ps : Positions) (n : ℕ) where
   branch_row w (row.Bgez rs k) label b h = h
   branch_row w one label b h = cc
 
-  plain_row : (w : ℕ) (one : Mips) (label : List ℕ) → branches one ≡ false → IsGood ps n (coded_row one label) →
+  pub plain_row : (w : ℕ) (one : Mips) (label : List ℕ) → branches one ≡ false → IsGood ps n (coded_row one label) →
       WordReaches ps n w (coded_row one label)
   plain_row w (row.Beq rs rt k) label b h = cc
   plain_row w (row.Bne rs rt k) label b h = cc
@@ -272,7 +272,7 @@ module _ (ps : Positions) (n : ℕ) where
       two_on : (w : ℕ) → w + 2 ≡ w + 1 + 1
       two_on w = omega arith
 
-from_pairs : (xs : List (List ℕ)) → AllPairs (λ a b. a ≢ b) xs → Differ xs
+pub from_pairs : (xs : List (List ℕ)) → AllPairs (λ a b. a ≢ b) xs → Differ xs
 from_pairs [] h = tt
 from_pairs (x ∷ xs) h = (
   recursion_from_All (λ y. x ≢ y) xs (λ j d l. h 0 (suc j) d (omega arith) (omega (arith, l))),
@@ -283,25 +283,25 @@ module _ (lines : List Line) (ls : List Literal) (has : HasImage lines ls) (few 
   code : AreCode (filled lines)
   code = filled_code lines has.code
 
-  abbrev statics : List texts.Line
+  abbrev pub statics : List texts.Line
   statics = statics_written ls
 
-  abbrev more : ℕ → Positions
+  abbrev pub more : ℕ → Positions
   more w = positions_from Code w 0 (texts.readings_of statics)
 
-  abbrev old : Positions
+  abbrev pub old : Positions
   old = labels_from 0 lines ++ more (0 + words lines)
 
   abbrev new : Positions
   new = labels_from 0 (filled lines) ++ more (0 + words (filled lines))
 
-  old_is : positions (texts.readings_of (written lines ls)) ≡ old
+  pub old_is : positions (texts.readings_of (written lines ls)) ≡ old
   old_is = code_positions 0 0 lines statics has.code
 
   new_is : positions (texts.readings_of (written (filled lines) ls)) ≡ new
   new_is = code_positions 0 0 (filled lines) statics code
 
-  length_of : (xs : List Line) → AreCode xs → code_in (texts.readings_of (written xs ls)) ≡ coded_in xs
+  pub length_of : (xs : List Line) → AreCode xs → code_in (texts.readings_of (written xs ls)) ≡ coded_in xs
   length_of xs c = code_words xs statics c ∙ (ap (λ n. coded_in xs ++ n) (statics_code ls) ∙ append-nil (coded_in xs))
 
   -- a word of the old code is one of the new
@@ -380,7 +380,7 @@ module _ (lines : List Line) (ls : List Literal) (has : HasImage lines ls) (few 
   all_good w [] h = tt
   all_good w (c ∷ cs) h = (good w c h.0, all_good (w + 1) cs h.1)
 
-  old_reach : WordsReach old (words lines) 0 (coded_in lines)
+  pub old_reach : WordsReach old (words lines) 0 (coded_in lines)
   old_reach =
       subst (λ n. WordsReach old n 0 (coded_in lines)) (ap (λ (cs : List Coded). length cs) (length_of lines has.code) ∙ coded_words lines)
       (subst (λ ps. WordsReach ps (length (code_in (texts.readings_of (written lines ls)))) 0 (coded_in lines)) old_is
@@ -407,7 +407,7 @@ module _ (lines : List Line) (ls : List Literal) (has : HasImage lines ls) (few 
   bytes_same : last_byte 0 (texts.readings_of (written (filled lines) ls)) ≡ last_byte 0 (texts.readings_of (written lines ls))
   bytes_same = code_bytes 0 (filled lines) statics code ∙ sym (code_bytes 0 lines statics has.code)
 
-  main_good : JumpReaches (words lines) (position_of old (codes "main"))
+  pub main_good : JumpReaches (words lines) (position_of old (codes "main"))
   main_good =
       subst (λ n. JumpReaches n (position_of old (codes "main")))
       (ap (λ (cs : List Coded). length cs) (length_of lines has.code) ∙ coded_words lines)

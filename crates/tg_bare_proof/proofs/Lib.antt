@@ -5,4 +5,6 @@ pub mod Agreeing
 pub mod Emitted
 pub mod Images
 pub mod LongCode
+pub mod TurnedImages
+pub mod DelayedImages
 mod Examples

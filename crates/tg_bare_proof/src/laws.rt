@@ -1,5 +1,6 @@
 ghost use Rattle.tg_bare_proof.specs.laws.Laws.{
   CodeIsDelayed,
+  DelayedHasImage,
   DelayedLinesAgree,
   DelayedRunOnTheMachine,
   EmittedMayBeDelayed,
@@ -60,4 +61,9 @@ pub fn emitted_may_be_delayed()
 pub fn filled_has_image()
     ensures short { FilledHasImage }
     ensures long { LongCodeHasImage }
+{}
+
+/// The law of what is emitted, however long it is: with its delay slots it has an image.
+pub fn delayed_has_image()
+    ensures { DelayedHasImage }
 {}

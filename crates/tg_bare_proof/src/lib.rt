@@ -7,6 +7,6 @@
 mod laws;
 
 pub use laws::{
-    delayed_lines_agree, delayed_run_on_the_machine, emitted_may_be_delayed, filled_has_image,
-    lines_are_delayed, lines_keep_on_the_machine,
+    delayed_has_image, delayed_lines_agree, delayed_run_on_the_machine, emitted_may_be_delayed,
+    filled_has_image, lines_are_delayed, lines_keep_on_the_machine,
 };

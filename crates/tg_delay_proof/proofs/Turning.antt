@@ -28,11 +28,11 @@ use Rattle.tg_delay_proof.proofs.Filled.{is_call, calls_is, behind_call_is, call
 use Rattle.tg_delay_proof.proofs.Fuel.{Same, same_at, wrong, along, one_one, one_two, two_two, writing}
 
 -- a place with its branches turned round
-abbrev turned_place : Place → Place
+abbrev pub turned_place : Place → Place
 turned_place (left rest) = left (turned_round rest)
 turned_place at_zero = at_zero
 
-abbrev some_turned : Option Place → Option Place
+abbrev pub some_turned : Option Place → Option Place
 some_turned (Some p) = Some (turned_place p)
 some_turned None = None
 
@@ -44,10 +44,10 @@ apart_by_bytes a b h = by (bytes_eq a b) refl
     by false e = refl
 
 -- a label that is no new one
-abbrev IsOld : List ℕ → Type 0
+abbrev pub IsOld : List ℕ → Type 0
 IsOld name = (k : ℕ) → name ≢ around_name k
 
-given_is_old : (name : List ℕ) (lines : List Line) (p : Place) → GivesNone lines → behind name lines ≡ Some p → IsOld name
+pub given_is_old : (name : List ℕ) (lines : List Line) (p : Place) → GivesNone lines → behind name lines ≡ Some p → IsOld name
 given_is_old name [] p g h = cc
 given_is_old name (Label other ∷ rest) p g h = by (bytes_eq name other) refl h (λ e. given_is_old name rest p g.1 e)
   where
@@ -70,7 +70,7 @@ behind_turned_row name one target k rest h = by (branches one)
     by true = ap (λ c. if c then Some (left rest) else behind name rest) (apart_by_bytes name (around_name k) h)
     by false = refl
 
-behind_turned : (name : List ℕ) (lines : List Line) → IsOld name →
+pub behind_turned : (name : List ℕ) (lines : List Line) → IsOld name →
     behind name (turned_round lines) ≡ some_turned (behind name lines)
 behind_turned name [] h = refl
 behind_turned name (Label other ∷ rest) h = by (bytes_eq name other) (behind_turned name rest h)

@@ -104,3 +104,12 @@ LongCodeHasImage =
     HasImage (functions_lines true fs) ls →
     words (filled (functions_lines true fs)) < most_words →
     HasImage (filled (functions_lines true fs)) ls
+
+-- What is emitted has an image with its delay slots, however long its code is, where that fits the
+-- segment: branches are turned round where they wouldn't reach.
+abbrev pub DelayedHasImage : Type 0
+DelayedHasImage =
+    (fs : List Allocated) (ls : List Literal) →
+    HasImage (functions_lines (is_long fs) fs) ls →
+    words (delayed (functions_lines (is_long fs) fs)) < most_words →
+    HasImage (delayed (functions_lines (is_long fs) fs)) ls
