@@ -56,9 +56,9 @@ async function move_to(steps, stops, first) {
 function draw_code() {
   machine.rows = new Map();
   const rows = machine.code.map((line) => {
-    if (!line.count) return made("div", {}, made("span", { className: "times" }), made("span", {}, line.text));
+    if (!line.count) return made("div", {}, made("span", { className: "times" }), made("span", {}, line.text.trim()));
     const button = made("button", { ariaPressed: "false" }, hex(line.address)), times = made("span", { className: "times" });
-    const row = made("div", {}, times, button, made("span", {}, line.text));
+    const row = made("div", {}, times, button, made("span", {}, line.text.trim().replace(/\t/g, " ")));
     button.addEventListener("click", () => {
       const has = machine.stops.delete(line.address) || !machine.stops.add(line.address);
       row.classList.toggle("stop", !has);
@@ -101,7 +101,7 @@ function draw_words({ words, registers }) {
   };
   at("memory").textContent = words.slice(0, SHOWN).map((word, it) => told((base + 4 * it) >>> 0, word)).join("\n");
   const stack = words.slice(SHOWN).map((word, it) => [sp + 4 * it, word]).filter(([address, word]) => address < STACK_TOP && word < 2 ** 32);
-  at("frames").textContent = stack.map(([address, word]) => `${hex(address)}  ${hex(word)}${line_at(word) ? `  ── ${text_of("frame", { function: function_at(word) })}` : ""}`).join("\n") || TEXTS.none;
+  at("frames").textContent = stack.map(([address, word]) => `${hex(address)} ${hex(word)}${line_at(word) ? ` ${text_of("frame", { function: function_at(word) })}` : ""}`).join("\n") || TEXTS.none;
 }
 
 function begin_simulator() {

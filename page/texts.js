@@ -41,7 +41,7 @@ const TEXTS = {
   made: "{made} steps made", ended: "the machine has ended", nowhere: "the next step fetches nothing",
   next: "next: {address}  {text}  in {function}", registers: "Registers", memory: "Memory", from: "from address", machine_stack: "Stack from $sp",
   output: "Output so far", code: "Code", stops_are: "A press on an address sets or lifts a breakpoint.",
-  frame: "returns into {function}", unserved: "not there", changed: "changed", loading: "loads", no_image: "The text has a fault: there is nothing to step.", too_far: "this view goes no further than {most} steps",
+  frame: "◂ returns into {function}", unserved: "not there", changed: "changed", loading: "loads", no_image: "The text has a fault: there is nothing to step.", too_far: "this view goes no further than {most} steps",
   foot: "What is proved: the compiler, the assembler and the simulator in this page are the proved crates of this repository. What is not: the step from the proved program for x86-64 to this WebAssembly module, its heap, this page's own script and the browser. That step is tested: each example in each mode gives what the native program gives. {made}",
 };
 const text_of = (key, values = {}) => TEXTS[key].replace(/\{(\w+)\}/g, (_, name) => values[name]);
