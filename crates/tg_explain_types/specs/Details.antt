@@ -85,4 +85,5 @@ explained_by text word given seen _ = Nothing
 abbrev pub explained : (text : List ℕ) → (program : Exp) → TypeRule → (at : ℕ) → TypeDetail
 explained text program rule at =
     let parts = exp_parts program [] in
-    explained_by text (spelled text (name_at text at)) (arguments_at at parts) (seen_at at parts) rule
+    let word = spelled text (name_at text at) in
+    explained_by text word (arguments_at at parts) (seen_at at parts) rule

@@ -5,7 +5,8 @@ use Rattle.std.specs.Prelude.{ℕ, suc, ◌≤◌, List, [], ◌∷◌}
 pub data Edits : ℕ → List ℕ → List ℕ → Type 0 where
   done : Edits 0 [] []
   kept : {n : ℕ} {one other : List ℕ} (b : ℕ) → Edits n one other → Edits n (b ∷ one) (b ∷ other)
-  left_out : {n : ℕ} {one other : List ℕ} (b : ℕ) → Edits n one other → Edits (suc n) (b ∷ one) other
+  left_out :
+      {n : ℕ} {one other : List ℕ} (b : ℕ) → Edits n one other → Edits (suc n) (b ∷ one) other
   put_in : {n : ℕ} {one other : List ℕ} (b : ℕ) → Edits n one other → Edits (suc n) one (b ∷ other)
   replaced :
       {n : ℕ} {one other : List ℕ} (a b : ℕ) → Edits n one other →

@@ -29,8 +29,8 @@ pub enum TypeDetail {
 }
 
 /// What the fault of a rule at a byte of a program is about: of an unknown name those spelled
-/// nearly so, of a name of another kind its declaration, of wrong arguments both counts. Other rules
-/// have nothing. The only error is out of memory.
+/// nearly so, of a name of another kind its declaration, of wrong arguments both counts. Other
+/// rules have nothing. The only error is out of memory.
 pub fn explain_types(
     alloc: Global,
     text: &[u8],

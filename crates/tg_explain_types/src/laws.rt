@@ -6,8 +6,8 @@ pub fn one_edit_is_exact()
     ensures { TestsOneEdit }
 {}
 
-/// A law: the test of two edits holds exactly where two edits at most lie between two texts. It does
-/// nothing.
+/// A law: the test of two edits holds exactly where two edits at most lie between two texts. It
+/// does nothing.
 pub fn two_edits_are_exact()
     ensures { TestsTwoEdits }
 {}
