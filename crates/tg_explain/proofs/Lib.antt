@@ -5,3 +5,4 @@ pub mod AllExpected
 pub mod Fronts
 pub mod Escapes
 pub mod Runs
+mod Examples

@@ -47,6 +47,7 @@ lexical_lines text L3 at = line_of (still_open (34 ∷ []) (place_of text at))
 lexical_lines text L4 at =
     line_of (codes "found " ++ quoted (map shown_byte (bad_escape (drop at text))))
 lexical_lines text L5 at =
-    line_of (codes "found " ++ digits (drop at text)) ++ line_of (codes "expected at most 2147483647")
+    line_of (codes "found " ++ digits (drop at text))
+    ++ line_of (codes "expected at most 2147483647")
 lexical_lines text L6 at = byte_line (drop at text)
 lexical_lines text L7 at = line_of (codes "expected at most 262144 bytes")

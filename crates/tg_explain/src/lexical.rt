@@ -67,7 +67,8 @@ fn put_byte(line: &mut Vec<u8>, byte: u8) -> Result<(), Memory>
 
 fn put_escape_line(alloc: Global, out: &mut Vec<u8>, text: &[u8]) -> Result<(), Memory>
     ensures { OnOk result (out.new.items ≡ out.old.items
-        ++ lines.line_of (codes "found " ++ words.quoted (map lexical.shown_byte (lexical.bad_escape text.now)))) }
+        ++ lines.line_of (codes "found "
+        ++ words.quoted (map lexical.shown_byte (lexical.bad_escape text.now)))) }
 {
     let mut line = Vec::new(alloc);
     put(&mut line, b"found '")?;

@@ -1,9 +1,9 @@
 //! Explanations of faults of bytes and syntax: what was found, what is expected, what is open.
 //!
-//! Promises exactly the kinds of tokens with which some program goes on behind those before a fault,
-//! the last opener of them that no token closes, and the lines that tell these. The definitions
-//! stand in `specs/Expected.antt`, `specs/Openers.antt`, `specs/Details.antt`, `specs/Lines.antt` and
-//! `specs/Lexical.antt`.
+//! Promises exactly the kinds of tokens with which some program goes on behind those before a
+//! fault, the last opener of them that no token closes, and the lines that tell these. The
+//! definitions stand in `specs/Expected.antt`, `specs/Openers.antt`, `specs/Details.antt`,
+//! `specs/Lines.antt` and `specs/Lexical.antt`.
 #![tactic(auto)]
 
 mod details;

@@ -1,0 +1,4 @@
+mod Lists
+mod Distances
+pub mod Alike
+mod Telling

@@ -1,0 +1,9 @@
+pub mod Parts
+pub mod Scopes
+pub mod Edits
+pub mod Spelling
+pub mod Names
+pub mod Details
+pub mod laws
+pub mod glue
+pub mod Lines
