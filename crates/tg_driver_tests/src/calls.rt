@@ -308,3 +308,16 @@ pub(crate) fn repeated(
     text.extend_from_slice(last)?;
     Ok(text)
 }
+
+/// What a command writes of a source, of which it must be no fault.
+pub(crate) fn written(alloc: Global, line: &str, source: &str) -> Result<Vec<u8>, Fail> {
+    let outside = Outside {
+        room: 1_000_000,
+        ..Outside::of(source.as_bytes())
+    };
+    let seen = call(alloc, line, outside)?;
+    if seen.status != 0 {
+        return Err(Fail::from("a fault"));
+    }
+    Ok(seen.out)
+}
