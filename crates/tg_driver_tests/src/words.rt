@@ -6,7 +6,7 @@ use tg_command::{Command, Mode, read_words};
 use tg_driver::usage;
 
 // Command lines, with a `|` between their words, that are usage faults. FILE is there.
-static REFUSED: [&str; 92] = [
+static REFUSED: [&str; 95] = [
     "tiger",
     "tiger|run",
     "tiger|FILE",
@@ -43,6 +43,9 @@ static REFUSED: [&str; 92] = [
     "tiger|exec|FILE|--fold",
     "tiger|format|FILE|--fold",
     "tiger|show|FILE|--watch",
+    "tiger|show|FILE|--heap|16777216",
+    "tiger|show|FILE|--stack=67108864",
+    "tiger|--steps|1|show|FILE",
     "tiger|shows|FILE",
     "tiger|run|FILE|--fold|--fold",
     "tiger|run|FILE|--fold=1",

@@ -1,7 +1,7 @@
 pub mod DeclaredLaws
 pub mod Within
-mod Labels
-mod Told
+pub mod Labels
+pub mod Told
 pub mod Trees
-mod Telling
-mod Counts
+pub mod Telling
+pub mod Counts
