@@ -1,8 +1,8 @@
-use Rattle.std.proofs.Common.{◌≡◌, ◌∙◌, ℕ, List, Some, false, true, sym, ap, subst, codes, map, option_map, string_bytes, rules, Option}
+use Rattle.std.proofs.Common.{◌≡◌, ℕ, List, Some, false, subst, codes, map, option_map, string_bytes, rules}
 use Rattle.tg_command.specs.declared.flags.Flags.{Flags}
 use Rattle.tg_command.specs.Flagged.{flags_fit}
 use Rattle.tg_command.specs.Commands.{flags, number, sizes}
-use Rattle.tg_command.specs.Sizes.{sizes_fit, given_sizes_fit}
+use Rattle.tg_command.specs.Sizes.{sizes_fit}
 use Rattle.tg_command.specs.Modes.{mode_name}
 use Rattle.tg_command.specs.Simple.{value_of}
 use Rattle.tg_command.proofs.CommandLemmas.{all_blamed}
