@@ -2,7 +2,7 @@
 use Rattle.std.proofs.Common.{ℕ, ◌+◌, ◌<◌, ◌≡◌, Bool, true, false, List, [], ◌∷◌, ◌++◌, length, get_or, take, drop, refl, sym, ap, subst, ◌∙◌, arith}
 use Rattle.std.specs.Prelude.{IsTrue, map, if◌then◌else◌}
 use Rattle.std.specs.List.{AllZip, list_all}
-use Rattle.std.proofs.lemmas.List.{get_or-map, length-map}
+use Rattle.std.proofs.lemmas.List.{get_or-map, length-map, at_drop_more}
 use Rattle.std.proofs.lemmas.Slice.Zip.{AllZip-long}
 use Rattle.tg_instr.proofs.Tests.{all_at}
 use Rattle.tg_instr.specs.declared.codes.Allocated.{Allocated}
@@ -14,6 +14,7 @@ use Rattle.tg_regalloc.specs.declared.allocations.Allocation.{Allocation}
 use Rattle.tg_regalloc.specs.Allocations.{codes_of}
 use Rattle.tg_code_bounds.specs.Allocating.{IsAllocationOf}
 use Rattle.tg_emit.specs.Conditions.{is_emittable}
+use Rattle.tg_emit.specs.mirror.Lines.{function_lines, functions_lines}
 use Rattle.tg_compile.specs.declared.passes.Passes.{Passes}
 use Rattle.tg_compile.specs.Prepared.{prepared}
 use Rattle.tg_compile.specs.Compiling.{CompileFunctions}
@@ -48,3 +49,10 @@ pub within : (fs : List Fragment) (ls : List Literal) (whole : Code Ts) (all : L
 within fs ls whole all at is each h =
     let same : length whole.functions ≡ length fs = sym (ap (λ (c : Code Ts). length c.functions) is) ∙ length-map fs plain_fragment in
     omega arith
+
+-- the lines of functions from a place on
+pub lines_more : (all : List Allocation) (at : ℕ) (one : Allocation) → at < length all → one ≡ get_or all at one →
+    functions_lines false (codes_of (drop at all)) ≡ function_lines false one.done ++ functions_lines false (codes_of (drop (at + 1) all))
+lines_more all at one h is =
+    at_drop_more (λ xs. functions_lines false (codes_of xs)) all at one h
+    ∙ ap (λ (a : Allocation). function_lines false a.done ++ functions_lines false (codes_of (drop (at + 1) all))) (sym is)

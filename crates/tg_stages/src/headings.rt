@@ -83,13 +83,13 @@ fn put_source(
         ≡ all.old.items ++ map (spec.heading_of text.now names.now) found.now) }
 {
     for at in 0..found.len() {
-        let one = heading(alloc, text, names, found[at])?;
+        let one = heading_of(alloc, text, names, found[at])?;
         all.push(one)?;
     }
     Ok(())
 }
 
-fn heading(alloc: Global, text: &[u8], names: &Names, one: Ident) -> Result<Heading, Memory>
+fn heading_of(alloc: Global, text: &[u8], names: &Names, one: Ident) -> Result<Heading, Memory>
     requires small { length text.now < 2 ^ 31 }
     requires within { one.name.0 < length names.now }
     ensures { IfOk result (λ h. h ≡ spec.heading_of text.now names.now one) }
