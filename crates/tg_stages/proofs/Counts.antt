@@ -2,7 +2,7 @@
 use Rattle.std.proofs.Common.{ℕ, ◌+◌, ◌<◌, ◌≡◌, Bool, true, false, List, [], ◌∷◌, ◌++◌, length, get_or, take, drop, refl, sym, ap, subst, ◌∙◌, arith}
 use Rattle.std.specs.Prelude.{IsTrue, map, if◌then◌else◌}
 use Rattle.std.specs.List.{AllZip, list_all}
-use Rattle.std.proofs.lemmas.List.{get_or-map, length-map, at_drop_more}
+use Rattle.std.proofs.lemmas.List.{get_or-map, get_or_default, length-map, at_drop_more}
 use Rattle.std.proofs.lemmas.Slice.Zip.{AllZip-long}
 use Rattle.tg_instr.proofs.Tests.{all_at}
 use Rattle.tg_instr.specs.declared.codes.Allocated.{Allocated}
@@ -50,9 +50,12 @@ within fs ls whole all at is each h =
     let same : length whole.functions ≡ length fs = sym (ap (λ (c : Code Ts). length c.functions) is) ∙ length-map fs plain_fragment in
     omega arith
 
+-- the same, as the code reads it
+pub emittable_there : (all : List Allocation) (at : ℕ) (d : Allocation) → at < length all → IsTrue (list_all is_emittable (codes_of all)) →
+    IsTrue (is_emittable (get_or all at d).done)
+emittable_there all at d h holds = emittable_at all at (get_or all at d) h (get_or_default all at d (get_or all at d) h) holds
+
 -- the lines of functions from a place on
-pub lines_more : (all : List Allocation) (at : ℕ) (one : Allocation) → at < length all → one ≡ get_or all at one →
-    functions_lines false (codes_of (drop at all)) ≡ function_lines false one.done ++ functions_lines false (codes_of (drop (at + 1) all))
-lines_more all at one h is =
-    at_drop_more (λ xs. functions_lines false (codes_of xs)) all at one h
-    ∙ ap (λ (a : Allocation). function_lines false a.done ++ functions_lines false (codes_of (drop (at + 1) all))) (sym is)
+pub lines_more : (all : List Allocation) (at : ℕ) (d : Allocation) → at < length all →
+    functions_lines false (codes_of (drop at all)) ≡ function_lines false (get_or all at d).done ++ functions_lines false (codes_of (drop (at + 1) all))
+lines_more all at d h = at_drop_more (λ xs. functions_lines false (codes_of xs)) all at d h

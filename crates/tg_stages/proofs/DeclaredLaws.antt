@@ -5,7 +5,7 @@ use Rattle.tg_syntax.specs.declared.tokens.Ident.{Ident}
 use Rattle.tg_syntax.specs.declared.trees.Dec.{Dec, Types, Variable', Functions}
 use Rattle.tg_syntax.specs.Tree.{Decs, no_decs}
 use Rattle.tg_syntax.specs.glue.Plain.{plain_kind, plain_dec, plain_functions}
-use Rattle.tg_stages.specs.Declared.{declared, declared_decs, declared_functions}
+use Rattle.tg_stages.specs.DeclaredFunctions.{declared, declared_decs, declared_functions}
 
 pub declared_decs-dec : (d : Dec) (rest : Decs) →
     declared_decs (plain_dec d rest) ≡ declared_decs (plain_dec d no_decs) ++ declared_decs rest

@@ -5,3 +5,4 @@ pub mod Told
 pub mod Trees
 pub mod Telling
 pub mod Counts
+pub mod Routines

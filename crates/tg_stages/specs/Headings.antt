@@ -4,7 +4,7 @@ use Rattle.tg_base.specs.Lines.{place_of}
 use Rattle.tg_syntax.specs.declared.tokens.Ident.{Ident}
 use Rattle.tg_syntax.specs.Tree.{Exp}
 use Rattle.tg_stages.specs.declared.headings.Heading.{Heading}
-use Rattle.tg_stages.specs.Declared.{declared}
+use Rattle.tg_stages.specs.DeclaredFunctions.{declared}
 
 -- of a function of the source, by its text and the names of its identifiers
 abbrev pub heading_of : (text : List ℕ) → (names : List (List ℕ)) → Ident → Heading

@@ -1,4 +1,4 @@
-pub mod Declared
+pub mod DeclaredFunctions
 pub mod Headings
 pub mod Shown
 pub mod Programs

@@ -1,10 +1,9 @@
 -- The text of `show`: of each function what each pass made of it, in the order in which the compiler
 -- works (Appel, chapters 7 to 12).
-use Rattle.std.specs.Prelude.{ℕ, List, [], ◌∷◌, ◌++◌, Bool, Option, Some, None, if◌then◌else◌}
-use Rattle.tg_tree.specs.Tree.{Ts, Stms, Linear, Function}
+use Rattle.std.specs.Prelude.{ℕ, ◌≡◌, List, [], ◌++◌, Bool, if◌then◌else◌}
+use Rattle.tg_tree.specs.Tree.{Ts, Function}
 use Rattle.tg_fold.specs.laws.Laws.{folded_function}
 use Rattle.tg_canon.specs.laws.Meaning.{canonical}
-use Rattle.tg_trace_schedule.specs.Block.{Block}
 use Rattle.tg_trace_schedule.specs.laws.Carried.{in_blocks}
 use Rattle.tg_canon_trace_proof.specs.Flattened.{flattened}
 use Rattle.tg_instr.specs.declared.instr.Instr.{Instr}
@@ -13,12 +12,9 @@ use Rattle.tg_graph.specs.Interference.{Interference}
 use Rattle.tg_interference.specs.Pairs.{IsInterference}
 use Rattle.tg_interference.specs.Moves.{moves_of}
 use Rattle.tg_redundancy.specs.mirror.Known.{known_code}
-use Rattle.tg_irc_definition.specs.declared.moves.Move.{Move}
 use Rattle.tg_regalloc.specs.declared.allocations.Allocation.{Allocation}
 use Rattle.tg_code_bounds.specs.Allocating.{chosen}
-use Rattle.tg_emit.specs.declared.assembly.Line.{Line}
-use Rattle.tg_emit.specs.mirror.Lines.{function_lines, is_long}
-use Rattle.tg_regalloc.specs.Allocations.{codes_of}
+use Rattle.tg_emit.specs.mirror.Lines.{function_lines}
 use Rattle.tg_compile.specs.declared.passes.Passes.{Passes}
 use Rattle.tg_compile.specs.Prepared.{prepared_function}
 use Rattle.tg_show.specs.Stages.{function_line, tree_stage, folded_stage, canonical_stage}

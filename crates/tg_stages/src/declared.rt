@@ -9,7 +9,7 @@ ghost use Rattle.tg_syntax.specs.glue.Plain.{
   plain_inits,
   plain_lvalue,
 };
-ghost use Rattle.tg_stages.specs.Declared as functions;
+ghost use Rattle.tg_stages.specs.DeclaredFunctions as functions;
 
 use tg_base::Memory;
 use tg_syntax::{Dec, Decs, Exp, Exps, FunDecs, Ident, Inits, Kind, Var};

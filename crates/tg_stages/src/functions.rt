@@ -59,7 +59,7 @@ pub fn put_stages(
     let mut frame = frame;
     let flat = put_flat(alloc, text, &mut frame, body)?;
     put_instructions(alloc, text, &mut frame, &flat)?;
-    put_allocated(alloc, text, allocation, long)
+    Ok(put_allocated(alloc, text, allocation, long)?)
 }
 
 fn put_heading(text: &mut Vec<u8>, label: Label, heading: &Heading) -> Result<(), Memory>
@@ -147,7 +147,7 @@ fn put_graphs(alloc: Global, text: &mut Vec<u8>, code: &Code) -> Result<(), Memo
     put_live(alloc, text, &[], list, &sets)?;
     let graph = interference(alloc, code, &sets)?;
     let moves = moves_of(alloc, code)?;
-    put_graph(text, &[], &graph, moves.as_slice())
+    Ok(put_graph(text, &[], &graph, moves.as_slice())?)
 }
 
 /// Puts an allocation at the end, and its lines of assembly.

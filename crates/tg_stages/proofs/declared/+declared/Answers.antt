@@ -3,7 +3,7 @@ use Rattle.std.specs.Prelude.{OnOk}
 use Rattle.std.proofs.lemmas.Grind.{common_steps}
 use Rattle.tg_syntax.specs.glue.Plain.{plain_kind}
 use Rattle.tg_syntax.proofs.ListLaws.{plain_exps-items, plain_inits-items, plain_functions-items, plain_kind-Let}
-use Rattle.tg_stages.specs.Declared.{declared, declared_exps, declared_inits, declared_functions}
+use Rattle.tg_stages.specs.DeclaredFunctions.{declared, declared_exps, declared_inits, declared_functions}
 use Rattle.tg_stages.proofs.DeclaredLaws.{declared_decs-dec}
 use Rattle.tg_stages.proofs.declared.+declared.Goals as goal
 
@@ -19,7 +19,13 @@ put_of_functions-returns t c = rw (plain_functions-items c.args.group.now) (grin
 pub put_of_decs-loop-dec-preserved : goal.put_of_decs-loop-dec-preserved
 put_of_decs-loop-dec-preserved t c = grind (arith, common_steps, declared_decs-dec)
 
-pub put_declared-returns-in-Let : goal.put_declared-returns-in-Let
-put_declared-returns-in-Let t c =
+pub put_declared-returns-in_ok-put_of_decs-in-Let : goal.put_declared-returns-in_ok-put_of_decs-in-Let
+put_declared-returns-in_ok-put_of_decs-in-Let t c =
     rw (ap (λ k. plain_kind k c.args.e.now.span) c.in-Let.is ∙ plain_kind-Let c.in-Let.decs c.in-Let.body c.args.e.now.span)
     (grind (arith, common_steps))
+
+pub put_declared-returns-in_ok-put_declared-in-Binary : goal.put_declared-returns-in_ok-put_declared-in-Binary
+put_declared-returns-in_ok-put_declared-in-Binary t c = ?
+
+pub put_declared-returns-in_ok-put_declared-in-If-default-default-Some-2 : goal.put_declared-returns-in_ok-put_declared-in-If-default-default-Some-2
+put_declared-returns-in_ok-put_declared-in-If-default-default-Some-2 t c = ?

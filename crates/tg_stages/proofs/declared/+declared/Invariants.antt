@@ -1,6 +1,6 @@
 use Rattle.std.proofs.Common.{◌≡◌, ◌++◌, drop}
 use Rattle.tg_syntax.specs.glue.Lists.{exps_of, inits_of, decs_of, functions_of}
-use Rattle.tg_stages.specs.Declared.{declared_exps, declared_inits, declared_decs, declared_functions}
+use Rattle.tg_stages.specs.DeclaredFunctions.{declared_exps, declared_inits, declared_decs, declared_functions}
 use Rattle.tg_stages.proofs.declared.+declared.Given as goal
 
 abbrev pub invariant-put_of_exps-loop-e : goal.invariant-put_of_exps-loop-e

@@ -29,4 +29,4 @@ returns c =
     function_told c.args.passes c.args.long c.args.heading.now (plain_fragment c.args.one) (plain_fragment c.in_ok-prepared.prepared)
     (plain_function c.put_flat.new.frame (code_of c.in_ok-flat.flat.items)) c.args.allocation.now _ _ _ _ _ _
     c.in_ok-prepared.ensures.prepared c.in_ok-flat.ensures.flat c.in_ok-put_heading.ensures c.in_ok-prepared.ensures.text
-    c.in_ok-flat.ensures.text (rw c.deref.ensures.value at c.in_ok-put_instructions.ensures) c.put_allocated.ensures
+    c.in_ok-flat.ensures.text (rw c.deref.ensures.value at c.in_ok-put_instructions.ensures) c.in_ok-put_allocated.ensures
