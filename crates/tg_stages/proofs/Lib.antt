@@ -6,3 +6,4 @@ pub mod Trees
 pub mod Telling
 pub mod Counts
 pub mod Routines
+pub mod Joined

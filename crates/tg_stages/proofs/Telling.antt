@@ -30,14 +30,13 @@ module _ (passes : Passes) (long : Bool) (all : List Heading) where
 
 -- A function with its heading and its allocation is told after those before it.
 pub tell_next : (passes : Passes) (long : Bool) (all : List Heading) (fs : List Fragment) (f : Fragment) (others : List Allocation)
-    (d : Allocation) (h : Heading) (at : ℕ) (before after : List ℕ) →
-    at ≡ length fs → at < length others → h ≡ heading_at all at →
+    (a : Allocation) (h : Heading) (at : ℕ) (before after : List ℕ) →
+    at ≡ length fs → at < length others → a ≡ get_or others at a → h ≡ heading_at all at →
     TellFrom passes long all 0 (map plain_fragment fs) (take at others) before →
-    Puts before after (TellsFunction passes long h (plain_fragment f) (get_or others at d)) →
+    Puts before after (TellsFunction passes long h (plain_fragment f) a) →
     TellFrom passes long all 0 (map plain_fragment (fs ++ f ∷ [])) (take (at + 1) others) after
-tell_next passes long all fs f others d h at before after counted inside headed tell puts =
+tell_next passes long all fs f others a h at before after counted inside there headed tell puts =
     let before_it = map plain_fragment fs in
-    let a = get_or others at d in
     let P : Heading → Type 0 = λ k. TellsFunction passes long k (plain_fragment f) a puts.told in
     let count : at ≡ 0 + length before_it = omega (arith, counted, length-map fs plain_fragment) in
     let told = subst P (headed ∙ ap (λ n. heading_at all n) count) puts.holds in
@@ -45,7 +44,8 @@ tell_next passes long all fs f others d h at before after counted inside headed 
     let Q : List (Function Ts) → Type 0 = λ gs. TellFrom passes long all 0 gs (take (at + 1) others) after in
     let R : List Allocation → Type 0 = λ bs. TellFrom passes long all 0 (before_it ++ plain_fragment f ∷ []) bs after in
     let S : List ℕ → Type 0 = λ t. TellFrom passes long all 0 (before_it ++ plain_fragment f ∷ []) (take at others ++ a ∷ []) t in
-    let taken : take (at + 1) others ≡ take at others ++ a ∷ [] = take_more others at d inside in
+    let taken : take (at + 1) others ≡ take at others ++ a ∷ [] =
+    take_more others at a inside ∙ ap (λ b. take at others ++ b ∷ []) (sym there) in
     subst Q (sym (map-append plain_fragment fs (f ∷ []))) (subst R (sym taken) (subst S (sym puts.is_behind) more))
 
 -- All functions of a program are told, each with its allocation.

@@ -163,7 +163,7 @@ fn put_allocated(
 {
     put_registers(text, &[], allocation)?;
     let lines = lines_of(alloc, &allocation.done, long)?;
-    put_assembly(alloc, text, &lines)
+    Ok(put_assembly(alloc, text, &lines)?)
 }
 
 /// The lines of a function.

@@ -1,4 +1,4 @@
-use Rattle.std.proofs.Common.{sym, subst, ◌∙◌}
+use Rattle.std.proofs.Common.{List, sym, subst}
 use Rattle.tg_tree.specs.Tree.{Function, Linear, Ts}
 use Rattle.tg_tree.specs.glue.Lists.{code_of}
 use Rattle.tg_tree.specs.glue.Plain.{plain_fragment, plain_function, plain_ts}

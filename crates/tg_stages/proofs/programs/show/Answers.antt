@@ -1,4 +1,4 @@
-use Rattle.std.proofs.Common.{◌≡◌, ◌<◌, ◌+◌, ◌^◌, List, refl, sym, ap, subst, ◌∙◌, arith, length}
+use Rattle.std.proofs.Common.{◌≡◌, ◌<◌, List, [], refl, sym, subst, ◌∙◌, arith, length, rules}
 use Rattle.std.specs.Prelude.{All, map}
 use Rattle.std.proofs.IntoIterSteps.{All-taken}
 use Rattle.std.proofs.lemmas.List.{length_push}
@@ -13,7 +13,8 @@ use Rattle.tg_compile.specs.Compiling.{fragments_of}
 use Rattle.tg_compile.specs.glue.Passes.{IsWellFormed}
 use Rattle.tg_compile.proofs.WellFormed.{one_is}
 use Rattle.tg_stages.specs.Headings.{headings}
-use Rattle.tg_stages.proofs.Counts.{emittable_there, within}
+use Rattle.tg_stages.specs.Programs.{TellFrom, nothing}
+use Rattle.tg_stages.proofs.Counts.{emittable_at, within}
 use Rattle.tg_stages.proofs.Telling.{tell_next, all_told}
 use Rattle.tg_stages.proofs.programs.show.Goals as goal
 
@@ -47,8 +48,16 @@ put_stages-requires-clause-emittable c =
     let all = c.in_ok-functions.field-0 in
     let inside = within all.functions.items all.literals.items (fragments_of checked.notes (plain checked.program.body)) c.args.allocations.now
     (length c.loop-one.yielded) c.in_ok-functions.ensures.fragments c.requires.each (subst P given turn.0) in
-    emittable_there c.args.allocations.now c.loop-one.at c.index-allocations-at.result (omega (arith, inside, c.loop-one.invariant.at))
-    c.requires.emittable
+    emittable_at c.args.allocations.now c.loop-one.at c.index-allocations-at.result (omega (arith, inside, c.loop-one.invariant.at))
+    c.index-allocations-at.is c.requires.emittable
+
+pub loop-one-init : goal.loop-one-init
+loop-one-init c =
+    let empty : c.new-shown.result.items ≡ [] = search rules in
+    record {
+      at = refl;
+      tell = subst (λ t. TellFrom c.args.passes c.in_ok-long.long c.in_ok-all.all.items 0 [] [] t) (sym empty) nothing;
+    }
 
 pub loop-one-preserved : goal.loop-one-preserved
 loop-one-preserved c =
@@ -64,7 +73,7 @@ loop-one-preserved c =
       at = omega (arith, c.loop-one.invariant.at, length_push c.loop-one.yielded c.in-Some.one);
       tell = tell_next c.args.passes c.in_ok-long.long c.in_ok-all.all.items c.loop-one.yielded c.in-Some.one c.args.allocations.now
           c.index-allocations-at.result c.heading_at-heading.result.now c.loop-one.at c.loop-one.shown.items c.put_stages.new.text.items
-          c.loop-one.invariant.at (omega (arith, inside, c.loop-one.invariant.at))
+          c.loop-one.invariant.at (omega (arith, inside, c.loop-one.invariant.at)) c.index-allocations-at.is
           (rw c.deref.ensures.value at c.heading_at-heading.ensures) c.loop-one.invariant.tell c.in_ok-put_stages.ensures;
     }
 
