@@ -26,20 +26,27 @@ pub fn put_declared(found: &mut Vec<Ident>, e: &Exp) -> Result<(), Memory>
         Kind::Call(_, arguments) => put_of_exps(found, arguments),
         Kind::Seq(items) => put_of_exps(found, items),
         Kind::Neg(a) => put_declared(found, a),
-        Kind::Binary(_, _, a, b) | Kind::Fill(_, a, b) | Kind::If(a, b, None) | Kind::While(a, b) =>
-            {
-                put_declared(found, a)?;
-                put_declared(found, b)
-            }
+        Kind::Binary(_, _, a, b) | Kind::Fill(_, a, b) | Kind::While(a, b) => {
+            put_declared(found, a)?;
+            put_declared(found, b)
+        }
         Kind::Make(_, inits) => put_of_inits(found, inits),
         Kind::Assign(place, a) => {
             put_of_place(found, place)?;
             put_declared(found, a)
         }
-        Kind::If(c, a, Some(b)) | Kind::For(_, c, a, b) => {
+        Kind::If(c, a, other) => {
             put_declared(found, c)?;
             put_declared(found, a)?;
-            put_declared(found, b)
+            match other {
+                Some(b) => put_declared(found, b),
+                None => Ok(()),
+            }
+        }
+        Kind::For(_, low, high, a) => {
+            put_declared(found, low)?;
+            put_declared(found, high)?;
+            put_declared(found, a)
         }
         Kind::Let(decs, body) => {
             put_of_decs(found, decs)?;
