@@ -1,12 +1,12 @@
 -- Functions and their allocations, place by place.
-use Rattle.std.proofs.Common.{ℕ, ◌+◌, ◌<◌, ◌≡◌, Bool, true, false, List, [], ◌∷◌, ◌++◌, length, get_or, take, drop, refl, sym, ap, subst, ◌∙◌, arith}
-use Rattle.std.specs.Prelude.{IsTrue, map, if◌then◌else◌}
-use Rattle.std.specs.List.{AllZip, list_all}
+use Rattle.std.proofs.Common.{ℕ, ◌+◌, ◌<◌, ◌≡◌, Bool, true, false, List, ◌++◌, length, get_or, drop, refl, sym, ap, subst, ◌∙◌, arith}
+use Rattle.std.specs.Prelude.{IsTrue, if◌then◌else◌}
+use Rattle.std.specs.List.{list_all}
 use Rattle.std.proofs.lemmas.List.{get_or-map, get_or_default, length-map, at_drop_more}
 use Rattle.std.proofs.lemmas.Slice.Zip.{AllZip-long}
 use Rattle.tg_instr.proofs.Tests.{all_at}
 use Rattle.tg_instr.specs.declared.codes.Allocated.{Allocated}
-use Rattle.tg_tree.specs.Tree.{Ts, Function, Code}
+use Rattle.tg_tree.specs.Tree.{Ts, Code}
 use Rattle.tg_fold.specs.laws.Laws.{folded_function}
 use Rattle.tg_fold.specs.laws.Meaning.{folded_code}
 use Rattle.tg_irc_definition.specs.Policies.{Rule}

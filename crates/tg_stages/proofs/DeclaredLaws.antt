@@ -1,5 +1,5 @@
 -- The functions that a declaration before others declares.
-use Rattle.std.proofs.Common.{◌≡◌, ◌++◌, List, [], refl, sym, ap}
+use Rattle.std.proofs.Common.{◌≡◌, ◌++◌, List, refl, sym, ap}
 use Rattle.std.proofs.lemmas.List.{append-nil}
 use Rattle.tg_syntax.specs.declared.tokens.Ident.{Ident}
 use Rattle.tg_syntax.specs.declared.trees.Dec.{Dec, Types, Variable', Functions}

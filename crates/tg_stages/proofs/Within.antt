@@ -1,5 +1,5 @@
 -- The names of the functions that a text declares are among those of its identifiers.
-use Rattle.std.proofs.Common.{ℕ, ◌<◌, List, [], ◌∷◌, ◌++◌, length, get_or, Bool, refl}
+use Rattle.std.proofs.Common.{ℕ, ◌<◌, List, ◌++◌, length, get_or, Bool, refl}
 use Rattle.std.specs.Prelude.{IsTrue, nat_lt}
 use Rattle.std.specs.List.{list_all}
 use Rattle.std.proofs.lemmas.Bool.{lt-ltb, ltb-true}

@@ -1,5 +1,5 @@
 -- The text of `show` of a whole program.
-use Rattle.std.specs.Prelude.{◌≡◌, ℕ, suc, List, [], ◌∷◌, ◌++◌, Bool, slice_index_or}
+use Rattle.std.specs.Prelude.{ℕ, suc, List, [], ◌∷◌, ◌++◌, Bool, slice_index_or}
 use Rattle.tg_syntax.specs.Tree.{Exp}
 use Rattle.tg_typecheck.specs.declared.notes.Note.{Note}
 use Rattle.tg_tree.specs.Tree.{Ts, Function}

@@ -1,4 +1,4 @@
-use Rattle.std.proofs.Common.{◌≡◌, [], refl}
+use Rattle.std.proofs.Common.{[], refl}
 use Rattle.tg_interference.specs.Moves.{moves_of}
 use Rattle.tg_show.specs.Stages.{instructions_stage, live_stage, graph_stage}
 use Rattle.tg_stages.specs.Shown.{code_text}

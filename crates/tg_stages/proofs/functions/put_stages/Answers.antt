@@ -1,12 +1,11 @@
 use Rattle.std.proofs.Common.{List, sym, subst}
-use Rattle.tg_tree.specs.Tree.{Function, Linear, Ts}
+use Rattle.tg_tree.specs.Tree.{Function, Linear}
 use Rattle.tg_tree.specs.glue.Lists.{code_of}
-use Rattle.tg_tree.specs.glue.Plain.{plain_fragment, plain_function, plain_ts}
+use Rattle.tg_tree.specs.glue.Plain.{plain_fragment, plain_function}
 use Rattle.tg_tree.specs.Named.{named_flat, HasItsTemps}
 use Rattle.tg_tree.specs.Shapes.{IsWellMarked}
 use Rattle.std.proofs.Common.{[]}
-use Rattle.tg_compile.specs.Prepared.{prepared_function}
-use Rattle.tg_compile.specs.glue.Passes.{IsWellFormed, IsWellMarkedFunction}
+use Rattle.tg_compile.specs.glue.Passes.{IsWellFormed}
 use Rattle.tg_stages.proofs.Told.{function_told}
 use Rattle.tg_stages.proofs.functions.put_stages.Goals as goal
 
