@@ -5,6 +5,7 @@
 # Of each mode its operand, what it does, what it takes, a call, and how it ends.
 modes='check|FILE|tells the first fault of a Tiger source||examples/fault.tig|with 0 where the source is accepted, else with 65
 run|FILE|compiles a source and runs it|heap stack steps watch fold|examples/merge.tig <examples/merge.in|with the code of the program modulo 256, 65 at a fault of the source, 101 to 110 at an end by a fault
+show|FILE|tells what each stage makes of each function|fold out|examples/sum.tig|with 0 where it is told, 65 at a fault of the source
 build|FILE|writes the MIPS assembly text of a source|fold out|examples/sum.tig -o sum.s|with 0 where the text is written, 65 at a fault of the source
 alloc|FILE|tells the steps of the register allocator|fold out|examples/sum.tig|with 0 where they are written, 65 at a fault of the source
 exec|FILE|assembles a text and runs it|heap stack steps watch|examples/hello.s|with the code of the program modulo 256, 65 at a fault of the text, 101 to 111 at an end by a fault
@@ -67,8 +68,8 @@ page_of_options() {
     for option in $1; do
         case $option in
         watch) printf '  %-15s run and exec tell on standard error what the run fetched\n' --watch ;;
-        fold) printf '  %-15s build, run, alloc and gen fold the trees before they go on\n' --fold ;;
-        out) printf '  %-15s build, alloc and format write OUT, where they end with 0, in place of standard output\n' '-o OUT' ;;
+        fold) printf '  %-15s build, run, show, alloc and gen fold the trees before they go on\n' --fold ;;
+        out) printf '  %-15s build, show, alloc and format write OUT, where they end with 0, in place of standard output\n' '-o OUT' ;;
         gnu) printf '  %-15s FILE:LINE:COLUMN: stands before a fault, as it does on a terminal\n' --gnu ;;
         *)
             row "$option" "$options" its value is_for least most absent
@@ -117,7 +118,7 @@ nearest() {
     done <<ROWS
 $others
 ROWS
-    for word in check run build alloc exec format gen help; do
+    for word in check run show build alloc exec format gen help; do
         [ -n "$near" ] || ! is_near "$1" "$word" || near=$word
     done
 }
@@ -172,10 +173,11 @@ look_at_count() {
 # Looks at the words as a whole: mode, operand and flags.
 look_at_all() {
     [ -z "$option" ] || blame "$option has no value"
+    [ "$mode" != show ] || [ "$given" = ' ' ] || blame 'show takes no size and no steps'
     [ -z "$has_third" ] || blame "one file at a time: $second, and not $third besides"
     [ -z "$is_watched" ] || [ "$mode" = run ] || [ "$mode" = exec ] ||
         blame "--watch is a flag of run and exec, and not of $mode"
-    case ${is_folded:+$mode} in check | exec | format) blame "--fold is a flag of build, run, alloc and gen, and not of $mode" ;; esac
+    case ${is_folded:+$mode} in check | exec | format) blame "--fold is a flag of build, run, show, alloc and gen, and not of $mode" ;; esac
     if [ -z "$has_second" ]; then
         if [ "$mode" = gen ]; then blame 'gen takes how many functions, 1 to 1000'; else blame "$mode takes a file"; fi
     elif [ "$mode" = gen ]; then

@@ -8,10 +8,11 @@ use Rattle.tg_command.specs.Flagged.{flags_fit}
 use Rattle.tg_command.specs.Modes.{mode_name}
 use Rattle.tg_command.specs.declared.CommandFault.{CommandFault}
 use Rattle.tg_command.specs.declared.CommandFault.TheVariants.{Usage, Memory}
-use Rattle.tg_command.specs.Commands.{Ask, Asked, Blames, IsUsageFault, flags, heap, mode, number, refused, stack, steps}
+use Rattle.tg_command.specs.Commands.{Ask, Asked, Blames, IsUsageFault, flags, heap, mode, number, refused, sizes, stack, steps}
+use Rattle.tg_command.specs.Sizes.{given_sizes_fit}
 use Rattle.tg_command.specs.declared.flags.Flags.{Flags}
 use Rattle.tg_command.specs.declared.modes.Mode.{Mode}
-use Rattle.tg_command.specs.declared.modes.Mode.TheVariants.{Check, Build, Run, Exec, Alloc, Gen, Format}
+use Rattle.tg_command.specs.declared.modes.Mode.TheVariants.{Check, Build, Run, Exec, Alloc, Show, Gen, Format}
 
 given_once : (limits : Limits) (o : Option (List ℕ)) (m n : ℕ) → GivesCount limits o m → GivesCount limits o n → m ≡ n
 given_once limits None m n p q = p ∙ sym q
@@ -23,6 +24,7 @@ number_same Build file a b p q = p ∙ sym q
 number_same Run file a b p q = p ∙ sym q
 number_same Exec file a b p q = p ∙ sym q
 number_same Alloc file a b p q = p ∙ sym q
+number_same Show file a b p q = p ∙ sym q
 number_same Gen file a b p q = p.value ∙ sym q.value
 number_same Format file a b p q = p ∙ sym q
 
@@ -37,7 +39,7 @@ mode_named : List ℕ → Mode
 mode_named [] = Check
 mode_named (first ∷ rest) =
     if first == 99 then Check else if first == 98 then Build else if first == 114 then Run else if first == 101 then Exec
-    else if first == 97 then Alloc else if first == 102 then Format else Gen
+    else if first == 97 then Alloc else if first == 115 then Show else if first == 102 then Format else Gen
 
 mode_named-name_of : (m : Mode) → mode_named (mode_name m) ≡ m
 unfolding mode_named
@@ -46,6 +48,7 @@ mode_named-name_of Build = refl
 mode_named-name_of Run = refl
 mode_named-name_of Exec = refl
 mode_named-name_of Alloc = refl
+mode_named-name_of Show = refl
 mode_named-name_of Gen = refl
 mode_named-name_of Format = refl
 
@@ -81,6 +84,10 @@ asked_no_fault words a p (number m file named given h) =
 asked_no_fault words a p (heap h) = h a.heap p.heap
 asked_no_fault words a p (stack h) = h a.stack p.stack
 asked_no_fault words a p (steps h) = h a.steps p.steps
+asked_no_fault words a p (sizes m named misfit) =
+    let modes = name_once a.mode m (some_once _ _ (sym p.mode ∙ named)) in
+    let fit = subst (λ (one : Mode). given_sizes_fit one words ≡ true) modes p.sizes in
+    no_truth (sym misfit ∙ fit)
 asked_no_fault words a p (flags m named misfit) =
     let modes = name_once a.mode m (some_once _ _ (sym p.mode ∙ named)) in
     let fit = subst (λ (one : Mode). flags_fit one a.flags ≡ true) modes p.flags.fit in

@@ -5,6 +5,7 @@ use Rattle.tg_command.specs.Counts.{stack_limits, step_limits}
 use Rattle.tg_command.specs.Flagged.{GivesFlags, flags_fit, flags_of}
 use Rattle.tg_command.specs.Modes.{mode_name}
 use Rattle.tg_command.specs.Simple.{IsTaken, value_of}
+use Rattle.tg_command.specs.Sizes.{given_sizes_fit}
 use Rattle.tg_command.specs.declared.Command.{Command}
 use Rattle.tg_command.specs.declared.CommandFault.{CommandFault}
 use Rattle.tg_command.specs.declared.CommandFault.TheVariants.{Usage, Memory}
@@ -53,10 +54,11 @@ pub record Ask (words : List (List ℕ)) (a : Asked) : Type 0 where
   pub heap : GivesCount heap_limits (value_of (codes "heap") words) a.heap
   pub stack : GivesCount stack_limits (value_of (codes "stack") words) a.stack
   pub steps : GivesCount step_limits (value_of (codes "steps") words) a.steps
+  pub sizes : given_sizes_fit a.mode words ≡ true
   pub flags : GivesFlags words a.mode a.flags
 
 -- the words ask for nothing: the simple command refuses them, no mode has the name, a value, in
--- `gen` FILE too, is no number within its limits, or the mode doesn't take the flags
+-- `gen` FILE too, is no number within its limits, or the mode doesn't take the sizes or the flags
 pub data IsUsageFault (words : List (List ℕ)) : Type 0 where
   refused : (IsTaken words → ⊥) → IsUsageFault words
   mode : ((m : Mode) → value_of (codes "mode") words ≡ Some (mode_name m) → ⊥) → IsUsageFault words
@@ -74,6 +76,11 @@ pub data IsUsageFault (words : List (List ℕ)) : Type 0 where
       IsUsageFault words
   steps :
       ((n : ℕ) → GivesCount step_limits (value_of (codes "steps") words) n → ⊥) →
+      IsUsageFault words
+  sizes :
+      (m : Mode) →
+      value_of (codes "mode") words ≡ Some (mode_name m) →
+      given_sizes_fit m words ≡ false →
       IsUsageFault words
   flags :
       (m : Mode) →

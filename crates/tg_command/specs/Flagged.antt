@@ -7,6 +7,7 @@ use Rattle.tg_command.specs.Simple.{value_of}
 use Rattle.tg_command.specs.declared.flags.Flags.{Flags}
 use Rattle.tg_command.specs.declared.modes.Mode.{Mode}
 use Rattle.tg_command.specs.declared.modes.Mode.TheVariants.{Build, Run, Exec, Alloc, Gen}
+use Rattle.tg_command.specs.declared.modes.Mode.TheVariants.{Show}
 
 -- the words give the flag: the parser's value of one that stands there is the word `true`
 abbrev pub has_flag : Text → List Text → Bool
@@ -29,6 +30,7 @@ abbrev pub takes_fold : Mode → Bool
 takes_fold Build = true
 takes_fold Run = true
 takes_fold Alloc = true
+takes_fold Show = true
 takes_fold Gen = true
 takes_fold _ = false
 

@@ -2,7 +2,7 @@
 use Rattle.std.specs.Prelude.{ℕ, List, codes}
 use Rattle.tg_command.specs.declared.modes.Mode.{Mode}
 use Rattle.tg_command.specs.declared.modes.Mode.TheVariants.{Check, Build, Run, Exec, Alloc, Gen}
-use Rattle.tg_command.specs.declared.modes.Mode.TheVariants.{Format}
+use Rattle.tg_command.specs.declared.modes.Mode.TheVariants.{Show, Format}
 
 -- the name of a mode
 abbrev pub mode_name : Mode → List ℕ
@@ -11,5 +11,6 @@ mode_name Build = codes "build"
 mode_name Run = codes "run"
 mode_name Exec = codes "exec"
 mode_name Alloc = codes "alloc"
+mode_name Show = codes "show"
 mode_name Gen = codes "gen"
 mode_name Format = codes "format"

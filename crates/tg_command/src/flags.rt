@@ -34,7 +34,7 @@ fn takes_fold(mode: Mode) -> bool
     ensures { result ≡ takes_fold mode }
 {
     match mode {
-        Mode::Build | Mode::Run | Mode::Alloc | Mode::Gen => true,
+        Mode::Build | Mode::Run | Mode::Alloc | Mode::Show | Mode::Gen => true,
         _ => false,
     }
 }

@@ -10,6 +10,7 @@ mod flags;
 mod laws;
 mod modes;
 mod simple;
+mod sizes;
 
 ghost use Rattle.std.specs.Prelude.{◌≡◌, IfErr, IfOk, IsErr, map, string_bytes};
 ghost use Rattle.tg_command.specs.declared.CommandFault.TheVariants.{Memory};
@@ -22,6 +23,7 @@ pub use laws::asks_once;
 pub use modes::Mode;
 use modes::named;
 use simple::take_words;
+use sizes::sizes_fit;
 use std::alloc::{AllocError, Global};
 
 /// What a command line asks for.
@@ -63,9 +65,10 @@ impl From<AllocError> for CommandFault {
 ///
 /// A repeated option, an abbreviated one, one without a value and a separate value that begins with
 /// `-` are usage faults. After `--` every word is MODE or FILE, and so is a lone `-`. An option
-/// that the mode doesn't use is read and tested as any other; a flag that it doesn't take is a usage
-/// fault, and so is a repeated flag or one with a value. `Usage` is answered only at a usage
-/// fault, and a usage fault is never `Ok`; `Memory` may come in place of any answer.
+/// that the mode doesn't use is read and tested as any other, but in `show` it is a usage fault; a
+/// flag that the mode doesn't take is a usage fault, and so is a repeated flag or one with a value.
+/// `Usage` is answered only at a usage fault, and a usage fault is never `Ok`; `Memory` may come in
+/// place of any answer.
 pub fn read_words(alloc: Global, words: &[String]) -> Result<Command, CommandFault>
     ensures ok { IfOk result (λ c. Ask (map string_bytes words.now) (asked_of c)) }
     ensures usage { IfErr result (λ fault. Blames fault (map string_bytes words.now)) }
@@ -75,6 +78,9 @@ pub fn read_words(alloc: Global, words: &[String]) -> Result<Command, CommandFau
     let values = take_words(alloc, words)?;
     let mode = named(values.mode).ok_or(CommandFault::Usage)?;
     if !flags_fit(mode, values.flags) {
+        return Err(CommandFault::Usage);
+    }
+    if !sizes_fit(mode, values.heap, values.stack, values.steps) {
         return Err(CommandFault::Usage);
     }
     let number = number_for(mode, values.file)?;

@@ -14,6 +14,8 @@ pub enum Mode {
     Exec,
     /// Compiles a source and writes what the register allocator did.
     Alloc,
+    /// Compiles a source and writes what each pass made of each function.
+    Show,
     /// Generates a source of as many functions as FILE says, compiles it and runs it.
     Gen,
     /// Writes the canonical text of a source.
@@ -32,6 +34,7 @@ pub(crate) fn named(name: &str) -> Option<Mode>
         "run" => Some(Mode::Run),
         "exec" => Some(Mode::Exec),
         "alloc" => Some(Mode::Alloc),
+        "show" => Some(Mode::Show),
         "gen" => Some(Mode::Gen),
         "format" => Some(Mode::Format),
         _ => None,

@@ -15,7 +15,7 @@ use Rattle.tg_isa.specs.declared.images.Image.{Image}
 use Rattle.tg_asm_text.specs.Assembly.{assembled}
 use Rattle.tg_asm.specs.Images.{image_of}
 use Rattle.tg_command.specs.declared.modes.Mode.{Mode}
-use Rattle.tg_command.specs.declared.modes.Mode.TheVariants.{Check, Build, Run, Exec, Alloc, Gen, Format}
+use Rattle.tg_command.specs.declared.modes.Mode.TheVariants.{Check, Build, Run, Exec, Alloc, Show, Gen, Format}
 use Rattle.tg_command.specs.Commands.{Asked, Ask}
 use Rattle.tg_command.proofs.CommandLemmas.{asked_once}
 use Rattle.tg_driver.specs.declared.answers.Answer.{Answer}
@@ -273,6 +273,7 @@ left_in texts runs Build shelf s a answer b h = untouched s answer b h.1
 left_in texts runs Run shelf s a answer b h = untouched s answer b h.0
 left_in texts runs Exec shelf s a answer b h = untouched s answer b h.0
 left_in texts runs Alloc shelf s a answer b h = untouched s answer b h.1
+left_in texts runs Show shelf s a answer b h = untouched s answer b h.1
 left_in texts runs Gen shelf s a answer b h = untouched s answer b h.2
 left_in texts runs Format shelf s a answer b h = untouched s answer b h.1
 
@@ -319,5 +320,6 @@ no_gen Build other is = absurd (cc)
 no_gen Run other is = absurd (cc)
 no_gen Exec other is = absurd (cc)
 no_gen Alloc other is = absurd (cc)
+no_gen Show other is = absurd (cc)
 no_gen Gen other is = absurd other
 no_gen Format other is = absurd (cc)

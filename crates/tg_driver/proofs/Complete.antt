@@ -9,7 +9,7 @@ use Rattle.tg_machine_state.specs.declared.ends.RunEnd.TheVariants.{BadService, 
 use Rattle.tg_isa.specs.declared.images.Image.{Image}
 use Rattle.tg_profiler.specs.Watching.{Report}
 use Rattle.tg_command.specs.declared.modes.Mode.{Mode}
-use Rattle.tg_command.specs.declared.modes.Mode.TheVariants.{Check, Build, Run, Exec, Alloc, Gen, Format}
+use Rattle.tg_command.specs.declared.modes.Mode.TheVariants.{Check, Build, Run, Exec, Alloc, Show, Gen, Format}
 use Rattle.tg_command.specs.Commands.{Asked}
 use Rattle.tg_command.proofs.CommandLemmas.{asked_once, asked_no_fault}
 use Rattle.tg_driver.specs.declared.answers.Answer.{Answer}
@@ -34,7 +34,7 @@ use Rattle.tg_driver.specs.laws.Laws.{HoldsFile, ReadsFile, IsGood, Gives, EndsA
 use Rattle.tg_driver.specs.laws.Laws.{IsSettled}
 use Rattle.tg_driver.proofs.ExactRuns.{ends_as_told, ends_faultless, exact_reports}
 use Rattle.tg_driver.proofs.Watched.{run_more, exec_more}
-use Rattle.tg_driver.proofs.SourcesOnce.{meant_source, listed_source}
+use Rattle.tg_driver.proofs.SourcesOnce.{meant_source, listed_source, shown_source}
 use Rattle.tg_driver.proofs.CanonicalTexts.{of_formatted}
 
 -- the prefix of a file that the shelf holds
@@ -169,6 +169,8 @@ settled c a file Exec reports answer good reads h = exec_more (told_runs c repor
     (λ image end is. ends_and_tells c.streams (if_watched a.flags c.reporters) reports image a.heap a.stack a.steps end good.all_read good.all_written)
     (to_text c.shelf a.file 67108865 _ file answer (good.there (reads tt)) good.readable h.1)
 settled c a file Alloc reports answer good reads h = of_written c.streams.out _ _ answer good.all_written (listed_source (passes_of a) c.rule _)
+    (to_text c.shelf a.file 262145 _ file answer (good.there (reads tt)) good.readable h.2)
+settled c a file Show reports answer good reads h = of_written c.streams.out _ _ answer good.all_written (shown_source (passes_of a) c.rule _)
     (to_text c.shelf a.file 262145 _ file answer (good.there (reads tt)) good.readable h.2)
 settled c a file Gen reports answer good reads h = of_gen c.streams.out a answer good.all_written h.3
 settled c a file Format reports answer good reads h = of_formatted c.streams.out _ answer good.all_written

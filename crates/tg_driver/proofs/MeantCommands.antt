@@ -3,7 +3,7 @@ use Rattle.std.proofs.Common.{ℕ, ◌≡◌, ◌⊎◌, inl, inr, List, [], Opt
 use Rattle.std.specs.Io.KnownBytes.{Appends}
 use Rattle.tg_machine_state.specs.declared.ends.RunEnd.TheVariants.{WriteFault}
 use Rattle.tg_command.specs.declared.modes.Mode.{Mode}
-use Rattle.tg_command.specs.declared.modes.Mode.TheVariants.{Check, Build, Run, Exec, Alloc, Gen, Format}
+use Rattle.tg_command.specs.declared.modes.Mode.TheVariants.{Check, Build, Run, Exec, Alloc, Show, Gen, Format}
 use Rattle.tg_command.specs.Counts.{IsWithin, GivesCount, heap_limits, stack_limits}
 use Rattle.tg_command.specs.Commands.{Asked, Ask}
 use Rattle.tg_correctness.specs.Images.{AreSizes}
@@ -107,6 +107,7 @@ module _ (ends : EndedIsMeant) (goes_on : RunningIsMeant) where
       (to_text c.shelf a.file 262145 _ file answer (good.there (reads tt)) good.readable h.1)
   means c a file Exec answer good reads h = tt
   means c a file Alloc answer good reads h = tt
+  means c a file Show answer good reads h = tt
   means c a file Format answer good reads h = tt
   means c a file Gen answer good reads h = generates_so c.streams.out a answer (sizes_of c.words a good.ask) good.all_written h.3
 

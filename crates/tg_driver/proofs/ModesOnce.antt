@@ -7,7 +7,7 @@ use Rattle.tg_asm_text.specs.Assembly.{Assembled, Fault as AsmFault, assembled}
 use Rattle.tg_asm.specs.Images.{image_of}
 use Rattle.tg_profiler.specs.Watching.{Report}
 use Rattle.tg_command.specs.declared.modes.Mode.{Mode}
-use Rattle.tg_command.specs.declared.modes.Mode.TheVariants.{Check, Build, Run, Exec, Alloc, Gen, Format}
+use Rattle.tg_command.specs.declared.modes.Mode.TheVariants.{Check, Build, Run, Exec, Alloc, Show, Gen, Format}
 use Rattle.tg_command.specs.Commands.{Asked}
 use Rattle.tg_driver.specs.declared.answers.Answer.{Answer}
 use Rattle.tg_driver.specs.declared.answers.Answer.TheVariants.{Faulty, BadLine, TooLong, Accepted, Written, Unwritten, Finished}
@@ -165,6 +165,7 @@ due_alike runs others Build one other text a b p q = written_alike text a b p q
 due_alike runs others Run one other text a b p q = run_alike runs others one other text a b p q
 due_alike runs others Exec one other text a b p q = executed_alike runs others one other text a b p q
 due_alike runs others Alloc one other text a b p q = written_alike text a b p q
+due_alike runs others Show one other text a b p q = written_alike text a b p q
 due_alike runs others Gen one other text a b p q = generated_alike a b p q
 due_alike runs others Format one other text a b p q = formattable_alike text a b p q
 

@@ -16,7 +16,7 @@ use Rattle.tg_machine.specs.Ran.{Stops, still, ended, read_failed, write_failed,
 use Rattle.tg_machine.proofs.Runs.{run_more}
 use Rattle.tg_program_generator.specs.Generated.{generated}
 use Rattle.tg_command.specs.declared.modes.Mode.{Mode}
-use Rattle.tg_command.specs.declared.modes.Mode.TheVariants.{Check, Build, Run, Exec, Alloc, Gen, Format}
+use Rattle.tg_command.specs.declared.modes.Mode.TheVariants.{Check, Build, Run, Exec, Alloc, Show, Gen, Format}
 use Rattle.tg_command.specs.Commands.{Asked, Ask}
 use Rattle.tg_command.proofs.CommandLemmas.{asked_once}
 use Rattle.tg_irc_definition.specs.Policies.{Rule as SpillRule}
@@ -250,6 +250,8 @@ module _ {H I O : Type 0} (rule : SpillRule) (shelf : Shelved H) (s : Streams I 
   wrote Exec answer started h = of_file shelf a.file 67108865 _ answer started h.1 (λ text front due. wrote_executed answer text front started due)
   wrote Alloc answer started h = of_file shelf a.file 262145 _ answer started h.2
       (λ text front due. wrote_text Alloc _ answer text (λ is. absurd (cc)) (λ written is. is) front started due)
+  wrote Show answer started h = of_file shelf a.file 262145 _ answer started h.2
+      (λ text front due. wrote_text Show _ answer text (λ is. absurd (cc)) (λ written is. is) front started due)
   wrote Gen answer started h = wrote_summary answer h.3
   wrote Format answer started h = of_file shelf a.file 262145 _ answer started h.2 (λ text front due. formatted answer text front started due)
     where
@@ -339,6 +341,7 @@ caused rule Build shelf s a answer h = for_file shelf a.file 262145 _ answer (Is
 caused rule Run shelf s a answer h = for_file shelf a.file 262145 _ answer (IsCaused s) tt h.1 (λ text due. caused_run s a text answer due)
 caused rule Exec shelf s a answer h = for_file shelf a.file 67108865 _ answer (IsCaused s) tt h.1 (λ text due. caused_exec s a text answer due)
 caused rule Alloc shelf s a answer h = for_file shelf a.file 262145 _ answer (IsCaused s) tt h.2 (λ text due. caused_text s _ text answer due)
+caused rule Show shelf s a answer h = for_file shelf a.file 262145 _ answer (IsCaused s) tt h.2 (λ text due. caused_text s _ text answer due)
 caused rule Gen shelf s a answer h = caused_gen s a answer h.3
 caused rule Format shelf s a answer h = for_file shelf a.file 262145 _ answer (IsCaused s) tt h.2 (λ text due. caused_format s text answer due)
 
@@ -371,6 +374,7 @@ unread_in rule Build shelf s a h = record { reads = tt; unread = file_of shelf a
 unread_in rule Run shelf s a h = record { reads = tt; unread = file_of shelf a.file 262145 _ (λ text due. due) h.1 }
 unread_in rule Exec shelf s a h = record { reads = tt; unread = file_of shelf a.file 67108865 _ (λ text due. due) h.1 }
 unread_in rule Alloc shelf s a h = record { reads = tt; unread = file_of shelf a.file 262145 _ (λ text due. due) h.2 }
+unread_in rule Show shelf s a h = record { reads = tt; unread = file_of shelf a.file 262145 _ (λ text due. due) h.2 }
 unread_in rule Gen shelf s a h = absurd (no_generated s.out a h.3)
 unread_in rule Format shelf s a h = record { reads = tt; unread = file_of shelf a.file 262145 _ (λ text due. due) h.2 }
 
@@ -381,6 +385,7 @@ input_stays rule Build shelf s a answer none h = h.0
 input_stays rule Run shelf s a answer none h = absurd none
 input_stays rule Exec shelf s a answer none h = absurd none
 input_stays rule Alloc shelf s a answer none h = h.0
+input_stays rule Show shelf s a answer none h = h.0
 input_stays rule Gen shelf s a answer none h = h.1
 input_stays rule Format shelf s a answer none h = h.0
 

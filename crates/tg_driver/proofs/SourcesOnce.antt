@@ -12,6 +12,7 @@ use Rattle.tg_compile_proof.specs.Builds.{CompilesTo}
 use Rattle.tg_driver.specs.laws.AsMeant.{EndsAsMeant}
 use Rattle.tg_driver.specs.Runs.{RunRelation}
 use Rattle.tg_driver.specs.AllocMode.{Lists}
+use Rattle.tg_driver.specs.ShowMode.{Shows}
 use Rattle.tg_driver.proofs.FaultsOnce.{source_excludes}
 
 pub no_fault : (text : List ℕ) (f : Fault) → IsFaultOf text f → IsSource text → ⊥
@@ -27,6 +28,9 @@ compiled_source passes rule text allocations assembly c = record { names = c.nam
 
 pub listed_source : (passes : Passes) (rule : SpillRule) (text listing : List ℕ) → Lists passes rule text listing → IsSource text
 listed_source passes rule text listing b = compiled_source passes rule text b.allocations b.assembly b.compiles
+
+pub shown_source : (passes : Passes) (rule : SpillRule) (text shown : List ℕ) → Shows passes rule text shown → IsSource text
+shown_source passes rule text shown b = compiled_source passes rule text b.allocations b.assembly b.compiles
 
 pub no_fault_of_meant : (runs : RunRelation) (text : List ℕ) (heap stack steps : ℕ) (f : Fault) (end : RunEnd) →
     IsFaultOf text f → EndsAsMeant runs text heap stack steps end → ⊥

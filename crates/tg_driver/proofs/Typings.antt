@@ -1,5 +1,5 @@
 -- Trees of a text are typed under the conditions that the checker asks for, and what it answers is the text's.
-use Rattle.std.proofs.Common.{ℕ, ◌≡◌, List, length, refl}
+use Rattle.std.proofs.Common.{ℕ, ◌≡◌, ◌<◌, List, length, refl, arith}
 use Rattle.std.specs.List.Sorted.{IsPermutation}
 use Rattle.tg_base.specs.declared.faulty.Faulty.{Faulty}
 use Rattle.tg_base.specs.declared.faulty.Faulty.TheVariants.{Bad, Memory}
@@ -22,6 +22,8 @@ use Rattle.tg_correctness.specs.Sources.{IsSource, IsSourceOf}
 use Rattle.tg_compile_proof.specs.Builds.{CompilesTo, Builds}
 use Rattle.tg_compile_proof.proofs.Building as built
 use Rattle.tg_driver.specs.AllocMode.{Lists}
+use Rattle.tg_stages.specs.Programs.{ShowsCompiled}
+use Rattle.tg_driver.specs.ShowMode.{Shows}
 use Rattle.tg_driver.specs.declared.writing.Wanted.{Wanted}
 use Rattle.tg_driver.specs.declared.writing.Wanted.TheVariants.{Assembly, Allocations}
 use Rattle.tg_driver.specs.glue.Texts.{wanted_text, writes_of}
@@ -79,6 +81,22 @@ builds passes rule text allocations assembly h = record { allocations = allocati
 pub lists : (passes : Passes) (rule : SpillRule) (text : List ℕ) (allocations : List Allocation) (assembly : List ℕ) →
     CompilesTo passes rule text allocations assembly → Lists passes rule text (listed allocations)
 lists passes rule text allocations assembly h = record { allocations = allocations; assembly = assembly; compiles = h; listing_is = refl }
+
+-- and what each pass made is shown
+pub shows : (passes : Passes) (rule : SpillRule) (text : List ℕ) (names : List (List ℕ)) (program : Exp) (sorted : List Note)
+    (shown : List ℕ) → HasNamedTree text names program → Accepts (finding names program) sorted →
+    ShowsCompiled passes rule text names sorted program shown → Shows passes rule text shown
+unfolding compiles_to
+shows passes rule text names program sorted shown t h s =
+    record {
+      allocations = s.allocations;
+      assembly = s.assembly;
+      compiles = compiles_to passes rule text names program sorted s.allocations s.assembly t h s.compiles;
+      is_shown = s.is_shown;
+    }
+
+pub short_text : (text : List ℕ) (names : List (List ℕ)) (program : Exp) → HasNamedTree text names program → length text < 2147483648
+short_text text names program t = let short = t.tree.has_tokens.short in omega arith
 
 -- and what is wanted of a source is a text that may be written of it
 pub writes_wanted : (w : Wanted) (passes : Passes) (rule : SpillRule) (text : List ℕ) (allocations : List Allocation) (assembly : List ℕ) →

@@ -15,7 +15,7 @@ use Rattle.tg_profiler.specs.Watching.{Report}
 use Rattle.tg_profiler.specs.Watchers.{HaveSeen}
 use Rattle.tg_command.specs.declared.flags.Flags.{Flags}
 use Rattle.tg_command.specs.declared.modes.Mode.{Mode}
-use Rattle.tg_command.specs.declared.modes.Mode.TheVariants.{Check, Build, Run, Exec, Alloc, Gen, Format}
+use Rattle.tg_command.specs.declared.modes.Mode.TheVariants.{Check, Build, Run, Exec, Alloc, Show, Gen, Format}
 use Rattle.tg_command.specs.Commands.{Asked, Ask}
 use Rattle.tg_command.proofs.CommandLemmas.{asked_once}
 use Rattle.tg_driver.specs.declared.answers.Answer.{Answer}
@@ -77,6 +77,7 @@ in_mode_more texts runs others Run shelf s a answer more h =
 in_mode_more texts runs others Exec shelf s a answer more h =
     (h.0, file_more shelf a.file 67108865 _ _ answer (λ text. exec_more runs others a text answer more) h.1)
 in_mode_more texts runs others Alloc shelf s a answer more h = h
+in_mode_more texts runs others Show shelf s a answer more h = h
 in_mode_more texts runs others Gen shelf s a answer more h = h
 in_mode_more texts runs others Format shelf s a answer more h = h
 
@@ -178,6 +179,7 @@ module _ {W I O : Type 0} (stands : W → List Seen → ℕ → Type 0) (report 
   told_in texts Run shelf a end old others h = told_run texts shelf a end old h.1
   told_in texts Exec shelf a end old others h = told_exec texts shelf a end old h.1
   told_in texts Alloc shelf a end old others h = record { reports = []; in_mode = h; tell = tell_none (others tt); none = λ _. refl }
+  told_in texts Show shelf a end old others h = record { reports = []; in_mode = h; tell = tell_none (others tt); none = λ _. refl }
   told_in texts Gen shelf a end old others h = record { reports = []; in_mode = h; tell = tell_none (others tt); none = λ _. refl }
   told_in texts Format shelf a end old others h = record { reports = []; in_mode = h; tell = tell_none (others tt); none = λ _. refl }
 
@@ -242,7 +244,8 @@ answers_by by rule c status reports answer is due before_end unasked told =
 -- what is said of texts, more weakly
 module _ (texts others : Texts)
     (assembly : (passes : Passes) (source written : List ℕ) → texts.assembly passes source written → others.assembly passes source written)
-    (listing : (passes : Passes) (source written : List ℕ) → texts.listing passes source written → others.listing passes source written) where
+    (listing : (passes : Passes) (source written : List ℕ) → texts.listing passes source written → others.listing passes source written)
+    (shown : (passes : Passes) (source written : List ℕ) → texts.shown passes source written → others.shown passes source written) where
   written_texts : {O : Type 0} (out : Stream O) (writes wider : TextRelation) →
       ((source written : List ℕ) → writes source written → wider source written) → (source : List ℕ) (answer : Answer) →
       IsWritten out writes source answer → IsWritten out wider source answer
@@ -283,6 +286,13 @@ module _ (texts others : Texts)
         file_more shelf a.file 262145 _ _ answer
             (λ text. written_texts s.out (texts.listing (passes_of a)) (others.listing (passes_of a)) more text answer) h.2,
       )
+  in_mode_texts runs Show shelf s a answer h =
+      let more = shown (passes_of a) in (
+        h.0,
+        h.1,
+        file_more shelf a.file 262145 _ _ answer
+            (λ text. written_texts s.out (texts.shown (passes_of a)) (others.shown (passes_of a)) more text answer) h.2,
+      )
   in_mode_texts runs Gen shelf s a answer h = (h.0, h.1, h.2, gen_texts s.out a answer h.3)
   in_mode_texts runs Format shelf s a answer h = h
 
@@ -296,7 +306,7 @@ module _ (texts others : Texts)
 pub due_as_meant : {H I O : Type 0} → BuildIsCorrect → (rule : SpillRule) (runs : Asked → RunRelation) (words : List (List ℕ)) (shelf : Shelved H)
     (s : Streams I O) (answer : Answer) → IsDueBy (texts_compiled rule) runs words shelf s answer → IsDueBy (texts_meant rule) runs words shelf s answer
 due_as_meant correct rule runs words shelf s answer h =
-    due_texts (texts_compiled rule) (texts_meant rule) (λ passes. correct passes rule) (λ passes source written l. l) runs words shelf s answer h
+    due_texts (texts_compiled rule) (texts_meant rule) (λ passes. correct passes rule) (λ passes source written l. l) (λ passes source written l. l) runs words shelf s answer h
 
 -- a machine that ran with nobody watching
 pub saw_nothing : {W I O : Type 0} (stands : W → List Seen → ℕ → Type 0) (report : W → Report) (watchers : List W)

@@ -12,6 +12,7 @@ pub mod BuildMode
 pub mod RunMode
 pub mod ExecMode
 pub mod AllocMode
+pub mod ShowMode
 pub mod FormatMode
 pub mod GenMode
 pub mod Modes

@@ -3,7 +3,7 @@
 use Rattle.tg_irc_definition.specs.Policies.{Rule as SpillRule}
 use Rattle.tg_command.specs.declared.modes.Mode.{Mode}
 use Rattle.tg_command.specs.declared.modes.Mode.TheVariants.{Check, Build, Run, Exec, Alloc, Gen}
-use Rattle.tg_command.specs.declared.modes.Mode.TheVariants.{Format}
+use Rattle.tg_command.specs.declared.modes.Mode.TheVariants.{Show, Format}
 use Rattle.tg_command.specs.Commands.{Asked}
 use Rattle.tg_driver.specs.declared.answers.Answer.{Answer}
 use Rattle.tg_driver.specs.Calls.{Shelved, Streams}
@@ -16,6 +16,7 @@ use Rattle.tg_driver.specs.BuildMode.{ByBuild}
 use Rattle.tg_driver.specs.RunMode.{ByRun}
 use Rattle.tg_driver.specs.ExecMode.{ByExec}
 use Rattle.tg_driver.specs.AllocMode.{Lists, ByAlloc}
+use Rattle.tg_driver.specs.ShowMode.{Shows, ByShow}
 use Rattle.tg_driver.specs.GenMode.{ByGen}
 use Rattle.tg_driver.specs.FormatMode.{ByFormat}
 
@@ -32,13 +33,17 @@ InModeBy texts runs Run shelf s asked answer =
 InModeBy texts runs Exec shelf s asked answer = ByExec runs shelf s asked answer
 InModeBy texts runs Alloc shelf s asked answer =
     ByAlloc (texts.listing (passes_of asked)) shelf s asked answer
+InModeBy texts runs Show shelf s asked answer =
+    ByShow (texts.shown (passes_of asked)) shelf s asked answer
 InModeBy texts runs Gen shelf s asked answer =
     ByGen (texts.assembly (passes_of asked)) shelf s asked answer
 InModeBy texts runs Format shelf s asked answer = ByFormat shelf s asked answer
 
--- assembly texts that do what the source means, and listings by the rule of the call's policy
+-- assembly texts that do what the source means, and listings and texts of what each pass made by the
+-- rule of the call's policy
 abbrev pub texts_meant : SpillRule → Texts
 texts_meant rule = record {
   assembly = λ passes. IsAsMeant;
   listing = λ passes. Lists passes rule;
+  shown = λ passes. Shows passes rule;
 }

@@ -1,4 +1,5 @@
--- Modes that read a source, and write a text of it to the output: what `build` and `alloc` share.
+-- Modes that read a source, and write a text of it to the output: what `build`, `alloc` and
+-- `show` share.
 use Rattle.std.specs.Prelude.{List, ℕ}
 use Rattle.tg_command.specs.Commands.{Asked}
 use Rattle.tg_compile.specs.declared.passes.Passes.{Passes}
@@ -16,11 +17,12 @@ TakesText out text answer = Takes out text Written Unwritten answer
 abbrev pub TextRelation : Type 1
 TextRelation = (source written : List ℕ) → Type 0
 
--- which assembly texts a source may have, and which listings of what the allocator did, with the
--- passes that are switched on
+-- which assembly texts a source may have, which listings of what the allocator did, and which texts
+-- of what each pass made, with the passes that are switched on
 pub record Texts : Type 1 where
   pub assembly : Passes → TextRelation
   pub listing : Passes → TextRelation
+  pub shown : Passes → TextRelation
 
 -- the sink took such a text of the source, or a write of it failed
 pub record WritesText {O : Type 0} (out : Stream O) (writes : TextRelation)

@@ -17,6 +17,7 @@ mod laws;
 mod reading;
 mod refusals;
 mod running;
+mod showing;
 mod streams;
 mod telling;
 mod tools;

@@ -32,6 +32,7 @@ use crate::executing::answer_exec;
 use crate::formatting::answer_format;
 use crate::generating::answer_gen;
 use crate::running::answer_run;
+use crate::showing::answer_show;
 use crate::streams::Streams;
 use crate::telling::report;
 use crate::tools::Tools;
@@ -155,6 +156,7 @@ fn answer_command<H: Shelf, I: Source, O: Sink>(
         Mode::Run => answer_run(alloc, command, shelf, streams, policy, watchers),
         Mode::Exec => answer_exec(alloc, command, shelf, streams, watchers),
         Mode::Alloc => answer_written(alloc, command, shelf, streams, policy, Wanted::Allocations),
+        Mode::Show => answer_show(alloc, command, shelf, streams, policy),
         Mode::Gen => generate_to(alloc, command, streams, policy),
         Mode::Format => answer_format(alloc, command, shelf, streams),
     }

@@ -289,6 +289,7 @@ pub(crate) fn answers(
 pub(crate) fn refused(rt: &impl Abort, alloc: Global, text: &[u8], line: &str) -> Result<(), Fail> {
     answers(rt, alloc, "tiger|check|FILE", text, 65, line)?;
     answers(rt, alloc, "tiger|build|FILE", text, 65, line)?;
+    answers(rt, alloc, "tiger|show|FILE", text, 65, line)?;
     answers(rt, alloc, "tiger|run|FILE", text, 65, line)
 }
 
@@ -307,4 +308,17 @@ pub(crate) fn repeated(
     }
     text.extend_from_slice(last)?;
     Ok(text)
+}
+
+/// What a command writes of a source, of which it must be no fault.
+pub(crate) fn written(alloc: Global, line: &str, source: &str) -> Result<Vec<u8>, Fail> {
+    let outside = Outside {
+        room: 1_000_000,
+        ..Outside::of(source.as_bytes())
+    };
+    let seen = call(alloc, line, outside)?;
+    if seen.status != 0 {
+        return Err(Fail::from("a fault"));
+    }
+    Ok(seen.out)
 }

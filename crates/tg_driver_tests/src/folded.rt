@@ -1,5 +1,4 @@
-use crate::calls::{Outside, are_answered, call};
-use std::alloc::Global;
+use crate::calls::{are_answered, written};
 use std::str;
 use std::test::Fail;
 

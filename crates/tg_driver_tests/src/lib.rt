@@ -31,6 +31,8 @@ mod rooms;
 #[cfg(test)]
 mod runs;
 #[cfg(test)]
+mod shown;
+#[cfg(test)]
 mod texts;
 #[cfg(test)]
 mod watching;

@@ -6,7 +6,7 @@ use tg_command::{Command, Mode, read_words};
 use tg_driver::usage;
 
 // Command lines, with a `|` between their words, that are usage faults. FILE is there.
-static REFUSED: [&str; 90] = [
+static REFUSED: [&str; 95] = [
     "tiger",
     "tiger|run",
     "tiger|FILE",
@@ -42,6 +42,11 @@ static REFUSED: [&str; 90] = [
     "tiger|check|FILE|--fold",
     "tiger|exec|FILE|--fold",
     "tiger|format|FILE|--fold",
+    "tiger|show|FILE|--watch",
+    "tiger|show|FILE|--heap|16777216",
+    "tiger|show|FILE|--stack=67108864",
+    "tiger|--steps|1|show|FILE",
+    "tiger|shows|FILE",
     "tiger|run|FILE|--fold|--fold",
     "tiger|run|FILE|--fold=1",
     "tiger|run|FILE|--fol",
@@ -101,7 +106,7 @@ static REFUSED: [&str; 90] = [
 
 // A status, a blank, and a command line that has it, where FILE holds `exit(7)` and the output
 // takes 64 bytes.
-static LINES: [&str; 41] = [
+static LINES: [&str; 44] = [
     "7 tiger|run|FILE",
     "7 |run|FILE",
     "0 tiger|check|FILE",
@@ -129,6 +134,9 @@ static LINES: [&str; 41] = [
     "66 tiger|build|MISSING",
     "74 tiger|alloc|FILE|--steps|1",
     "66 tiger|alloc|MISSING",
+    "74 tiger|show|FILE",
+    "74 tiger|show|FILE|--fold",
+    "66 tiger|show|MISSING",
     "0 tiger|check|FILE|--heap|4|--stack|65536",
     "0 tiger|--steps|1|check|FILE",
     "66 tiger|run|MISSING",
@@ -147,12 +155,13 @@ static LINES: [&str; 41] = [
 
 // The mode, the heap, the stack, the steps and the file that a command line asks for, with blanks
 // between them, a `|`, and the line.
-static TAKEN: [&str; 26] = [
+static TAKEN: [&str; 27] = [
     "run 16777216 67108864 1000000000 a.tig|tiger|run|a.tig",
     "check 16777216 67108864 1000000000 a.tig|tiger|check|a.tig",
     "exec 16777216 67108864 10 a.s|tiger|exec|a.s|--steps|10",
     "build 16777216 67108864 1000000000 a|tiger|build|a",
     "alloc 16777216 67108864 1000000000 a|tiger|alloc|a",
+    "show 16777216 67108864 1000000000 a|tiger|show|a",
     "format 16777216 67108864 1000000000 a|tiger|format|a",
     "gen 16777216 67108864 1000000000 0017|tiger|gen|0017",
     "gen 16777216 67108864 1000000000 1000|tiger|gen|1000",
@@ -214,6 +223,7 @@ fn told(alloc: Global, command: &Command) -> Result<String, AllocError> {
         Mode::Run => "run",
         Mode::Exec => "exec",
         Mode::Alloc => "alloc",
+        Mode::Show => "show",
         Mode::Gen => "gen",
         Mode::Format => "format",
     };

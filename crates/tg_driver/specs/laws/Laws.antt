@@ -8,7 +8,7 @@ use Rattle.tg_profiler.specs.Watching.{Report}
 use Rattle.tg_program_generator.specs.Generated.{generated}
 use Rattle.tg_command.specs.declared.modes.Mode.{Mode}
 use Rattle.tg_command.specs.declared.modes.Mode.TheVariants.{Check, Build, Run, Exec, Alloc, Gen}
-use Rattle.tg_command.specs.declared.modes.Mode.TheVariants.{Format}
+use Rattle.tg_command.specs.declared.modes.Mode.TheVariants.{Show, Format}
 use Rattle.tg_command.specs.Commands.{Asked, Ask}
 use Rattle.tg_driver.specs.declared.answers.Answer.{Answer}
 use Rattle.tg_driver.specs.declared.answers.Answer.TheVariants.{Faulty, Written, Finished}
@@ -96,6 +96,7 @@ Settles runs Build asked text answer = IsFaultyOrWritten text answer
 Settles runs Run asked text answer = IsRun runs asked text answer
 Settles runs Exec asked text answer = IsExecuted runs asked text answer
 Settles runs Alloc asked text answer = IsFaultyOrWritten text answer
+Settles runs Show asked text answer = IsFaultyOrWritten text answer
 Settles runs Gen asked text answer = EndsGenerated asked answer
 Settles runs Format asked text answer = IsFaultyOrFormatted text answer
 

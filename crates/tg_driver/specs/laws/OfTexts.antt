@@ -12,7 +12,7 @@ use Rattle.tg_driver.specs.Writing.{TakesText}
 use Rattle.tg_driver.specs.FormatMode.{IsUntypedFault}
 use Rattle.tg_command.specs.declared.modes.Mode.{Mode}
 use Rattle.tg_command.specs.declared.modes.Mode.TheVariants.{Check, Build, Run, Exec, Alloc, Gen}
-use Rattle.tg_command.specs.declared.modes.Mode.TheVariants.{Format}
+use Rattle.tg_command.specs.declared.modes.Mode.TheVariants.{Show, Format}
 use Rattle.tg_command.specs.Commands.{Asked}
 use Rattle.tg_driver.specs.Runs.{RunRelation}
 use Rattle.tg_driver.specs.CheckMode.{IsChecked}
@@ -65,6 +65,7 @@ IsDueOfText runs Build asked text answer = IsWritable text answer
 IsDueOfText runs Run asked text answer = IsRun runs asked text answer
 IsDueOfText runs Exec asked text answer = IsExecuted runs asked text answer
 IsDueOfText runs Alloc asked text answer = IsWritable text answer
+IsDueOfText runs Show asked text answer = IsWritable text answer
 IsDueOfText runs Gen asked text answer = IsGenerable answer
 IsDueOfText runs Format asked text answer = IsFormattable text answer
 

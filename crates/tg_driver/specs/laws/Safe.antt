@@ -14,7 +14,7 @@ use Rattle.tg_irc_definition.specs.Policies.{Rule as SpillRule}
 use Rattle.tg_program_generator.specs.Generated.{generated}
 use Rattle.tg_command.specs.declared.modes.Mode.{Mode}
 use Rattle.tg_command.specs.declared.modes.Mode.TheVariants.{Check, Build, Run, Exec, Alloc, Gen}
-use Rattle.tg_command.specs.declared.modes.Mode.TheVariants.{Format}
+use Rattle.tg_command.specs.declared.modes.Mode.TheVariants.{Show, Format}
 use Rattle.tg_command.specs.Commands.{Asked, Ask}
 use Rattle.tg_correctness.specs.Assemblies.{IsAsMeant}
 use Rattle.tg_driver.specs.declared.answers.Answer.{Answer}
@@ -23,6 +23,7 @@ use Rattle.tg_driver.specs.Calls.{Stays, HasFailed, Streams, Untouched, IsUnread
 use Rattle.tg_driver.specs.glue.PrivateCalls.{HasStarted}
 use Rattle.tg_driver.specs.Passes.{passes_of}
 use Rattle.tg_driver.specs.AllocMode.{Lists}
+use Rattle.tg_driver.specs.ShowMode.{Shows}
 use Rattle.tg_driver.specs.FormatMode.{Formats}
 use Rattle.tg_driver.specs.GenMode.{summary}
 use Rattle.tg_driver.specs.glue.PrivateCalls.{ReadsNoInput}
@@ -85,6 +86,7 @@ HasToWrite rule told Build asked text written = IsAsMeant text written
 HasToWrite rule told Run asked text written = IsOutput told Run asked text written
 HasToWrite rule told Exec asked text written = IsOutput told Exec asked text written
 HasToWrite rule told Alloc asked text written = Lists (passes_of asked) rule text written
+HasToWrite rule told Show asked text written = Shows (passes_of asked) rule text written
 HasToWrite rule told Gen asked text written = IsSummed asked text written
 HasToWrite rule told Format asked text written = Formats text written
 

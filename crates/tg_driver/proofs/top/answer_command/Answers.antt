@@ -1,9 +1,10 @@
 use Rattle.std.proofs.Common.{refl}
-use Rattle.tg_command.specs.declared.modes.Mode.TheVariants.{Check, Build, Run, Exec, Alloc, Gen, Format}
+use Rattle.tg_command.specs.declared.modes.Mode.TheVariants.{Check, Build, Run, Exec, Alloc, Show, Gen, Format}
 use Rattle.tg_command.specs.Commands.{asked_of}
 use Rattle.tg_driver.specs.Calls.{shelf_of, stream_of, streams_of}
 use Rattle.tg_compile_proof.specs.Builds.{Builds}
 use Rattle.tg_driver.specs.AllocMode.{Lists}
+use Rattle.tg_driver.specs.ShowMode.{Shows}
 use Rattle.tg_driver.specs.Compiled.{texts_compiled}
 use Rattle.tg_driver.specs.Watching.{if_watched}
 use Rattle.tg_driver.specs.glue.Watched.{HasWatchedRun}
@@ -76,6 +77,20 @@ returns-in-Alloc-clause-due g c =
     in_mode texts runs Alloc shelf streams asked c.answer_written-in-Alloc.result (no_gen Alloc tt) c.in-Alloc.is
     (by_writing shelf streams (Lists _ _) asked c.answer_written-in-Alloc.result c.answer_written-in-Alloc.ensures.unread
     c.answer_written-in-Alloc.ensures.before_start c.answer_written-in-Alloc.ensures.due)
+
+pub returns-in-Show-clause-due : goal.returns-in-Show-clause-due
+returns-in-Show-clause-due g c =
+    let shelf = shelf_of g.H.Shelf.files g.H.Shelf.faults c.args.shelf.now c.answer_show.new.shelf in
+    let streams = streams_of
+    (stream_of g.I.Source.left g.I.Source.faults c.args.streams.input.now c.answer_show.new.streams.0)
+    (stream_of g.O.Sink.taken g.O.Sink.faults c.args.streams.out.now c.answer_show.new.streams.1.0) in
+    let asked = asked_of c.args.command.now in
+    let texts = texts_compiled ((goal.SpillPolicy-dyn g c.args.policy.now).rule c.args.policy.now.1) in
+    let runs = HasWatchedRun (λ b. (goal.Watcher-dyn g (b.vtable, b.value)).stands b.value) (λ b. (goal.Watcher-dyn g (b.vtable, b.value)).report b.value)
+    (if_watched c.args.command.now.flags c.args.watchers.now.items) c.keep_asked.new.watchers.items streams in
+    in_mode texts runs Show shelf streams asked c.answer_show.result (no_gen Show tt) c.in-Show.is
+    (by_writing shelf streams (Shows _ _) asked c.answer_show.result c.answer_show.ensures.unread
+    c.answer_show.ensures.before_start c.answer_show.ensures.due)
 
 pub returns-in-Format-clause-due : goal.returns-in-Format-clause-due
 returns-in-Format-clause-due g c =

@@ -1,0 +1,10 @@
+use Rattle.tg_driver.proofs.AnswerLemmas.{of_text, of_unread}
+use Rattle.tg_driver.proofs.showing.show_file.Goals as goal
+
+pub returns-in-Ok-clause-due : goal.returns-in-Ok-clause-due
+returns-in-Ok-clause-due g c =
+    of_text _ _ _ _ _ _ (rw c.as_str.ensures.value at c.in-Ok.ensures.front)
+    (rw c.passes_of.ensures at rw c.deref.ensures.value at c.show_source.ensures.due)
+
+pub returns-in-Err-clause-due : goal.returns-in-Err-clause-due
+returns-in-Err-clause-due g c = rw c.unread.ensures (of_unread _ _ _ _ _ (rw c.as_str.ensures.value at c.in-Err.ensures.cause))

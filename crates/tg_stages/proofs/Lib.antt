@@ -1,0 +1,9 @@
+pub mod DeclaredLaws
+pub mod Within
+pub mod Labels
+pub mod Told
+pub mod Trees
+pub mod Telling
+pub mod Counts
+pub mod Routines
+pub mod Joined

@@ -1,0 +1,5 @@
+pub mod DeclaredFunctions
+pub mod Headings
+pub mod Shown
+pub mod Programs
+pub mod glue
