@@ -1,6 +1,5 @@
 mod Examples
 pub mod Walks
-pub mod Handing
 pub mod Sides
 pub mod Naming
 pub mod Closing

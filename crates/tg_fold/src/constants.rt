@@ -1,18 +1,17 @@
 // Constants aren't passed on: a temporary has the length 0 and a constant 2, so a function could
 // grow.
 
-ghost use Rattle.std.specs.Prelude.{◌≡◌, ◌%◌, ◌<◌, IfOk};
+ghost use Rattle.std.specs.Prelude.{◌≡◌, ◌%◌, ◌<◌};
 ghost use Rattle.tg_base.specs.Words as words;
 ghost use Rattle.tg_tree.specs.Operators.{operate, holds};
 ghost use Rattle.tg_tree.specs.glue.Plain.{plain_tx};
 ghost use Rattle.tg_fold.specs.Sides as sides;
 ghost use Rattle.tg_fold.specs.mirror.Folding as folding;
 
-use std::alloc::Global;
 use tg_base::{
-    Memory, add, exact_difference, exact_sum, less_signed, less_unsigned, mul, product, quot, sub,
+    add, exact_difference, exact_sum, less_signed, less_unsigned, mul, product, quot, sub,
 };
-use tg_tree::{Bin, Rel, Tx, binary};
+use tg_tree::{Bin, Rel, Tx};
 
 fn product_high(left: u32, right: u32) -> u32
     ensures { result ≡ words.product_high left right }
@@ -97,23 +96,14 @@ pub(crate) fn constants(left: &Tx, right: &Tx) -> Option<(u32, u32)>
     }
 }
 
-// What an operator makes of sides, where they are constants.
-fn word_of(op: Bin, sides: Option<(u32, u32)>) -> Option<u32>
-    ensures { result ≡ folding.word_of op sides }
+/// The word of an operator with two folded sides, where both are constants and the run goes on
+/// there.
+pub(crate) fn operated(op: Bin, left: &Tx, right: &Tx) -> Option<u32>
+    ensures { result ≡
+        folding.word_of op (sides.constants (plain_tx left.now) (plain_tx right.now)) }
 {
-    match sides {
+    match constants(left, right) {
         Some((a, b)) => operate(op, a, b),
         None => None,
-    }
-}
-
-/// An operator with two folded sides: a constant where both are ones and the run goes on there.
-pub(crate) fn operated(alloc: Global, op: Bin, left: Tx, right: Tx) -> Result<Tx, Memory>
-    ensures { IfOk result (λ x.
-        plain_tx x ≡ folding.operated op (plain_tx left) (plain_tx right)) }
-{
-    match word_of(op, constants(&left, &right)) {
-        Some(word) => Ok(Tx::Const(word)),
-        None => Ok(binary(alloc, op, left, right)?),
     }
 }

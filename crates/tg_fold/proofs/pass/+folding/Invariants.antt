@@ -1,14 +1,21 @@
-use Rattle.std.proofs.Common.{vec_len}
+use Rattle.std.proofs.Common.{◌≡◌, length}
+use Rattle.std.specs.Prelude.{None}
 use Rattle.tg_tree.specs.glue.Lists.{txs_of, stms_of}
-use Rattle.tg_fold.specs.mirror.Folding.{folded_txs, each_folded}
-use Rattle.tg_fold.proofs.Walks.{Walked}
+use Rattle.tg_fold.specs.glue.Views.{plain_copy}
+use Rattle.tg_fold.specs.mirror.Folding.{folded_txs, each_folded, passed_on}
+use Rattle.tg_fold.proofs.Walks.{Valued, Stated}
 use Rattle.tg_fold.proofs.pass.+folding.Given as goal
 
-abbrev pub invariant-fold_values-loop-value : goal.invariant-fold_values-loop-value
-invariant-fold_values-loop-value l = Walked txs_of folded_txs l.fn.values.items.items l.values.items.items l.folded.items
+abbrev pub invariant-fold_values-loop-at : goal.invariant-fold_values-loop-at
+invariant-fold_values-loop-at l =
+    (length l.values.items.items ≡ length l.fn.values.items.items)
+    × Valued folded_txs (txs_of l.fn.values.items.items) l.values.items.items l.at
 
-abbrev pub invariant-fold_each-loop-statement : goal.invariant-fold_each-loop-statement
-invariant-fold_each-loop-statement l = Walked stms_of each_folded l.fn.statements.items.items l.statements.items.items l.reversed.items
+abbrev pub invariant-fold_each-loop-at : goal.invariant-fold_each-loop-at
+invariant-fold_each-loop-at l =
+    (length l.statements.items.items ≡ length l.fn.statements.items.items)
+    × Stated (λ before ss. passed_on before (each_folded ss))
+    (passed_on None (each_folded (stms_of l.fn.statements.items.items))) (plain_copy l.before) l.statements.items.items l.at
 
 abbrev pub decreases-fold_value : goal.decreases-fold_value
 decreases-fold_value l = l.height
@@ -24,9 +31,3 @@ decreases-fold_statement l = l.height
 
 abbrev pub decreases-fold_each : goal.decreases-fold_each
 decreases-fold_each l = l.height
-
-abbrev pub decreases-fold_values-loop-value : goal.decreases-fold_values-loop-value
-decreases-fold_values-loop-value l = vec_len l.values.items
-
-abbrev pub decreases-fold_each-loop-statement : goal.decreases-fold_each-loop-statement
-decreases-fold_each-loop-statement l = vec_len l.statements.items
