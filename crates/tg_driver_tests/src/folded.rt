@@ -1,4 +1,4 @@
-use crate::calls::{are_answered, written};
+use crate::calls::{Outside, are_answered, call, written};
 use std::str;
 use std::test::Fail;
 
@@ -60,19 +60,6 @@ fn folded_bodies_do_the_same(rt: HostRuntime) -> Result<(), Fail> {
     are_answered(&rt, alloc, "tiger|run|FILE", &BODIES)?;
     are_answered(&rt, alloc, "tiger|run|FILE|--fold", &BODIES)?;
     Ok(())
-}
-
-/// What a command writes of a source, of which it must be no fault.
-fn written(alloc: Global, line: &str, source: &str) -> Result<Vec<u8>, Fail> {
-    let outside = Outside {
-        room: 1_000_000,
-        ..Outside::of(source.as_bytes())
-    };
-    let seen = call(alloc, line, outside)?;
-    if seen.status != 0 {
-        return Err(Fail::from("a fault"));
-    }
-    Ok(seen.out)
 }
 
 /// How many lines of an assembly text begin so, up to the runtime's first function.
