@@ -1,5 +1,5 @@
 -- The text of some trees, computed.
-use Rattle.std.specs.Prelude.{ℕ, ◌≡◌, List, [], ◌∷◌, Some, codes, map, refl}
+use Rattle.std.specs.Prelude.{ℕ, ◌≡◌, List, [], ◌∷◌, Some, None, codes, map, refl}
 use Rattle.std.specs.Fmt.{digits}
 use Rattle.std.specs.List.{range_with_len}
 use Rattle.tg_frame.specs.declared.accesses.Access.TheVariants.{InTemp, InFrame}
@@ -12,7 +12,9 @@ use Rattle.tg_instr.specs.declared.operands.Opnd.TheVariants as operand
 use Rattle.tg_instr.specs.declared.instr.Instr.TheVariants as instr
 use Rattle.tg_show.specs.Trees.{ts_text}
 use Rattle.tg_show.specs.Layout.{laid}
+use Rattle.tg_show.specs.declared.variables.FunctionVariables.{FunctionVariables}
 use Rattle.tg_show.specs.Variables.{variables_lines}
+use Rattle.tg_show.specs.Names.{names_of}
 use Rattle.tg_show.specs.Live.{live_lines, live_text}
 use Rattle.tg_show.specs.Stages.{function_line}
 
@@ -37,16 +39,25 @@ on_lines : laid 0 (ts_text names long) ≡
 unfolding digits
 on_lines = refl
 
--- a function at level 1 whose `b` is used by a function `g` in it
-variables : variables_lines (record {
+-- a function at level 1 whose `b` is used by functions `g` and `h` in it; no type of `sum` is written
+abbrev of_level_1 : FunctionVariables
+of_level_1 = record {
   level = 1;
   link = Some (InFrame 0);
-  parameters = record { place = record { line = 3; column = 14 }; name = codes "a"; of_type = codes "int"; home = InTemp (record { 0 = 0 }); users = [] } ∷ [];
-  locals = record { place = record { line = 4; column = 9 }; name = codes "b"; of_type = codes "row"; home = InFrame 1; users = codes "g" ∷ codes "h" ∷ [] } ∷ [];
-}) ≡
-    codes "  level 1\n  link slot 0\n  parameter 3:14 a int t0\n  variable 4:9 b row slot 1 escapes to g h\n"
+  parameters = record { place = record { line = 3; column = 14 }; name = codes "a"; of_type = Some (codes "int"); home = InTemp (record { 0 = 0 }); users = [] } ∷ [];
+  locals =
+      record { place = record { line = 4; column = 9 }; name = codes "b"; of_type = Some (codes "row"); home = InFrame 1; users = codes "g" ∷ codes "h" ∷ [] }
+      ∷ record { place = record { line = 5; column = 9 }; name = codes "sum"; of_type = None; home = InTemp (record { 0 = 3 }); users = [] } ∷ [];
+}
+
+variables : variables_lines of_level_1 ≡
+    codes "  level 1\n  link slot 0\n  parameter 3:14 a int t0\n  variable 4:9 b row slot 1 escapes to g h\n  variable 5:9 sum - t3\n"
 unfolding digits
 variables = refl
+
+-- its temporaries t0 and t3 are homes
+temporaries : names_of of_level_1 ≡ codes "a" ∷ [] ∷ [] ∷ codes "sum" ∷ []
+temporaries = refl
 
 function : function_line 33 (codes "f") (Some (record { line = 2; column = 12 })) ≡ codes "function 33 f 2:12\n"
 unfolding digits

@@ -3,3 +3,4 @@ mod Examples
 mod StageExamples
 mod Nodes
 mod Steps
+mod Naming

@@ -1,6 +1,7 @@
 pub mod Layout
 pub mod Words
 pub mod Variables
+pub mod Names
 pub mod Trees
 pub mod Flat
 pub mod Blocks

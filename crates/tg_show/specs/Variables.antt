@@ -21,6 +21,11 @@ abbrev pub words_text : List (List ℕ) → List ℕ
 words_text [] = []
 words_text (word ∷ rest) = word_text word ++ words_text rest
 
+-- its type as the source writes it, or a dash where the source writes none
+abbrev pub type_text : Option (List ℕ) → List ℕ
+type_text None = codes " -"
+type_text (Some name) = word_text name
+
 -- a variable escapes to the functions that use it and are nested in the one that declares it
 abbrev pub users_text : List (List ℕ) → List ℕ
 users_text [] = []
@@ -29,7 +34,7 @@ users_text (user ∷ rest) = codes " escapes to" ++ words_text (user ∷ rest)
 -- its name, its type, its home, and to whom it escapes
 abbrev pub variable_text : Variable → List ℕ
 variable_text v =
-    word_text v.name ++ (word_text v.of_type ++ (home_text v.home ++ users_text v.users))
+    word_text v.name ++ (type_text v.of_type ++ (home_text v.home ++ users_text v.users))
 
 abbrev pub variable_line : (word : List ℕ) → Variable → List ℕ
 variable_line word v =

@@ -12,12 +12,14 @@ mod instructions;
 mod layouts;
 mod liveness;
 mod modes;
+mod names;
 mod registers;
 mod stages;
 mod trees;
 mod variables;
 mod words;
 
+pub use names::names_of;
 pub use stages::{
     put_assembly, put_blocks, put_canonical, put_code, put_folded, put_function, put_graph,
     put_live, put_registers, put_traces, put_tree, put_variables,

@@ -5,13 +5,13 @@ use crate::words::{put, put_byte, put_numbered};
 use tg_base::{Bytes, ListOf, Memory, Place};
 use tg_frame::Access;
 
-/// A parameter or another variable of a function: where and as what it is declared, its type, its
-/// home, and the functions that it escapes to.
+/// A parameter or another variable of a function: where and as what it is declared, its type where
+/// the source writes one, its home, and the functions that it escapes to.
 #[derive(Drop)]
 pub struct Variable {
     pub place: Place,
     pub name: Bytes,
-    pub of_type: Bytes,
+    pub of_type: Option<Bytes>,
     pub home: Access,
     pub users: ListOf<Bytes>,
 }
@@ -84,9 +84,19 @@ fn put_variable(text: &mut Vec<u8>, one: &Variable) -> Result<(), Memory>
     ensures { OnOk result (text.new.items ≡ text.old.items ++ variables.variable_text one.now) }
 {
     put_after_blank(text, one.name.as_slice())?;
-    put_after_blank(text, one.of_type.as_slice())?;
+    put_type(text, &one.of_type)?;
     put_home(text, one.home)?;
     put_users(text, one.users.as_slice())
+}
+
+fn put_type(text: &mut Vec<u8>, of_type: &Option<Bytes>) -> Result<(), Memory>
+    ensures { OnOk result (text.new.items
+        ≡ text.old.items ++ variables.type_text of_type.now) }
+{
+    match of_type {
+        Some(name) => put_after_blank(text, name.as_slice()),
+        None => put(text, b" -"),
+    }
 }
 
 /// Puts a place at the end, behind a blank.
