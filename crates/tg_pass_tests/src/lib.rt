@@ -1,4 +1,4 @@
-//! Tests of passes over texts: tokens, trees, faults, notes, escaping variables, frames.
+//! Tests of passes: tokens, trees, faults, notes, escaping variables, frames, delay slots.
 //!
 //! They are of calls that several crates make up, one file a subject, and nothing but tests. They
 //! stand apart from the crates that they call, since a crate with tests is proved twice.
@@ -6,6 +6,8 @@
 
 #[cfg(test)]
 mod counting;
+#[cfg(test)]
+mod delaying;
 #[cfg(test)]
 mod escaping;
 #[cfg(test)]
