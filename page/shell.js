@@ -45,7 +45,7 @@ function stop_calls() {
 // The words of a command as the settings stand; a setting that is as natively isn't said.
 function words_for(mode, steps) {
   const words = ["tiger", mode, "page.tig"];
-  for (const it of SETTINGS) {
+  for (const it of mode === "show" ? [] : SETTINGS) {
     const said = it === "steps" && steps ? String(steps) : at(it).value.trim();
     if (said !== String(DEFAULTS[it])) words.push(`--${it}`, said);
   }
