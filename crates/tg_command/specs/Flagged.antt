@@ -17,6 +17,7 @@ abbrev pub flags_of : List Text → Flags
 flags_of words = record {
   watch = has_flag (codes "watch") words;
   fold = has_flag (codes "fold") words;
+  bare = has_flag (codes "bare") words;
 }
 
 -- `--watch` is for the modes that run an image on the streams
@@ -34,10 +35,16 @@ takes_fold Show = true
 takes_fold Gen = true
 takes_fold _ = false
 
--- a mode takes the flags
+-- `--bare` is for the one that runs assembly text
+abbrev pub takes_bare : Mode → Bool
+takes_bare Exec = true
+takes_bare _ = false
+
+-- a mode takes the flags, and no run of the machine with delayed branches is watched
 abbrev pub flags_fit : Mode → Flags → Bool
 flags_fit mode flags =
     (takes_watch mode || not flags.watch) && (takes_fold mode || not flags.fold)
+    && (takes_bare mode || not flags.bare) && not (flags.watch && flags.bare)
 
 -- the words give these flags, and the mode takes them
 pub record GivesFlags (words : List Text) (mode : Mode) (flags : Flags) : Type 0 where

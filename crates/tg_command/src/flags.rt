@@ -1,5 +1,5 @@
 ghost use Rattle.std.specs.Prelude.{◌≡◌};
-ghost use Rattle.tg_command.specs.Flagged.{flags_fit, takes_fold, takes_watch};
+ghost use Rattle.tg_command.specs.Flagged.{flags_fit, takes_bare, takes_fold, takes_watch};
 
 use crate::modes::Mode;
 
@@ -10,13 +10,18 @@ pub struct Flags {
     pub watch: bool,
     /// `--fold`: the trees of the program are folded.
     pub fold: bool,
+    /// `--bare`: the machine has delayed branches.
+    pub bare: bool,
 }
 
 /// Whether a mode takes these flags.
 pub(crate) fn flags_fit(mode: Mode, flags: Flags) -> bool
     ensures { result ≡ flags_fit mode flags }
 {
-    (takes_watch(mode) || !flags.watch) && (takes_fold(mode) || !flags.fold)
+    (takes_watch(mode) || !flags.watch)
+        && (takes_fold(mode) || !flags.fold)
+        && (takes_bare(mode) || !flags.bare)
+        && !(flags.watch && flags.bare)
 }
 
 /// `--watch` is for the modes that run an image on the streams.
@@ -37,4 +42,11 @@ fn takes_fold(mode: Mode) -> bool
         Mode::Build | Mode::Run | Mode::Alloc | Mode::Show | Mode::Gen => true,
         _ => false,
     }
+}
+
+/// `--bare` is for the mode that runs assembly text.
+fn takes_bare(mode: Mode) -> bool
+    ensures { result ≡ takes_bare mode }
+{
+    matches!(mode, Mode::Exec)
 }

@@ -1,6 +1,6 @@
 //! The command line: its words become a mode, a file, sizes and flags, or a usage fault.
 //!
-//! Its form is `MODE FILE [--heap BYTES] [--stack BYTES] [--steps COUNT] [--watch] [--fold]`.
+//! Its form is `MODE FILE`, with `--heap`, `--stack`, `--steps`, `--watch`, `--fold` and `--bare`.
 //! Promises the mode, the file, the three numbers and the flags that the words ask for, or that
 //! they ask for none.
 #![tactic(auto)]
@@ -65,8 +65,9 @@ impl From<AllocError> for CommandFault {
 ///
 /// A repeated option, an abbreviated one, one without a value and a separate value that begins with
 /// `-` are usage faults. After `--` every word is MODE or FILE, and so is a lone `-`. An option
-/// that the mode doesn't use is read and tested as any other, but in `show` it is a usage fault; a
-/// flag that the mode doesn't take is a usage fault, and so is a repeated flag or one with a value.
+/// that the mode doesn't use is read and tested as any other, but in `show` it is a usage fault. A
+/// flag that the mode doesn't take is a usage fault, and so are a repeated flag, one with a value,
+/// and `--watch` together with `--bare`.
 /// `Usage` is answered only at a usage fault, and a usage fault is never `Ok`; `Memory` may come in
 /// place of any answer.
 pub fn read_words(alloc: Global, words: &[String]) -> Result<Command, CommandFault>
