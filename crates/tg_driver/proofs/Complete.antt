@@ -1,5 +1,5 @@
 -- Good words for a file that is there, with no fault of a count, are answered as text and input settle, or as out of memory.
-use Rattle.std.proofs.Common.{ℕ, ◌≡◌, ◌≤◌, ◌⊎◌, inl, inr, List, [], ◌++◌, Option, Some, None, take, append-nil, refl, sym, subst, arith}
+use Rattle.std.proofs.Common.{ℕ, ◌≡◌, ◌≤◌, ◌⊎◌, inl, inr, Bool, false, List, [], ◌++◌, Option, Some, None, take, append-nil, refl, sym, subst, arith}
 use Rattle.std.specs.Io.KnownBytes.{Appends}
 use Rattle.tg_base.specs.Causes.{Rose}
 use Rattle.tg_base.specs.Files.{Files, IsFilePrefix}
@@ -26,13 +26,12 @@ use Rattle.tg_driver.specs.laws.OfTexts.{most_of}
 use Rattle.tg_driver.specs.laws.AsMeant.{InMode}
 use Rattle.tg_driver.specs.Passes.{passes_of}
 use Rattle.tg_driver.specs.Statuses.{status_of, line_of}
-use Rattle.tg_driver.specs.Watching.{HasToldRun, if_watched}
-use Rattle.tg_driver.specs.glue.Watched.{run_in}
+use Rattle.tg_driver.specs.Watching.{HasToldRunBy, if_watched}
 use Rattle.tg_driver.specs.Answered.{told_runs, usage, no_memory, asked, Answers}
 use Rattle.tg_driver.specs.laws.AsMeant.{IsDue}
 use Rattle.tg_driver.specs.laws.Laws.{HoldsFile, ReadsFile, IsGood, Gives, EndsAndTells, IsFaultyOrWritten, EndsGenerated, Settles, settled_runs}
 use Rattle.tg_driver.specs.laws.Laws.{IsSettled}
-use Rattle.tg_driver.proofs.ExactRuns.{ends_as_told, ends_faultless, exact_reports}
+use Rattle.tg_driver.proofs.ExactRuns.{ends_as_told, ends_faultless, exact_reports, read_cause, write_cause, run_of}
 use Rattle.tg_driver.proofs.Watched.{run_more, exec_more}
 use Rattle.tg_driver.proofs.SourcesOnce.{meant_source, listed_source, shown_source}
 use Rattle.tg_driver.proofs.CanonicalTexts.{of_formatted}
@@ -68,15 +67,16 @@ of_written out writes source Unwritten written is h = failed h.takes
 of_written out writes source _ written is h = absurd h
 
 -- a run whose reads and writes all passed, and its reports
-ends_and_tells : {I O : Type 0} (s : Streams I O) (reporters : List Report) (reports : List ℕ) (image : Image) (heap stack steps : ℕ) (end : RunEnd) →
-    (HasFailed s.input → ⊥) → (HasFailed s.out → ⊥) → HasToldRun s reporters reports image heap stack steps end →
-    EndsAndTells (s.input.told s.input.before) reporters reports image heap stack steps end
-ends_and_tells s reporters reports image heap stack steps end r w h =
-    let run = run_in s reporters reports image heap stack steps end h in
+ends_and_tells : {I O : Type 0} (s : Streams I O) (bare : Bool) (reporters : List Report) (reports : List ℕ) (image : Image)
+    (heap stack steps : ℕ) (end : RunEnd) → (HasFailed s.input → ⊥) → (HasFailed s.out → ⊥) →
+    HasToldRunBy s bare reporters reports image heap stack steps end →
+    EndsAndTells (s.input.told s.input.before) bare reporters reports image heap stack steps end
+ends_and_tells s bare reporters reports image heap stack steps end r w h =
+    let run = run_of s bare reporters reports image heap stack steps end h in
     record {
-      ends = ends_faultless s image heap stack steps end r w run;
-      tells = λ bytes tells. exact_reports s reporters reports image heap stack steps end bytes (λ d. r (run.ran.read_cause d))
-          (λ d. w (run.ran.write_cause d)) h tells;
+      ends = ends_faultless s bare image heap stack steps end r w run;
+      tells = λ bytes tells. exact_reports s bare reporters reports image heap stack steps end bytes
+          (λ d. r (read_cause s bare image heap stack steps end run d)) (λ d. w (write_cause s bare image heap stack steps end run d)) h tells;
     }
 
 -- counts over a run and a summary
@@ -152,7 +152,7 @@ of_gen out a answer kept h =
       ran = record {
         image = h.ends.ran.image;
         assembles = h.ends.ran.assembles;
-        run = ends_as_told s h.ends.ran.image a.heap a.stack a.steps h.end (λ is. no_read (sums.run.ran.read_cause is)) other sums.run;
+        run = ends_as_told s false h.ends.ran.image a.heap a.stack a.steps h.end (λ is. no_read (sums.run.ran.read_cause is)) other sums.run;
       };
     })
 
@@ -163,10 +163,12 @@ settled c a file Check reports answer good reads h = to_text c.shelf a.file 2621
 settled c a file Build reports answer good reads h = of_written c.streams.out _ _ answer good.all_written (meant_source _)
     (to_text c.shelf a.file 262145 _ file answer (good.there (reads tt)) good.readable h.2)
 settled c a file Run reports answer good reads h = run_more IsAsMeant (told_runs c reports a) (settled_runs c reports a) a _ answer
-    (λ image end is. ends_and_tells c.streams (if_watched a.flags c.reporters) reports image a.heap a.stack a.steps end good.all_read good.all_written)
+    (λ image end is. ends_and_tells c.streams a.flags.bare (if_watched a.flags c.reporters) reports image a.heap a.stack a.steps end good.all_read
+    good.all_written)
     (to_text c.shelf a.file 262145 _ file answer (good.there (reads tt)) good.readable h.1)
 settled c a file Exec reports answer good reads h = exec_more (told_runs c reports a) (settled_runs c reports a) a _ answer
-    (λ image end is. ends_and_tells c.streams (if_watched a.flags c.reporters) reports image a.heap a.stack a.steps end good.all_read good.all_written)
+    (λ image end is. ends_and_tells c.streams a.flags.bare (if_watched a.flags c.reporters) reports image a.heap a.stack a.steps end good.all_read
+    good.all_written)
     (to_text c.shelf a.file 67108865 _ file answer (good.there (reads tt)) good.readable h.1)
 settled c a file Alloc reports answer good reads h = of_written c.streams.out _ _ answer good.all_written (listed_source (passes_of a) c.rule _)
     (to_text c.shelf a.file 262145 _ file answer (good.there (reads tt)) good.readable h.2)

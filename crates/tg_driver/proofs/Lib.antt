@@ -8,6 +8,7 @@ pub mod SourcesOnce
 pub mod CanonicalTexts
 pub mod ModesOnce
 pub mod ToldInputs
+pub mod FlagLemmas
 mod ExactRuns
 pub mod MeantEnds
 pub mod Complete

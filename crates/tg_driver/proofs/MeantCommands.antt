@@ -1,20 +1,20 @@
 -- Good words for a file that is there, with no fault of a count, are answered by the meaning of the source, or as out of memory.
-use Rattle.std.proofs.Common.{ℕ, ◌≡◌, ◌⊎◌, inl, inr, List, [], Option, Some, None, take, refl, sym, subst, arith}
+use Rattle.std.proofs.Common.{ℕ, ◌≡◌, ◌⊎◌, inl, inr, Bool, true, List, [], Option, Some, None, take, refl, sym, subst, arith}
 use Rattle.std.specs.Io.KnownBytes.{Appends}
 use Rattle.tg_machine_state.specs.declared.ends.RunEnd.TheVariants.{WriteFault}
 use Rattle.tg_command.specs.declared.modes.Mode.{Mode}
 use Rattle.tg_command.specs.declared.modes.Mode.TheVariants.{Check, Build, Run, Exec, Alloc, Show, Gen, Format}
 use Rattle.tg_command.specs.Counts.{IsWithin, GivesCount, heap_limits, stack_limits}
 use Rattle.tg_command.specs.Commands.{Asked, Ask}
+use Rattle.tg_command.specs.Flagged.{flags_fit}
 use Rattle.tg_correctness.specs.Images.{AreSizes}
 use Rattle.tg_correctness.specs.Assemblies.{IsAsMeant}
 use Rattle.tg_compile_proof.specs.laws.TextLaws.{EndedIsMeant, RunningIsMeant}
 use Rattle.tg_driver.specs.declared.answers.Answer.{Answer}
 use Rattle.tg_driver.specs.declared.answers.Answer.TheVariants.{Faulty, Written, Unwritten, Finished, OutOfMemory}
 use Rattle.tg_driver.specs.Calls.{Stream, stream_of, HasFailed, Streams, Call, Takes, nothing, all, part}
-use Rattle.tg_driver.specs.Runs.{HasRun}
+use Rattle.tg_driver.specs.Runs.{HasRun, HasRunBy}
 use Rattle.tg_driver.specs.Watching.{if_watched}
-use Rattle.tg_driver.specs.glue.Watched.{run_in}
 use Rattle.tg_driver.specs.Writing.{IsWritten}
 use Rattle.tg_driver.specs.laws.AsMeant.{IsRun}
 use Rattle.tg_driver.specs.laws.AsMeant.{IsGenerated}
@@ -25,6 +25,8 @@ use Rattle.tg_driver.specs.Answered.{told_runs, Answers}
 use Rattle.tg_driver.specs.laws.Laws.{ReadsFile, IsGood, Gives}
 use Rattle.tg_driver.specs.laws.MeantCommands.{BuildsByMeaning, RunsByMeaning, GeneratesByMeaning, ByMeaning, DoesAsMeant}
 use Rattle.tg_driver.proofs.Complete.{to_text, given, in_its_mode, none_taken, passed, rose_later, write_failed}
+use Rattle.tg_driver.proofs.ExactRuns.{run_of}
+use Rattle.tg_driver.proofs.FlagLemmas.{plain_in_run}
 use Rattle.tg_driver.proofs.Watched.{in_mode_more}
 use Rattle.tg_driver.proofs.MeantEnds.{runs_are_meant, generated_are_meant}
 
@@ -98,18 +100,22 @@ module _ (ends : EndedIsMeant) (goes_on : RunningIsMeant) where
       })
 
   means : {H I O E : Type 0} (c : Call H I O E) (a : Asked) (file : List ℕ) (mode : Mode) (answer : Answer) → IsGood c a file →
-      (ReadsFile mode → ReadsFile a.mode) → InMode c.rule (HasRun c.streams) mode c.shelf c.streams a answer →
+      (ReadsFile mode → ReadsFile a.mode) → flags_fit mode a.flags ≡ true →
+      InMode c.rule (HasRunBy c.streams a.flags.bare) mode c.shelf c.streams a answer →
       ByMeaning c.streams mode a (take (most_of mode) file) answer
-  means c a file Check answer good reads h = tt
-  means c a file Build answer good reads h = builds_so c.streams.out _ answer good.all_written
+  means c a file Check answer good reads fit h = tt
+  means c a file Build answer good reads fit h = builds_so c.streams.out _ answer good.all_written
       (to_text c.shelf a.file 262145 _ file answer (good.there (reads tt)) good.readable h.2)
-  means c a file Run answer good reads h = runs_so c.streams a _ answer (sizes_of c.words a good.ask) good.all_read good.all_written
-      (to_text c.shelf a.file 262145 _ file answer (good.there (reads tt)) good.readable h.1)
-  means c a file Exec answer good reads h = tt
-  means c a file Alloc answer good reads h = tt
-  means c a file Show answer good reads h = tt
-  means c a file Format answer good reads h = tt
-  means c a file Gen answer good reads h = generates_so c.streams.out a answer (sizes_of c.words a good.ask) good.all_written h.3
+  means c a file Run answer good reads fit h =
+      let P : Bool → Type 0 = λ bare. InMode c.rule (HasRunBy c.streams bare) Run c.shelf c.streams a answer in
+      let plain = subst P (plain_in_run a.flags fit) h in
+      runs_so c.streams a _ answer (sizes_of c.words a good.ask) good.all_read good.all_written
+      (to_text c.shelf a.file 262145 _ file answer (good.there (reads tt)) good.readable plain.1)
+  means c a file Exec answer good reads fit h = tt
+  means c a file Alloc answer good reads fit h = tt
+  means c a file Show answer good reads fit h = tt
+  means c a file Format answer good reads fit h = tt
+  means c a file Gen answer good reads fit h = generates_so c.streams.out a answer (sizes_of c.words a good.ask) good.all_written h.3
 
   pub does_as_meant : {H I O E : Type 0} (c : Call H I O E) (status : ℕ) (a : Asked) (file : List ℕ) → Answers c status →
       IsGood c a file → DoesAsMeant c status a (take (most_of a.mode) file) ⊎ Gives c status [] OutOfMemory
@@ -119,11 +125,11 @@ module _ (ends : EndedIsMeant) (goes_on : RunningIsMeant) where
           DoesAsMeant c status a (take (most_of a.mode) file) ⊎ Gives c status [] OutOfMemory
       by (inr wanting) = inr wanting
       by (inl told) =
-          let in_mode = in_mode_more (texts_meant c.rule) (told_runs c h.reports a) (HasRun c.streams) a.mode c.shelf c.streams a h.answer
-          (λ image end is. run_in c.streams (if_watched a.flags c.reporters) h.reports image a.heap a.stack a.steps end) told in
+          let in_mode = in_mode_more (texts_meant c.rule) (told_runs c h.reports a) (HasRunBy c.streams a.flags.bare) a.mode c.shelf c.streams a h.answer
+          (λ image end is. run_of c.streams a.flags.bare (if_watched a.flags c.reporters) h.reports image a.heap a.stack a.steps end) told in
           inl (record {
             answer = h.answer;
             reports = h.reports;
-            means = means c a file a.mode h.answer good (λ r. r) in_mode;
+            means = means c a file a.mode h.answer good (λ r. r) good.ask.flags.fit in_mode;
             gives = given c status a file h good;
           })

@@ -95,7 +95,9 @@ module _ (ends : EndedIsMeant) (goes_on : RunningIsMeant) where
       (end ≡ ReadFault → ⊥) → (end ≡ WriteFault → ⊥) → EndsOnInput s text heap stack steps end
   by_run s text assembly m image heap stack steps end assembles h sizes read written =
       let r = h.ran in
-      let i = on_input s.input.told h.after.input_ended steps _ end r.last r.output r.front r.read s.input.before s.input.after
+      let first = initial_machine image.code image.statics image.entry heap stack in
+      let i = on_input s.input.told h.after.input_ended r.read
+      (λ bytes left. Stops steps (begun_on first bytes) end (standing r.last left r.output) r.front) s.input.before s.input.after
       r.stops r.are_bytes r.gives r.meets_end in
       record {
         bytes = i.bytes;

@@ -1,6 +1,6 @@
 -- A text has at most one answer in each mode.
 use Rattle.std.specs.Prelude.{Result, Ok, Err}
-use Rattle.std.proofs.Common.{ℕ, ◌≡◌, ◌<◌, ◌≤◌, ◌⊎◌, inl, inr, List, length, refl, sym, ap, subst, arith, ◌∙◌}
+use Rattle.std.proofs.Common.{ℕ, ◌≡◌, ◌<◌, ◌≤◌, ◌⊎◌, inl, inr, Bool, List, length, refl, sym, ap, subst, arith, ◌∙◌}
 use Rattle.tg_machine_state.specs.declared.ends.RunEnd.{RunEnd}
 use Rattle.tg_isa.specs.declared.images.Image.{Image}
 use Rattle.tg_asm_text.specs.Assembly.{Assembled, Fault as AsmFault, assembled}
@@ -14,8 +14,7 @@ use Rattle.tg_driver.specs.declared.answers.Answer.TheVariants.{Faulty, BadLine,
 use Rattle.tg_driver.specs.glue.PrivateCalls.{HasStarted}
 use Rattle.tg_driver.specs.Calls.{Streams}
 use Rattle.tg_driver.specs.Runs.{RunRelation}
-use Rattle.tg_driver.specs.Watching.{HasToldRun}
-use Rattle.tg_driver.specs.glue.Watched.{run_in}
+use Rattle.tg_driver.specs.Watching.{HasToldRunBy}
 use Rattle.tg_driver.specs.laws.Laws.{IsFaultless}
 use Rattle.tg_driver.specs.CheckMode.{IsChecked}
 use Rattle.tg_driver.specs.laws.OfTexts.{IsWritable}
@@ -23,7 +22,7 @@ use Rattle.tg_driver.specs.laws.AsMeant.{IsRun}
 use Rattle.tg_driver.specs.laws.OfTexts.{IsGenerable}
 use Rattle.tg_driver.specs.ExecMode.{EndsImage, IsExecuted}
 use Rattle.tg_driver.specs.laws.OfTexts.{IsDueOfText}
-use Rattle.tg_driver.proofs.ExactRuns.{FaultlessRun}
+use Rattle.tg_driver.proofs.ExactRuns.{FaultlessRun, run_of}
 use Rattle.tg_driver.proofs.FaultsOnce.{fault_once_told}
 use Rattle.tg_driver.proofs.SourcesOnce.{no_fault, no_fault_of_meant}
 use Rattle.tg_driver.proofs.CanonicalTexts.{formattable_alike}
@@ -145,17 +144,17 @@ executed_once runs others asked text a b alike p q = by a b p q (executed_alike 
     by a b p q (inr both) = absurd (both.0)
 
 -- an answer that no read and no write ended is that of such a run
-pub executed_faultless : {I O : Type 0} (s : Streams I O) (reporters : List Report) (reports : List ℕ) (asked : Asked) (text : List ℕ) (a : Answer) →
-    IsFaultless a → IsExecuted (HasToldRun s reporters reports) asked text a → IsExecuted (FaultlessRun s) asked text a
-executed_faultless s reporters reports asked text TooLong f h = h
-executed_faultless s reporters reports asked text (BadLine r n) f h = h
-executed_faultless s reporters reports asked text (Finished e) f h = record {
+pub executed_faultless : {I O : Type 0} (s : Streams I O) (bare : Bool) (reporters : List Report) (reports : List ℕ) (asked : Asked) (text : List ℕ)
+    (a : Answer) → IsFaultless a → IsExecuted (HasToldRunBy s bare reporters reports) asked text a → IsExecuted (FaultlessRun s bare) asked text a
+executed_faultless s bare reporters reports asked text TooLong f h = h
+executed_faultless s bare reporters reports asked text (BadLine r n) f h = h
+executed_faultless s bare reporters reports asked text (Finished e) f h = record {
   short = h.short;
   image = h.image;
   assembles = h.assembles;
-  run = (run_in s reporters reports h.image asked.heap asked.stack asked.steps e h.run, f);
+  run = (run_of s bare reporters reports h.image asked.heap asked.stack asked.steps e h.run, f);
 }
-executed_faultless s reporters reports asked text _ f h = absurd h
+executed_faultless s bare reporters reports asked text _ f h = absurd h
 
 -- whatever the mode
 pub due_alike : (runs others : RunRelation) (mode : Mode) (one other : Asked) (text : List ℕ) (a b : Answer) →

@@ -1,6 +1,6 @@
 -- What a call leaves, by its answer, mode by mode.
 use Rattle.std.specs.Prelude.{length}
-use Rattle.std.proofs.Common.{ℕ, ◌≡◌, ◌≤◌, ◌+◌, ◌⊎◌, inl, inr, List, [], ◌++◌, refl, sym, ap, subst, ◌∙◌, append-nil, append_assoc, arith}
+use Rattle.std.proofs.Common.{ℕ, ◌≡◌, ◌≤◌, ◌+◌, ◌⊎◌, inl, inr, Bool, true, false, List, [], ◌++◌, refl, sym, ap, subst, ◌∙◌, append-nil, append_assoc, arith}
 use Rattle.std.proofs.lemmas.Bool.Decides.{nat_tests}
 use Rattle.std.specs.Io.KnownBytes.{Appends}
 use Rattle.tg_base.specs.Causes.{Rose}
@@ -14,10 +14,17 @@ use Rattle.tg_isa.specs.declared.images.Image.{Image}
 use Rattle.tg_isa.specs.Runs.{Execution, run}
 use Rattle.tg_machine.specs.Ran.{Stops, still, ended, read_failed, write_failed, begun_on, standing}
 use Rattle.tg_machine.proofs.Runs.{run_more}
+use Rattle.tg_bare.specs.Delayed as delayed
+use Rattle.tg_bare.specs.Delayed.{initial_bare}
+use Rattle.tg_bare.specs.BareRuns.{BareExecution, run_bare, bare_begun}
+use Rattle.tg_bare.specs.Ran as bare
+use Rattle.tg_bare.specs.Ran.{BareStops, bare_standing}
+use Rattle.tg_bare.proofs.Runs as bare_runs
 use Rattle.tg_program_generator.specs.Generated.{generated}
 use Rattle.tg_command.specs.declared.modes.Mode.{Mode}
 use Rattle.tg_command.specs.declared.modes.Mode.TheVariants.{Check, Build, Run, Exec, Alloc, Show, Gen, Format}
 use Rattle.tg_command.specs.Commands.{Asked, Ask}
+use Rattle.tg_command.specs.Flagged.{flags_fit}
 use Rattle.tg_command.proofs.CommandLemmas.{asked_once}
 use Rattle.tg_irc_definition.specs.Policies.{Rule as SpillRule}
 use Rattle.tg_driver.specs.declared.answers.Answer.{Answer}
@@ -28,10 +35,9 @@ use Rattle.tg_driver.specs.OfFiles.{OfFile, unreadable, read}
 use Rattle.tg_driver.specs.glue.PrivateCalls.{HasStarted}
 use Rattle.tg_driver.specs.Statuses.{status_of}
 use Rattle.tg_driver.specs.Endings.{end_status, break_status}
-use Rattle.tg_driver.specs.Runs.{HasRun}
-use Rattle.tg_driver.specs.laws.Settled.{world_in}
+use Rattle.tg_driver.specs.Runs.{HasRun, HasBareRun, HasRunBy}
+use Rattle.tg_driver.specs.laws.Settled.{Tells, outcome_on, world_in, plain_progress}
 use Rattle.tg_driver.specs.Watching.{if_watched}
-use Rattle.tg_driver.specs.glue.Watched.{run_in}
 use Rattle.tg_driver.specs.CheckMode.{IsChecked}
 use Rattle.tg_driver.specs.Writing.{TextRelation, IsWritten}
 use Rattle.tg_driver.specs.laws.AsMeant.{IsRun}
@@ -50,6 +56,8 @@ use Rattle.tg_driver.specs.laws.AsMeant.{IsDue}
 use Rattle.tg_driver.specs.laws.Safe.{LeavesUnread, IsFileUnread, IsImageOf, IsOutput, HasToWrite, WritesPrefix}
 use Rattle.tg_driver.specs.laws.Safe.{IsCausedEnd, IsCaused, IsExit, SomeFailed, IsSafe}
 use Rattle.tg_driver.proofs.AnswerLemmas.{left_alone, stays_in_gen}
+use Rattle.tg_driver.proofs.ExactRuns.{read_cause, write_cause, run_of}
+use Rattle.tg_driver.proofs.FlagLemmas.{plain_in_run}
 use Rattle.tg_driver.proofs.ToldInputs.{OnInput, on_input}
 use Rattle.tg_driver.proofs.Watched.{due_more}
 use Rattle.tg_driver.proofs.Complete.{none_taken, rose_later, no_read, Summed, cut, summed, summed_by}
@@ -63,29 +71,29 @@ takes_front sink due whole failed result (all some is a) = (due, [], sym (append
 takes_front sink due whole failed result (part is some f front) = front
 
 -- where the run stopped, its output is what was written and a rest, of which nothing is left where no write failed
-record Reached (n : ℕ) (w : Execution) (end : RunEnd) (written : List ℕ) : Type 0 where
+record Reached (n : ℕ) (output_after : ℕ → List ℕ) (end : RunEnd) (written : List ℕ) : Type 0 where
   made : ℕ
   within : made ≤ n
   rest : List ℕ
-  output_is : (world_in (run made w)).output ≡ written ++ rest
+  output_is : output_after made ≡ written ++ rest
   whole : (end ≡ WriteFault → ⊥) → rest ≡ []
 
-module _ (n : ℕ) (w : Execution) (end : RunEnd) where
-  -- nothing is left of the output of this world
-  stopped : (made : ℕ) (last : Execution) (front : List ℕ) → made ≤ n → world_in (run made w) ≡ last → front ≡ [] → Reached n w end (last.output ++ front)
-  stopped made last front within is none = record {
-    made = made;
-    within = within;
-    rest = [];
-    output_is = ap (λ (x : Execution). x.output) is ∙ sym (append-nil last.output) ∙ sym (append-nil (last.output ++ []))
-        ∙ ap (λ f. (last.output ++ f) ++ []) (sym none);
-    whole = λ _. refl;
-  }
+-- nothing is left of the output there
+stopped : (n : ℕ) (output_after : ℕ → List ℕ) (end : RunEnd) (made : ℕ) (output front : List ℕ) → made ≤ n → output_after made ≡ output → front ≡ [] →
+    Reached n output_after end (output ++ front)
+stopped n output_after end made output front within is none = record {
+  made = made;
+  within = within;
+  rest = [];
+  output_is = is ∙ sym (append-nil output) ∙ sym (append-nil (output ++ [])) ∙ ap (λ f. (output ++ f) ++ []) (sym none);
+  whole = λ _. refl;
+}
 
-  reached : (last : Execution) (front : List ℕ) → Stops n w end last front → Reached n w end (last.output ++ front)
-  reached last front (still q p f) = stopped n last front (omega arith) (ap world_in q) f
-  reached last front (ended q f) = stopped n last front (omega arith) (ap world_in q) f
-  reached last front (read_failed i l q p d f) = stopped i last front (omega (arith, l)) (ap world_in q) f
+module _ (n : ℕ) (w : Execution) (end : RunEnd) where
+  reached : (last : Execution) (front : List ℕ) → Stops n w end last front → Reached n (λ made. (world_in (run made w)).output) end (last.output ++ front)
+  reached last front (still q p f) = stopped n _ end n last.output front (omega arith) (ap (λ r. (world_in r).output) q) f
+  reached last front (ended q f) = stopped n _ end n last.output front (omega arith) (ap (λ r. (world_in r).output) q) f
+  reached last front (read_failed i l q p d f) = stopped n _ end i last.output front (omega (arith, l)) (ap (λ r. (world_in r).output) q) f
   reached last front (write_failed i rest l q p d) = record {
     made = i + 1;
     within = omega (arith, l);
@@ -95,34 +103,72 @@ module _ (n : ℕ) (w : Execution) (end : RunEnd) where
     whole = λ other. absurd (other d);
   }
 
--- a run in a mode, and what its output took
-run_input : {I O : Type 0} (s : Streams I O) (image : Image) (heap stack steps : ℕ) (end : RunEnd) (h : HasRun s image heap stack steps end) →
-    OnInput (s.input.told s.input.before) steps (initial_machine image.code image.statics image.entry heap stack) end h.ran.last h.ran.output h.ran.front h.ran.read
-run_input s image heap stack steps end h =
+-- and so on the machine with delayed branches
+module _ (n : ℕ) (w : BareExecution) (end : RunEnd) where
+  bare_reached : (last : BareExecution) (front : List ℕ) → BareStops n w end last front →
+      Reached n (λ made. (world_in (plain_progress (run_bare made w))).output) end (last.output ++ front)
+  bare_reached last front (bare.still q p f) = stopped n _ end n last.output front (omega arith) (ap (λ r. (world_in (plain_progress r)).output) q) f
+  bare_reached last front (bare.ended q f) = stopped n _ end n last.output front (omega arith) (ap (λ r. (world_in (plain_progress r)).output) q) f
+  bare_reached last front (bare.read_failed i l q p d f) =
+      stopped n _ end i last.output front (omega (arith, l)) (ap (λ r. (world_in (plain_progress r)).output) q) f
+  bare_reached last front (bare.write_failed i rest l q p d) = record {
+    made = i + 1;
+    within = omega (arith, l);
+    rest = rest;
+    output_is = ap (λ r. (world_in (plain_progress r)).output)
+        (bare_runs.run_more i w last (delayed.Writes (front ++ rest) p.0) _ q p.1 refl) ∙ sym (append_assoc last.output front rest);
+    whole = λ other. absurd (other d);
+  }
+
+-- a run in a mode: the bytes of its input, and what its output took
+record Output {I O : Type 0} (s : Streams I O) (bare : Bool) (image : Image) (heap stack steps : ℕ) (end : RunEnd) : Type 0 where
+  bytes : List ℕ
+  tells : Tells (s.input.told s.input.before) bytes
+  front : List ℕ
+  takes : Appends (s.out.told s.out.before) (s.out.told s.out.after) front
+  reached : Reached steps (λ made. (world_in (outcome_on bare image heap stack made bytes)).output) end front
+
+outputs : {I O : Type 0} (s : Streams I O) (bare : Bool) (image : Image) (heap stack steps : ℕ) (end : RunEnd) →
+    HasRunBy s bare image heap stack steps end → Output s bare image heap stack steps end
+outputs s true image heap stack steps end h =
     let r = h.ran in
-    on_input s.input.told h.after.input_ended steps _ end r.last r.output r.front r.read s.input.before s.input.after r.stops r.are_bytes r.gives r.meets_end
-
-run_reached : {I O : Type 0} (s : Streams I O) (image : Image) (heap stack steps : ℕ) (end : RunEnd) (h : HasRun s image heap stack steps end) →
-    Reached steps (begun_on (initial_machine image.code image.statics image.entry heap stack) (run_input s image heap stack steps end h).bytes) end
-    (h.ran.output ++ h.ran.front)
-run_reached s image heap stack steps end h =
-    let i = run_input s image heap stack steps end h in
-    reached steps _ end (standing h.ran.last i.left h.ran.output) h.ran.front i.stops
-
-output_of : {I O : Type 0} (s : Streams I O) (mode : Mode) (a : Asked) (text : List ℕ) (image : Image) (end : RunEnd) →
-    IsImageOf mode text image → (h : HasRun s image a.heap a.stack a.steps end) →
-    IsOutput (s.input.told s.input.before) mode a text ((h.ran.output ++ h.ran.front) ++ (run_reached s image a.heap a.stack a.steps end h).rest)
-output_of s mode a text image end is h =
-    let r = run_reached s image a.heap a.stack a.steps end h in
+    let first = initial_bare image.code image.statics image.entry heap stack in
+    let i = on_input s.input.told h.after.input_ended r.read
+    (λ bytes left. BareStops steps (bare_begun first bytes) end (bare_standing r.last left r.output) r.front)
+    s.input.before s.input.after r.stops r.are_bytes r.gives r.meets_end in
     record {
-      image = image;
-      is_of = is;
-      input = (run_input s image a.heap a.stack a.steps end h).bytes;
-      tells = (run_input s image a.heap a.stack a.steps end h).tells;
-      made = r.made;
-      within = r.within;
-      written_is = sym r.output_is;
+      bytes = i.bytes;
+      tells = i.tells;
+      front = r.output ++ r.front;
+      takes = r.writes;
+      reached = bare_reached steps (bare_begun first i.bytes) end (bare_standing r.last i.left r.output) r.front i.stops;
     }
+outputs s false image heap stack steps end h =
+    let r = h.ran in
+    let first = initial_machine image.code image.statics image.entry heap stack in
+    let i = on_input s.input.told h.after.input_ended r.read
+    (λ bytes left. Stops steps (begun_on first bytes) end (standing r.last left r.output) r.front)
+    s.input.before s.input.after r.stops r.are_bytes r.gives r.meets_end in
+    record {
+      bytes = i.bytes;
+      tells = i.tells;
+      front = r.output ++ r.front;
+      takes = r.writes;
+      reached = reached steps (begun_on first i.bytes) end (standing r.last i.left r.output) r.front i.stops;
+    }
+
+output_of : {I O : Type 0} (s : Streams I O) (bare : Bool) (mode : Mode) (a : Asked) (text : List ℕ) (image : Image) (end : RunEnd) →
+    IsImageOf mode text image → (o : Output s bare image a.heap a.stack a.steps end) →
+    IsOutput (s.input.told s.input.before) bare mode a text (o.front ++ o.reached.rest)
+output_of s bare mode a text image end is o = record {
+  image = image;
+  is_of = is;
+  input = o.bytes;
+  tells = o.tells;
+  made = o.reached.made;
+  within = o.reached.within;
+  written_is = sym o.reached.output_is;
+}
 
 -- a run's output, and what came of its summary
 after_summary : {O : Type 0} (out : Stream O) (between : O) (functions source count : ℕ) (end : RunEnd) (answer : Answer) (front rest : List ℕ) →
@@ -181,30 +227,34 @@ module _ {H I O : Type 0} (rule : SpillRule) (shelf : Shelved H) (s : Streams I 
   wrote_text mode writes _ text other has front started h = absurd h
 
   -- a run of an image
-  wrote_run : (mode : Mode) (text : List ℕ) (image : Image) (end : RunEnd) → (mode ≡ Gen → ⊥) →
-      ((written : List ℕ) → IsOutput (s.input.told s.input.before) mode a text written → HasToWrite rule (s.input.told s.input.before) mode a text written) →
-      IsFilePrefix (shelf.files shelf.before) a.file (most_of mode) text → IsImageOf mode text image → HasRun s image a.heap a.stack a.steps end →
+  wrote_run : (bare : Bool) (mode : Mode) (text : List ℕ) (image : Image) (end : RunEnd) → (mode ≡ Gen → ⊥) →
+      ((written : List ℕ) → IsOutput (s.input.told s.input.before) bare mode a text written →
+      HasToWrite rule (s.input.told s.input.before) mode a text written) →
+      IsFilePrefix (shelf.files shelf.before) a.file (most_of mode) text → IsImageOf mode text image → HasRunBy s bare image a.heap a.stack a.steps end →
       Wrote rule mode shelf s a
-  wrote_run mode text image end other has front is h = record {
-    text = text;
-    reads = λ _. front;
-    generates = λ gen. absurd (other gen);
-    written = _;
-    has_to = has _ (output_of s mode a text image end is h);
-    takes = (h.ran.output ++ h.ran.front, (run_reached s image a.heap a.stack a.steps end h).rest, refl, h.ran.writes);
-  }
+  wrote_run bare mode text image end other has front is h =
+      let o = outputs s bare image a.heap a.stack a.steps end h in
+      record {
+        text = text;
+        reads = λ _. front;
+        generates = λ gen. absurd (other gen);
+        written = o.front ++ o.reached.rest;
+        has_to = has _ (output_of s bare mode a text image end is o);
+        takes = (o.front, o.reached.rest, refl, o.takes);
+      }
 
   wrote_meant : (answer : Answer) (text : List ℕ) → IsFilePrefix (shelf.files shelf.before) a.file 262145 text → HasStarted answer →
       IsRun (HasRun s) a text answer → Wrote rule Run shelf s a
   wrote_meant (Finished end) text front started h =
-      wrote_run Run text h.ran.image end (λ is. absurd (cc)) (λ written o. o) front
+      wrote_run false Run text h.ran.image end (λ is. absurd (cc)) (λ written o. o) front
       (record { assembly = h.assembly; meant = h.meant; assembles = h.ran.assembles }) h.ran.run
   wrote_meant (Faulty f) text front started h = absurd started
   wrote_meant _ text front started h = absurd h
 
   wrote_executed : (answer : Answer) (text : List ℕ) → IsFilePrefix (shelf.files shelf.before) a.file 67108865 text → HasStarted answer →
-      IsExecuted (HasRun s) a text answer → Wrote rule Exec shelf s a
-  wrote_executed (Finished end) text front started h = wrote_run Exec text h.image end (λ is. absurd (cc)) (λ written o. o) front h.assembles h.run
+      IsExecuted (HasRunBy s a.flags.bare) a text answer → Wrote rule Exec shelf s a
+  wrote_executed (Finished end) text front started h = wrote_run a.flags.bare Exec text h.image end (λ is. absurd (cc))
+      (λ written o. o) front h.assembles h.run
   wrote_executed TooLong text front started h = absurd started
   wrote_executed (BadLine r n) text front started h = absurd started
   wrote_executed _ text front started h = absurd h
@@ -215,10 +265,10 @@ module _ {H I O : Type 0} (rule : SpillRule) (shelf : Shelved H) (s : Streams I 
       let sums = h.ends.ran.run in
       let t = streams_of (no_input sums.input) (stream_of s.out.told s.out.faults s.out.before sums.between) in
       let image = h.ends.ran.image in
-      let r = run_reached t image a.heap a.stack a.steps h.end sums.run in
+      let o = outputs t false image a.heap a.stack a.steps h.end sums.run in
       let is : IsImageOf Gen (generated a.number) image =
       record { assembly = h.ends.assembly; meant = h.ends.meant; assembles = h.ends.ran.assembles } in
-      let output = (sums.run.ran.output ++ sums.run.ran.front) ++ r.rest in
+      let output = o.front ++ o.reached.rest in
       let line = summary a.number (length (generated a.number)) sums.run.after.written (end_status h.end) in
       record {
         text = generated a.number;
@@ -227,33 +277,37 @@ module _ {H I O : Type 0} (rule : SpillRule) (shelf : Shelved H) (s : Streams I 
         written = output ++ line;
         has_to = record {
           output = output;
-          is_output = output_of t Gen a (generated a.number) image h.end is sums.run;
+          is_output = output_of t false Gen a (generated a.number) image h.end is o;
           count = sums.run.after.written;
           status = end_status h.end;
           written_is = refl;
         };
         takes = after_summary s.out sums.between a.number (length (generated a.number)) sums.run.after.written h.end answer
-            (sums.run.ran.output ++ sums.run.ran.front) r.rest r.whole sums.run.ran.writes
+            o.front o.reached.rest o.reached.whole o.takes
             (summed_by (stream_of s.out.told s.out.faults sums.between s.out.after) _ _ _ h.end answer sums.sums_up);
       }
 
-  wrote : (mode : Mode) (answer : Answer) → HasStarted answer → InMode rule (HasRun s) mode shelf s a answer → Wrote rule mode shelf s a
-  wrote Check answer started h = of_file shelf a.file 262145 IsChecked answer started h.1 (λ text front due. checked answer text started due)
+  wrote : (mode : Mode) (answer : Answer) → flags_fit mode a.flags ≡ true → HasStarted answer →
+      InMode rule (HasRunBy s a.flags.bare) mode shelf s a answer → Wrote rule mode shelf s a
+  wrote Check answer fit started h = of_file shelf a.file 262145 IsChecked answer started h.1 (λ text front due. checked answer text started due)
     where
       checked : (answer : Answer) (text : List ℕ) → HasStarted answer → IsChecked text answer → Wrote rule Check shelf s a
       checked (Faulty f) text started h = absurd started
       checked Accepted text started h = absurd started
       checked _ text started h = absurd h
-  wrote Build answer started h = of_file shelf a.file 262145 _ answer started h.2
+  wrote Build answer fit started h = of_file shelf a.file 262145 _ answer started h.2
       (λ text front due. wrote_text Build _ answer text (λ is. absurd (cc)) (λ written is. is) front started due)
-  wrote Run answer started h = of_file shelf a.file 262145 _ answer started h.1 (λ text front due. wrote_meant answer text front started due)
-  wrote Exec answer started h = of_file shelf a.file 67108865 _ answer started h.1 (λ text front due. wrote_executed answer text front started due)
-  wrote Alloc answer started h = of_file shelf a.file 262145 _ answer started h.2
+  wrote Run answer fit started h =
+      let P : Bool → Type 0 = λ bare. InMode rule (HasRunBy s bare) Run shelf s a answer in
+      of_file shelf a.file 262145 _ answer started (subst P (plain_in_run a.flags fit) h).1
+      (λ text front due. wrote_meant answer text front started due)
+  wrote Exec answer fit started h = of_file shelf a.file 67108865 _ answer started h.1 (λ text front due. wrote_executed answer text front started due)
+  wrote Alloc answer fit started h = of_file shelf a.file 262145 _ answer started h.2
       (λ text front due. wrote_text Alloc _ answer text (λ is. absurd (cc)) (λ written is. is) front started due)
-  wrote Show answer started h = of_file shelf a.file 262145 _ answer started h.2
+  wrote Show answer fit started h = of_file shelf a.file 262145 _ answer started h.2
       (λ text front due. wrote_text Show _ answer text (λ is. absurd (cc)) (λ written is. is) front started due)
-  wrote Gen answer started h = wrote_summary answer h.3
-  wrote Format answer started h = of_file shelf a.file 262145 _ answer started h.2 (λ text front due. formatted answer text front started due)
+  wrote Gen answer fit started h = wrote_summary answer h.3
+  wrote Format answer fit started h = of_file shelf a.file 262145 _ answer started h.2 (λ text front due. formatted answer text front started due)
     where
       formatted : (answer : Answer) (text : List ℕ) → IsFilePrefix (shelf.files shelf.before) a.file 262145 text → HasStarted answer →
           IsFormatted s.out text answer → Wrote rule Format shelf s a
@@ -263,10 +317,11 @@ module _ {H I O : Type 0} (rule : SpillRule) (shelf : Shelved H) (s : Streams I 
       formatted _ text front started h = absurd h
 
 -- what failed, by its count
-caused_end : {I O : Type 0} (s : Streams I O) (image : Image) (heap stack steps : ℕ) (end : RunEnd) → HasRun s image heap stack steps end → IsCausedEnd s end
-caused_end s image heap stack steps ReadFault h = h.ran.read_cause refl
-caused_end s image heap stack steps WriteFault h = h.ran.write_cause refl
-caused_end s image heap stack steps _ h = tt
+caused_end : {I O : Type 0} (s : Streams I O) (bare : Bool) (image : Image) (heap stack steps : ℕ) (end : RunEnd) →
+    HasRunBy s bare image heap stack steps end → IsCausedEnd s end
+caused_end s bare image heap stack steps ReadFault h = read_cause s bare image heap stack steps ReadFault h refl
+caused_end s bare image heap stack steps WriteFault h = write_cause s bare image heap stack steps WriteFault h refl
+caused_end s bare image heap stack steps _ h = tt
 
 failed_text : {O : Type 0} (out : Stream O) (due : List ℕ) → Takes out due Written Unwritten Unwritten → HasFailed out
 failed_text out due (nothing none is stays) = absurd (cc)
@@ -279,15 +334,17 @@ caused_text s writes text Unwritten h = failed_text s.out h.written h.takes
 caused_text s writes text (Finished end) h = absurd h
 caused_text s writes text _ h = tt
 
-caused_run : {I O : Type 0} (s : Streams I O) (a : Asked) (text : List ℕ) (answer : Answer) → IsRun (HasRun s) a text answer → IsCaused s answer
-caused_run s a text Unwritten h = absurd h
-caused_run s a text (Finished end) h = caused_end s h.ran.image a.heap a.stack a.steps end h.ran.run
-caused_run s a text _ h = tt
+caused_run : {I O : Type 0} (s : Streams I O) (bare : Bool) (a : Asked) (text : List ℕ) (answer : Answer) → IsRun (HasRunBy s bare) a text answer →
+    IsCaused s answer
+caused_run s bare a text Unwritten h = absurd h
+caused_run s bare a text (Finished end) h = caused_end s bare h.ran.image a.heap a.stack a.steps end h.ran.run
+caused_run s bare a text _ h = tt
 
-caused_exec : {I O : Type 0} (s : Streams I O) (a : Asked) (text : List ℕ) (answer : Answer) → IsExecuted (HasRun s) a text answer → IsCaused s answer
-caused_exec s a text Unwritten h = absurd h
-caused_exec s a text (Finished end) h = caused_end s h.image a.heap a.stack a.steps end h.run
-caused_exec s a text _ h = tt
+caused_exec : {I O : Type 0} (s : Streams I O) (bare : Bool) (a : Asked) (text : List ℕ) (answer : Answer) →
+    IsExecuted (HasRunBy s bare) a text answer → IsCaused s answer
+caused_exec s bare a text Unwritten h = absurd h
+caused_exec s bare a text (Finished end) h = caused_end s bare h.image a.heap a.stack a.steps end h.run
+caused_exec s bare a text _ h = tt
 
 caused_check : {I O : Type 0} (s : Streams I O) (text : List ℕ) (answer : Answer) → IsChecked text answer → IsCaused s answer
 caused_check s text Unwritten h = absurd h
@@ -335,11 +392,11 @@ for_file shelf name most due answer G none (unreadable is u) then = subst G (sym
 for_file shelf name most due answer G none (read text front h) then = then text h
 
 caused : {H I O : Type 0} (rule : SpillRule) (mode : Mode) (shelf : Shelved H) (s : Streams I O) (a : Asked) (answer : Answer) →
-    InMode rule (HasRun s) mode shelf s a answer → IsCaused s answer
+    InMode rule (HasRunBy s a.flags.bare) mode shelf s a answer → IsCaused s answer
 caused rule Check shelf s a answer h = for_file shelf a.file 262145 _ answer (IsCaused s) tt h.1 (λ text due. caused_check s text answer due)
 caused rule Build shelf s a answer h = for_file shelf a.file 262145 _ answer (IsCaused s) tt h.2 (λ text due. caused_text s _ text answer due)
-caused rule Run shelf s a answer h = for_file shelf a.file 262145 _ answer (IsCaused s) tt h.1 (λ text due. caused_run s a text answer due)
-caused rule Exec shelf s a answer h = for_file shelf a.file 67108865 _ answer (IsCaused s) tt h.1 (λ text due. caused_exec s a text answer due)
+caused rule Run shelf s a answer h = for_file shelf a.file 262145 _ answer (IsCaused s) tt h.1 (λ text due. caused_run s a.flags.bare a text answer due)
+caused rule Exec shelf s a answer h = for_file shelf a.file 67108865 _ answer (IsCaused s) tt h.1 (λ text due. caused_exec s a.flags.bare a text answer due)
 caused rule Alloc shelf s a answer h = for_file shelf a.file 262145 _ answer (IsCaused s) tt h.2 (λ text due. caused_text s _ text answer due)
 caused rule Show shelf s a answer h = for_file shelf a.file 262145 _ answer (IsCaused s) tt h.2 (λ text due. caused_text s _ text answer due)
 caused rule Gen shelf s a answer h = caused_gen s a answer h.3
@@ -368,7 +425,7 @@ record Unread {H : Type 0} (mode : Mode) (shelf : Shelved H) (a : Asked) : Type 
   unread : IsUnread shelf a.file
 
 unread_in : {H I O : Type 0} (rule : SpillRule) (mode : Mode) (shelf : Shelved H) (s : Streams I O) (a : Asked) →
-    InMode rule (HasRun s) mode shelf s a Unreadable → Unread mode shelf a
+    InMode rule (HasRunBy s a.flags.bare) mode shelf s a Unreadable → Unread mode shelf a
 unread_in rule Check shelf s a h = record { reads = tt; unread = file_of shelf a.file 262145 _ (λ text due. due) h.1 }
 unread_in rule Build shelf s a h = record { reads = tt; unread = file_of shelf a.file 262145 _ (λ text due. due) h.2 }
 unread_in rule Run shelf s a h = record { reads = tt; unread = file_of shelf a.file 262145 _ (λ text due. due) h.1 }
@@ -379,7 +436,7 @@ unread_in rule Gen shelf s a h = absurd (no_generated s.out a h.3)
 unread_in rule Format shelf s a h = record { reads = tt; unread = file_of shelf a.file 262145 _ (λ text due. due) h.2 }
 
 input_stays : {H I O : Type 0} (rule : SpillRule) (mode : Mode) (shelf : Shelved H) (s : Streams I O) (a : Asked) (answer : Answer) →
-    ReadsNoInput mode → InMode rule (HasRun s) mode shelf s a answer → Stays s.input
+    ReadsNoInput mode → InMode rule (HasRunBy s a.flags.bare) mode shelf s a answer → Stays s.input
 input_stays rule Check shelf s a answer none h = h.0.0
 input_stays rule Build shelf s a answer none h = h.0
 input_stays rule Run shelf s a answer none h = absurd none
@@ -412,34 +469,34 @@ told_74 c status reports answer h (all some is line) e = blamed c answer (sym is
 told_74 c status reports answer h (part is some f front) e = inr (inr (inr f))
 
 module _ {H I O E : Type 0} (c : Call H I O E) (answer : Answer) where
-  caused_due : IsDue c.rule (λ _. HasRun c.streams) c.words c.shelf c.streams answer → IsCaused c.streams answer
+  caused_due : IsDue c.rule (λ a. HasRunBy c.streams a.flags.bare) c.words c.shelf c.streams answer → IsCaused c.streams answer
   caused_due (usage is fault same u) = subst (IsCaused c.streams) (sym is) tt
   caused_due (no_memory is kept u) = subst (IsCaused c.streams) (sym is) tt
   caused_due (asked a ask h) = caused c.rule a.mode c.shelf c.streams a answer h
 
-  unread_due : IsDue c.rule (λ _. HasRun c.streams) c.words c.shelf c.streams answer → (b : Asked) → Ask c.words b → LeavesUnread c b
+  unread_due : IsDue c.rule (λ a. HasRunBy c.streams a.flags.bare) c.words c.shelf c.streams answer → (b : Asked) → Ask c.words b → LeavesUnread c b
   unread_due (usage is fault same u) b other = record { input = λ _. u.0; shelf = λ _. same }
   unread_due (no_memory is kept u) b other = record { input = λ _. u.0; shelf = kept b other }
   unread_due (asked a ask h) b other =
       let P : Asked → Type 0 = λ x. ReadsNoInput x.mode → Stays c.streams.input in
       record {
         input = subst P (asked_once c.words a b ask other) (λ none. input_stays c.rule a.mode c.shelf c.streams a answer none h);
-        shelf = stays_in_gen (texts_meant c.rule) (λ _. HasRun c.streams) c.words c.shelf c.streams answer (asked a ask h) b other;
+        shelf = stays_in_gen (texts_meant c.rule) (λ a. HasRunBy c.streams a.flags.bare) c.words c.shelf c.streams answer (asked a ask h) b other;
       }
 
-  unreadable_due : IsDue c.rule (λ _. HasRun c.streams) c.words c.shelf c.streams answer → answer ≡ Unreadable → IsFileUnread c
+  unreadable_due : IsDue c.rule (λ a. HasRunBy c.streams a.flags.bare) c.words c.shelf c.streams answer → answer ≡ Unreadable → IsFileUnread c
   unreadable_due (usage is fault same u) e = let no : Usage ≡ Unreadable = sym is ∙ e in absurd (cc)
   unreadable_due (no_memory is kept u) e = let no : OutOfMemory ≡ Unreadable = sym is ∙ e in absurd (cc)
   unreadable_due (asked a ask h) e =
-      let P : Answer → Type 0 = λ x. InMode c.rule (HasRun c.streams) a.mode c.shelf c.streams a x in
+      let P : Answer → Type 0 = λ x. InMode c.rule (HasRunBy c.streams a.flags.bare) a.mode c.shelf c.streams a x in
       let it = unread_in c.rule a.mode c.shelf c.streams a (subst P e h) in
       record { asked = a; ask = ask; reads = it.reads; unread = it.unread }
 
-  front_due : IsDue c.rule (λ _. HasRun c.streams) c.words c.shelf c.streams answer → HasStarted answer → WritesPrefix c
+  front_due : IsDue c.rule (λ a. HasRunBy c.streams a.flags.bare) c.words c.shelf c.streams answer → HasStarted answer → WritesPrefix c
   front_due (usage is fault same u) started = absurd (subst HasStarted is started)
   front_due (no_memory is kept u) started = absurd (subst HasStarted is started)
   front_due (asked a ask h) started =
-      let it = wrote c.rule c.shelf c.streams a a.mode answer started h in
+      let it = wrote c.rule c.shelf c.streams a a.mode answer ask.flags.fit started h in
       record {
         asked = a;
         ask = ask;
@@ -453,11 +510,11 @@ module _ {H I O E : Type 0} (c : Call H I O E) (answer : Answer) where
 
 pub safe : {H I O E : Type 0} (c : Call H I O E) (status : ℕ) (given : Answers c status) → IsSafe c status given.reports given.answer
 safe c status given =
-    let due = due_more (texts_meant c.rule) (told_runs c given.reports) (λ _. HasRun c.streams) c.words c.shelf c.streams given.answer
-    (λ a image end is. run_in c.streams (if_watched a.flags c.reporters) given.reports image a.heap a.stack a.steps end) given.due in
+    let due = due_more (texts_meant c.rule) (told_runs c given.reports) (λ a. HasRunBy c.streams a.flags.bare) c.words c.shelf c.streams given.answer
+    (λ a image end is. run_of c.streams a.flags.bare (if_watched a.flags c.reporters) given.reports image a.heap a.stack a.steps end) given.due in
     let caused = caused_due c given.answer due in
     record {
-      refused = λ before. left_alone (texts_meant c.rule) (λ _. HasRun c.streams) c.words c.shelf c.streams given.answer before due;
+      refused = λ before. left_alone (texts_meant c.rule) (λ a. HasRunBy c.streams a.flags.bare) c.words c.shelf c.streams given.answer before due;
       unread = unread_due c given.answer due;
       unreadable = unreadable_due c given.answer due;
       front = front_due c given.answer due;

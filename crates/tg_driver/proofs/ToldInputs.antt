@@ -1,10 +1,8 @@
 -- The bytes on which a call of a loaded machine ran: those that its source tells, or those that it read where the source tells none.
 use Rattle.std.proofs.Common.{ℕ, ◌≡◌, List, [], ◌++◌, Bool, true, false, Option, Some, None, refl, sym, ap, subst, ◌∙◌, append-nil}
 use Rattle.std.specs.Io.KnownBytes.{Consumes, IsAtEnd}
-use Rattle.tg_machine_state.specs.declared.ends.RunEnd.{RunEnd}
-use Rattle.tg_machine_state.specs.State.{MachineState}
 use Rattle.tg_simulation.specs.Bytes.{AreBytes}
-use Rattle.tg_machine.specs.Ran.{Stops, MayFollow, MeetsEnd, begun_on, standing}
+use Rattle.tg_machine.specs.Ran.{MayFollow, MeetsEnd}
 use Rattle.tg_machine.specs.Fetches.{rest_after}
 use Rattle.tg_machine.proofs.Fetching.{may_rest}
 use Rattle.tg_machine.proofs.Reached.{none_follows}
@@ -35,22 +33,20 @@ pub lost : {I : Type 0} (told : I → Option (List ℕ)) (ended : Bool) (read by
     Consumes (told input) (told input') read → MeetsEnd told false ended read input input' → told input ≡ Some bytes → Lost (told input') ended read bytes
 lost told ended read bytes input input' c h is = lost_by (told input) (told input') ended read bytes c (at_end told ended read input input' h) is
 
--- how a call stopped, on the bytes of its input
-pub record OnInput (told : Option (List ℕ)) (n : ℕ) (first : MachineState) (end : RunEnd) (last : MachineState) (output front read : List ℕ) : Type 0 where
+-- how a run stopped, on the bytes of its input
+pub record OnInput (told : Option (List ℕ)) (read : List ℕ) (StopsOn : (bytes left : List ℕ) → Type 0) : Type 0 where
   pub bytes : List ℕ
   pub left : List ℕ
   pub tells : Tells told bytes
   pub whole : bytes ≡ read ++ left
-  pub stops : Stops n (begun_on first bytes) end (standing last left output) front
+  pub stops : StopsOn bytes left
 
-pub on_input : {I : Type 0} (told : I → Option (List ℕ)) (ended : Bool) (n : ℕ) (first : MachineState) (end : RunEnd) (last : MachineState)
-    (output front read : List ℕ) (input input' : I) →
-    ((rest : List ℕ) → MayFollow ended rest → Stops n (begun_on first (read ++ rest)) end (standing last rest output) front) →
-    AreBytes read → Consumes (told input) (told input') read → MeetsEnd told false ended read input input' →
-    OnInput (told input) n first end last output front read
-on_input told ended n first end last output front read input input' stops are c h = by (told input) refl
+pub on_input : {I : Type 0} (told : I → Option (List ℕ)) (ended : Bool) (read : List ℕ) (StopsOn : (bytes left : List ℕ) → Type 0) (input input' : I) →
+    ((rest : List ℕ) → MayFollow ended rest → StopsOn (read ++ rest) rest) →
+    AreBytes read → Consumes (told input) (told input') read → MeetsEnd told false ended read input input' → OnInput (told input) read StopsOn
+on_input told ended read StopsOn input input' stops are c h = by (told input) refl
   where
-    by : (o : Option (List ℕ)) → told input ≡ o → OnInput o n first end last output front read
+    by : (o : Option (List ℕ)) → told input ≡ o → OnInput o read StopsOn
     by None is = record {
       bytes = read ++ [];
       left = [];

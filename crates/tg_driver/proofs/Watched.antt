@@ -8,6 +8,8 @@ use Rattle.tg_machine.specs.Fetches.{IsWatched, fetches_until, rest_after}
 use Rattle.tg_machine.proofs.Fetching.{may_rest}
 use Rattle.tg_machine.specs.Machines.{Simulated, loaded}
 use Rattle.tg_machine.specs.Ran.{IsSimulation}
+use Rattle.tg_bare.specs.Machines.{BareSimulated, loaded_bare}
+use Rattle.tg_bare.specs.Ran.{IsBareSimulation}
 use Rattle.tg_irc_definition.specs.Policies.{Rule as SpillRule}
 use Rattle.tg_profiler.specs.Told.{reports_text}
 use Rattle.tg_profiler.specs.Telling.{HasTold}
@@ -17,14 +19,15 @@ use Rattle.tg_command.specs.declared.flags.Flags.{Flags}
 use Rattle.tg_command.specs.declared.modes.Mode.{Mode}
 use Rattle.tg_command.specs.declared.modes.Mode.TheVariants.{Check, Build, Run, Exec, Alloc, Show, Gen, Format}
 use Rattle.tg_command.specs.Commands.{Asked, Ask}
+use Rattle.tg_command.specs.Flagged.{flags_fit}
 use Rattle.tg_command.proofs.CommandLemmas.{asked_once}
 use Rattle.tg_driver.specs.declared.answers.Answer.{Answer}
 use Rattle.tg_driver.specs.declared.answers.Answer.TheVariants.{Usage, Faulty, BadLine, TooLong, Written, Unwritten, OutOfMemory, Finished}
 use Rattle.tg_driver.specs.Calls.{Stream, stream_of, Streams, streams_of, Shelved, Call, Takes, part}
 use Rattle.tg_driver.specs.OfFiles.{OfFile, unreadable, read}
-use Rattle.tg_driver.specs.glue.PrivateCalls.{HasStarted}
+use Rattle.tg_driver.specs.glue.PrivateCalls.{HasStarted, IsRunOrMemory, OrMemory}
 use Rattle.tg_driver.specs.Passes.{passes_of}
-use Rattle.tg_driver.specs.Runs.{RunRelation}
+use Rattle.tg_driver.specs.Runs.{RunRelation, HasBareRun, HasRunBy}
 use Rattle.tg_driver.specs.RunMode.{IsRunBy}
 use Rattle.tg_driver.specs.GenMode.{IsGeneratedBy}
 use Rattle.tg_driver.specs.Writing.{TextRelation, Texts, IsWritten}
@@ -36,9 +39,10 @@ use Rattle.tg_driver.specs.Modes.{InModeBy, texts_meant}
 use Rattle.tg_driver.specs.glue.PrivateCalls.{ReadsNoInput}
 use Rattle.tg_driver.specs.Answered.{IsDueBy, NoneUnasked, told_runs, usage, no_memory, asked, AnswersBy}
 use Rattle.tg_driver.specs.glue.PrivateCalls.{IsReported}
-use Rattle.tg_driver.specs.Watching.{HasToldRun, NoneBeforeEnd, if_watched}
-use Rattle.tg_driver.specs.glue.Watched.{HasWatchedRun, Tell, TellAfter}
+use Rattle.tg_driver.specs.Watching.{HasToldRun, HasToldRunBy, NoneBeforeEnd, if_watched}
+use Rattle.tg_driver.specs.glue.Watched.{HasWatchedRun, HasWatchedRunBy, HasUnseenRun, Tell, TellAfter}
 use Rattle.tg_driver.proofs.AnswerLemmas.{answers_of, took_all}
+use Rattle.tg_driver.proofs.FlagLemmas.{bare_unwatched, plain_in_run}
 
 -- what is said of the run of an answer
 abbrev pub SaidMore : (runs others : RunRelation) → Asked → Answer → Type 0
@@ -109,7 +113,7 @@ module _ {W I O : Type 0} (stands : W → List Seen → ℕ → Type 0) (report 
   -- of a run in a mode: the reports, and who tells them
   record Told {H : Type 0} (texts : Texts) (mode : Mode) (shelf : Shelved H) (a : Asked) (end : RunEnd) (old : List W) : Type 0 where
     reports : List ℕ
-    in_mode : InModeBy texts (HasToldRun s (map report old) reports) mode shelf s a (Finished end)
+    in_mode : InModeBy texts (HasToldRunBy s a.flags.bare (map report old) reports) mode shelf s a (Finished end)
     tell : Tell stands report new reports
     none : old ≡ [] → reports ≡ []
 
@@ -138,56 +142,79 @@ module _ {W I O : Type 0} (stands : W → List Seen → ℕ → Type 0) (report 
     reports_are = ap (λ l. reports_text l h.seen (length image.code)) (sym h.have_seen.same);
   }
 
-  told_run : {H : Type 0} (texts : Texts) (shelf : Shelved H) (a : Asked) (end : RunEnd) (old : List W) →
-      OfFile shelf a.file 262145 (IsRunBy (texts.assembly (passes_of a)) (HasWatchedRun stands report old new s) a) (Finished end) →
+  -- of a run of the machine that is asked for: the reports, and who tells them
+  record ToldRun (bare : Bool) (old : List W) (image : Image) (heap stack steps : ℕ) (end : RunEnd) : Type 0 where
+    reports : List ℕ
+    run : HasToldRunBy s bare (map report old) reports image heap stack steps end
+    tell : Tell stands report new reports
+    none : old ≡ [] → reports ≡ []
+
+  told_run : (bare : Bool) (old : List W) (image : Image) (heap stack steps : ℕ) (end : RunEnd) → (bare ≡ true → old ≡ []) →
+      HasWatchedRunBy stands report bare old new s image heap stack steps end → ToldRun bare old image heap stack steps end
+  told_run true old image heap stack steps end unwatched h = record {
+    reports = [];
+    run = record { run = h.run; none = refl };
+    tell = tell_none (h.same ∙ unwatched refl);
+    none = λ is. refl;
+  }
+  told_run false old image heap stack steps end unwatched h = record {
+    reports = reports_text (map report old) h.seen (length image.code);
+    run = told_of old image heap stack steps end h;
+    tell = tell_of old image heap stack steps end h;
+    none = λ is. ap (λ l. reports_text (map report l) h.seen (length image.code)) is;
+  }
+
+  told_source : {H : Type 0} (texts : Texts) (shelf : Shelved H) (a : Asked) (end : RunEnd) (old : List W) → (a.flags.bare ≡ true → old ≡ []) →
+      OfFile shelf a.file 262145 (IsRunBy (texts.assembly (passes_of a)) (HasWatchedRunBy stands report a.flags.bare old new s) a) (Finished end) →
       Told texts Run shelf a end old
-  told_run texts shelf a end old (unreadable is u) = absurd (cc)
-  told_run texts shelf a end old (read text front h) =
+  told_source texts shelf a end old unwatched (unreadable is u) = absurd (cc)
+  told_source texts shelf a end old unwatched (read text front h) =
       let image = h.ran.image in
-      let r = h.ran.run in
+      let t = told_run a.flags.bare old image a.heap a.stack a.steps end unwatched h.ran.run in
       record {
-        reports = reports_text (map report old) r.seen (length image.code);
+        reports = t.reports;
         in_mode = (
           tt,
           read text front (record {
             assembly = h.assembly;
             meant = h.meant;
-            ran = record { image = image; assembles = h.ran.assembles; run = told_of old image a.heap a.stack a.steps end r };
+            ran = record { image = image; assembles = h.ran.assembles; run = t.run };
           }),
         );
-        tell = tell_of old image a.heap a.stack a.steps end r;
-        none = λ is. ap (λ l. reports_text (map report l) r.seen (length image.code)) is;
+        tell = t.tell;
+        none = t.none;
       }
 
-  told_exec : {H : Type 0} (texts : Texts) (shelf : Shelved H) (a : Asked) (end : RunEnd) (old : List W) →
-      OfFile shelf a.file 67108865 (IsExecuted (HasWatchedRun stands report old new s) a) (Finished end) → Told texts Exec shelf a end old
-  told_exec texts shelf a end old (unreadable is u) = absurd (cc)
-  told_exec texts shelf a end old (read text front h) =
-      let run = told_of old h.image a.heap a.stack a.steps end h.run in
+  told_exec : {H : Type 0} (texts : Texts) (shelf : Shelved H) (a : Asked) (end : RunEnd) (old : List W) → (a.flags.bare ≡ true → old ≡ []) →
+      OfFile shelf a.file 67108865 (IsExecuted (HasWatchedRunBy stands report a.flags.bare old new s) a) (Finished end) →
+      Told texts Exec shelf a end old
+  told_exec texts shelf a end old unwatched (unreadable is u) = absurd (cc)
+  told_exec texts shelf a end old unwatched (read text front h) =
+      let t = told_run a.flags.bare old h.image a.heap a.stack a.steps end unwatched h.run in
       record {
-        reports = reports_text (map report old) h.run.seen (length h.image.code);
-        in_mode = (tt, read text front (record { short = h.short; image = h.image; assembles = h.assembles; run = run }));
-        tell = tell_of old h.image a.heap a.stack a.steps end h.run;
-        none = λ is. ap (λ l. reports_text (map report l) h.run.seen (length h.image.code)) is;
+        reports = t.reports;
+        in_mode = (tt, read text front (record { short = h.short; image = h.image; assembles = h.assembles; run = t.run }));
+        tell = t.tell;
+        none = t.none;
       }
 
   told_in : {H : Type 0} (texts : Texts) (mode : Mode) (shelf : Shelved H) (a : Asked) (end : RunEnd) (old : List W) →
-      (ReadsNoInput mode → new ≡ []) → InModeBy texts (HasWatchedRun stands report old new s) mode shelf s a (Finished end) →
-      Told texts mode shelf a end old
-  told_in texts Check shelf a end old others h = record { reports = []; in_mode = h; tell = tell_none (others tt); none = λ _. refl }
-  told_in texts Build shelf a end old others h = record { reports = []; in_mode = h; tell = tell_none (others tt); none = λ _. refl }
-  told_in texts Run shelf a end old others h = told_run texts shelf a end old h.1
-  told_in texts Exec shelf a end old others h = told_exec texts shelf a end old h.1
-  told_in texts Alloc shelf a end old others h = record { reports = []; in_mode = h; tell = tell_none (others tt); none = λ _. refl }
-  told_in texts Show shelf a end old others h = record { reports = []; in_mode = h; tell = tell_none (others tt); none = λ _. refl }
-  told_in texts Gen shelf a end old others h = record { reports = []; in_mode = h; tell = tell_none (others tt); none = λ _. refl }
-  told_in texts Format shelf a end old others h = record { reports = []; in_mode = h; tell = tell_none (others tt); none = λ _. refl }
+      (ReadsNoInput mode → new ≡ []) → (a.flags.bare ≡ true → old ≡ []) →
+      InModeBy texts (HasWatchedRunBy stands report a.flags.bare old new s) mode shelf s a (Finished end) → Told texts mode shelf a end old
+  told_in texts Check shelf a end old others unwatched h = record { reports = []; in_mode = h; tell = tell_none (others tt); none = λ _. refl }
+  told_in texts Build shelf a end old others unwatched h = record { reports = []; in_mode = h; tell = tell_none (others tt); none = λ _. refl }
+  told_in texts Run shelf a end old others unwatched h = told_source texts shelf a end old unwatched h.1
+  told_in texts Exec shelf a end old others unwatched h = told_exec texts shelf a end old unwatched h.1
+  told_in texts Alloc shelf a end old others unwatched h = record { reports = []; in_mode = h; tell = tell_none (others tt); none = λ _. refl }
+  told_in texts Show shelf a end old others unwatched h = record { reports = []; in_mode = h; tell = tell_none (others tt); none = λ _. refl }
+  told_in texts Gen shelf a end old others unwatched h = record { reports = []; in_mode = h; tell = tell_none (others tt); none = λ _. refl }
+  told_in texts Format shelf a end old others unwatched h = record { reports = []; in_mode = h; tell = tell_none (others tt); none = λ _. refl }
 
   -- of an answer: the reports, and who tells them
   pub record ToldDue {H : Type 0} (texts : Texts) (reporters : List Report) (words : List (List ℕ)) (shelf : Shelved H)
       (answer : Answer) : Type 0 where
     pub reports : List ℕ
-    pub due : IsDueBy texts (λ a. HasToldRun s (if_watched a.flags reporters) reports) words shelf s answer
+    pub due : IsDueBy texts (λ a. HasToldRunBy s a.flags.bare (if_watched a.flags reporters) reports) words shelf s answer
     pub before_end : NoneBeforeEnd reports answer
     pub unasked : NoneUnasked words reports
     pub tell : TellAfter stands report new answer reports
@@ -195,16 +222,18 @@ module _ {W I O : Type 0} (stands : W → List Seen → ℕ → Type 0) (report 
   module _ {H : Type 0} (texts : Texts) (old : List W) (words : List (List ℕ)) (shelf : Shelved H) where
     -- nothing is told of an answer that is no end of a run
     quiet : (answer : Answer) → TellAfter stands report new answer [] →
-        IsDueBy texts (λ a. HasToldRun s (if_watched a.flags (map report old)) []) words shelf s answer →
+        IsDueBy texts (λ a. HasToldRunBy s a.flags.bare (if_watched a.flags (map report old)) []) words shelf s answer →
         ToldDue texts (map report old) words shelf answer
     quiet answer tell due = record { reports = []; due = due; before_end = none_before answer; unasked = λ a ask off. refl; tell = tell }
 
     ended : (end : RunEnd) (a : Asked) → Ask words a → (ReadsNoInput a.mode → new ≡ []) →
-        InModeBy texts (HasWatchedRun stands report (if_watched a.flags old) new s) a.mode shelf s a (Finished end) →
+        InModeBy texts (HasWatchedRunBy stands report a.flags.bare (if_watched a.flags old) new s) a.mode shelf s a (Finished end) →
         ToldDue texts (map report old) words shelf (Finished end)
     ended end a ask others h =
-        let t = told_in texts a.mode shelf a end (if_watched a.flags old) others h in
-        let P : List Report → Type 0 = λ l. InModeBy texts (HasToldRun s l t.reports) a.mode shelf s a (Finished end) in
+        let unwatched : a.flags.bare ≡ true → if_watched a.flags old ≡ [] =
+        λ is. none_watched a.flags old (bare_unwatched a.mode a.flags ask.flags.fit is) in
+        let t = told_in texts a.mode shelf a end (if_watched a.flags old) others unwatched h in
+        let P : List Report → Type 0 = λ l. InModeBy texts (HasToldRunBy s a.flags.bare l t.reports) a.mode shelf s a (Finished end) in
         record {
           reports = t.reports;
           due = asked a ask (subst P (map_watched report a.flags old) t.in_mode);
@@ -216,14 +245,14 @@ module _ {W I O : Type 0} (stands : W → List Seen → ℕ → Type 0) (report 
         }
 
     by_answer : (answer : Answer) (a : Asked) → Ask words a → (HasStarted answer → ReadsNoInput a.mode → new ≡ []) →
-        InModeBy texts (HasWatchedRun stands report (if_watched a.flags old) new s) a.mode shelf s a answer →
+        InModeBy texts (HasWatchedRunBy stands report a.flags.bare (if_watched a.flags old) new s) a.mode shelf s a answer →
         ToldDue texts (map report old) words shelf answer
     by_answer (Finished end) a ask others h = ended end a ask (others tt) h
     by_answer answer a ask others h =
         quiet answer refl (asked a ask (in_mode_more texts _ _ a.mode shelf s a answer (λ image end is. absurd (cc)) h))
 
     pub told_due : (answer : Answer) → (HasStarted answer → (a : Asked) → Ask words a → ReadsNoInput a.mode → new ≡ []) →
-        IsDueBy texts (λ a. HasWatchedRun stands report (if_watched a.flags old) new s) words shelf s answer →
+        IsDueBy texts (λ a. HasWatchedRunBy stands report a.flags.bare (if_watched a.flags old) new s) words shelf s answer →
         ToldDue texts (map report old) words shelf answer
     told_due answer others (usage is fault same u) =
         let P : Answer → Type 0 = λ x. ToldDue texts (map report old) words shelf x in
@@ -337,6 +366,48 @@ saw_all stands report old now left reads taken writes input input' out out' mach
     × HaveSeen stands report old now seen (length m.state.code) in
     let r = subst P is (ran (ap (λ (m : Simulated). m.end) is)) in
     record { seen = r.0; fetched = record { after = new; watched = r.1 }; have_seen = r.2 }
+
+-- a machine with delayed branches that was loaded ran
+pub bare_ran : {I O : Type 0} (left : I → Option (List ℕ)) (reads : I → ℕ) (taken : O → Option (List ℕ)) (writes : O → ℕ) (input input' : I)
+    (out out' : O) (machine new : BareSimulated) (image : Image) (heap stack steps : ℕ) (end : RunEnd) → machine ≡ loaded_bare image heap stack →
+    (machine.end ≡ None → IsBareSimulation left reads taken writes steps machine new input input' out out' end) →
+    HasBareRun (streams_of (stream_of left reads input input') (stream_of taken writes out out')) image heap stack steps end
+bare_ran left reads taken writes input input' out out' machine new image heap stack steps end is ran =
+    let P : BareSimulated → Type 0 = λ m. IsBareSimulation left reads taken writes steps m new input input' out out' end in
+    record { after = new; ran = subst P is (ran (ap (λ (m : BareSimulated). m.end) is)) }
+
+-- what was run by the flag
+pub bare_by_flag : {W I O : Type 0} (stands : W → List Seen → ℕ → Type 0) (report : W → Report) (bare : Bool) (watchers : List W) (s : Streams I O)
+    (image : Image) (heap stack steps : ℕ) (answer : Answer) → bare ≡ true → IsRunOrMemory (HasBareRun s) s image heap stack steps answer →
+    IsRunOrMemory (HasWatchedRunBy stands report bare watchers watchers s) s image heap stack steps answer
+bare_by_flag stands report bare watchers s image heap stack steps answer is h =
+    let P : Bool → Type 0 = λ b. IsRunOrMemory (HasWatchedRunBy stands report b watchers watchers s) s image heap stack steps answer in
+    subst P (sym is) (by answer h)
+  where
+    by : (answer : Answer) → IsRunOrMemory (HasBareRun s) s image heap stack steps answer →
+        IsRunOrMemory (HasUnseenRun watchers watchers s) s image heap stack steps answer
+    by (Finished end) h = record { run = h; same = refl }
+    by OutOfMemory h = h
+    by _ h = absurd h
+
+pub plain_by_flag : {W I O : Type 0} (stands : W → List Seen → ℕ → Type 0) (report : W → Report) (bare : Bool) (old new : List W) (s : Streams I O)
+    (image : Image) (heap stack steps : ℕ) (answer : Answer) → bare ≡ false →
+    IsRunOrMemory (HasWatchedRun stands report old new s) s image heap stack steps answer →
+    IsRunOrMemory (HasWatchedRunBy stands report bare old new s) s image heap stack steps answer
+plain_by_flag stands report bare old new s image heap stack steps answer is h =
+    let P : Bool → Type 0 = λ b. IsRunOrMemory (HasWatchedRunBy stands report b old new s) s image heap stack steps answer in
+    subst P (sym is) h
+
+-- `run` is told so too
+pub run_by_flag : {H W I O : Type 0} (stands : W → List Seen → ℕ → Type 0) (report : W → Report) (old new : List W) (texts : TextRelation)
+    (shelf : Shelved H) (s : Streams I O) (mode : Mode) (a : Asked) (answer : Answer) → mode ≡ Run → flags_fit mode a.flags ≡ true →
+    OrMemory (Unit {0}) (OfFile shelf a.file 262145 (IsRunBy texts (HasWatchedRun stands report old new s) a)) answer →
+    OrMemory (Unit {0}) (OfFile shelf a.file 262145 (IsRunBy texts (HasWatchedRunBy stands report a.flags.bare old new s) a)) answer
+run_by_flag stands report old new texts shelf s mode a answer is fit h =
+    let P : Bool → Type 0 =
+    λ b. OrMemory (Unit {0}) (OfFile shelf a.file 262145 (IsRunBy texts (HasWatchedRunBy stands report b old new s) a)) answer in
+    let fits : flags_fit Run a.flags ≡ true = subst (λ m. flags_fit m a.flags ≡ true) is fit in
+    subst P (sym (plain_in_run a.flags fits)) h
 
 -- watchers that were begun have the reports that they had
 pub begun_before : {W I O : Type 0} (stands : W → List Seen → ℕ → Type 0) (report : W → Report) (old begun now : List W) (s : Streams I O)

@@ -8,7 +8,7 @@ use Rattle.tg_driver.specs.Calls.{Shelved, Streams, Untouched, Call}
 use Rattle.tg_driver.specs.Modes.{InModeBy, texts_meant}
 use Rattle.tg_driver.specs.Runs.{RunRelation}
 use Rattle.tg_driver.specs.Telling.{IsTold}
-use Rattle.tg_driver.specs.Watching.{HasToldRun, NoneBeforeEnd, if_watched}
+use Rattle.tg_driver.specs.Watching.{HasToldRunBy, NoneBeforeEnd, if_watched}
 use Rattle.tg_driver.specs.Writing.{Texts}
 
 -- where the words ask for `gen`, the shelf is as it was
@@ -43,9 +43,11 @@ abbrev pub NoneUnasked : (words : List (List ℕ)) → (reports : List ℕ) → 
 NoneUnasked words reports =
     (a : Asked) → Ask words a → a.flags.watch ≡ false → reports ≡ []
 
--- what is said of the runs of a call whose reports are these
+-- what is said of the runs of a call whose reports are these: they are of the machine that is asked
+-- for
 abbrev pub told_runs : {H I O E : Type 0} → Call H I O E → (reports : List ℕ) → Asked → RunRelation
-told_runs c reports a = HasToldRun c.streams (if_watched a.flags c.reporters) reports
+told_runs c reports a =
+    HasToldRunBy c.streams a.flags.bare (if_watched a.flags c.reporters) reports
 
 -- The answer is due. The error sink took the reports of its run and its line, and the status is its
 -- own; or a write of these failed, and the status is 74.

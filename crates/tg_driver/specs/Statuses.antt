@@ -98,7 +98,7 @@ bad_line_text rule line = codes "line " ++ (decimal line ++ (codes ": " ++ asm_t
 abbrev pub line_of : Answer → List ℕ
 line_of Usage =
     ended (codes "usage: tiger MODE FILE [--heap BYTES] [--stack BYTES] [--steps COUNT]"
-    ++ codes " [--watch] [--fold]")
+    ++ codes " [--watch] [--fold] [--bare]")
 line_of (Faulty fault) = ended (fault_text fault)
 line_of (BadLine rule line) = ended (bad_line_text rule line)
 line_of TooLong = ended (codes "line 1: A10 file too long")

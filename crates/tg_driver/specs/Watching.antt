@@ -1,5 +1,5 @@
 -- Runs that are watched, and what is told of them.
-use Rattle.std.specs.Prelude.{ℕ, ◌≡◌, List, [], length, if◌then◌else◌}
+use Rattle.std.specs.Prelude.{ℕ, ◌≡◌, Bool, true, false, List, [], length, if◌then◌else◌}
 use Rattle.tg_machine_state.specs.declared.ends.RunEnd.{RunEnd}
 use Rattle.tg_isa.specs.declared.images.Image.{Image}
 use Rattle.tg_machine.specs.declared.fetches.Seen.{Seen}
@@ -11,6 +11,7 @@ use Rattle.tg_command.specs.declared.flags.Flags.{Flags}
 use Rattle.tg_driver.specs.declared.answers.Answer.{Answer}
 use Rattle.tg_driver.specs.declared.answers.Answer.TheVariants.{Finished}
 use Rattle.tg_driver.specs.Calls.{Streams}
+use Rattle.tg_driver.specs.Runs.{RunRelation, HasBareRun}
 
 -- those that were handed in, where the flags ask for them
 abbrev pub if_watched : {A : Type 0} → Flags → List A → List A
@@ -31,6 +32,18 @@ pub record HasToldRun {I O : Type 0} (s : Streams I O) (reporters : List Report)
   pub seen : List Seen
   pub fetched : HasFetched s image heap stack steps end seen
   pub reports_are : reports ≡ reports_text reporters seen (length image.code)
+
+-- the machine with delayed branches ran so, and nothing is told of it
+pub record HasUntoldRun {I O : Type 0} (s : Streams I O) (reports : List ℕ)
+    (image : Image) (heap stack steps : ℕ) (end : RunEnd) : Type 0 where
+  pub run : HasBareRun s image heap stack steps end
+  pub none : reports ≡ []
+
+-- the machine that the flag asks for ran so, and this is what is told of that very run
+abbrev pub HasToldRunBy :
+    {I O : Type 0} → Streams I O → (bare : Bool) → List Report → (reports : List ℕ) → RunRelation
+HasToldRunBy s true reporters reports = HasUntoldRun s reports
+HasToldRunBy s false reporters reports = HasToldRun s reporters reports
 
 -- nothing is told of a run where none has ended
 abbrev pub NoneBeforeEnd : (reports : List ℕ) → Answer → Type 0

@@ -39,7 +39,7 @@ pub fn usage() -> &'static str
 {
     concat!(
         "tiger: usage: tiger MODE FILE [--heap BYTES] [--stack BYTES] [--steps COUNT]",
-        " [--watch] [--fold]\n"
+        " [--watch] [--fold] [--bare]\n"
     )
 }
 

@@ -2,17 +2,20 @@ ghost use Rattle.std.specs.Prelude.{◌≡◌, ◌≤◌, ◌<◌, ◌^◌, ℕ,
 ghost use Rattle.tg_machine_state.specs.State.{most_bytes, most_words};
 ghost use Rattle.tg_isa.specs.declared.images.Image.{Image as ImageOf};
 ghost use Rattle.tg_machine.specs.Machines.{loaded};
+ghost use Rattle.tg_bare.specs.Machines.{loaded_bare};
 ghost use Rattle.tg_command.specs.Commands.{KeepsLimits, asked_of};
 ghost use Rattle.tg_driver.specs.Calls.{shelf_of, stream_of, streams_of};
 ghost use Rattle.tg_driver.specs.ExecMode.{IsExecuted};
 ghost use Rattle.tg_driver.specs.OfFiles.{OfFile, UntouchedBeforeStart};
+ghost use Rattle.tg_driver.specs.Runs.{HasBareRun};
 ghost use Rattle.tg_driver.specs.glue.PrivateCalls.{OrMemory, IsRunOrMemory};
-ghost use Rattle.tg_driver.specs.glue.Watched.{HasWatchedRun};
+ghost use Rattle.tg_driver.specs.glue.Watched.{HasWatchedRun, HasWatchedRunBy};
 
 use crate::answers::{Answer, unread};
 use crate::streams::Streams;
 use std::alloc::Global;
 use tg_asm::assemble;
+use tg_bare::{BareMachine, load_bare};
 use tg_base::{Faulty, Shelf, Sink, Source};
 use tg_command::Command;
 use tg_isa::Image;
@@ -34,7 +37,7 @@ pub(crate) fn answer_exec<H: Shelf, I: Source, O: Sink>(
     requires { KeepsLimits (asked_of command.now) }
     ensures due { OrMemory ⊤ (OfFile (shelf_of H.files H.faults shelf.old shelf.new)
         (asked_of command.now).file 67108865
-        (IsExecuted (HasWatchedRun (λ w. stands w) (λ w. report w)
+        (IsExecuted (HasWatchedRunBy (λ w. stands w) (λ w. report w) command.now.flags.bare
         watchers.old.items watchers.new.items (streams_of
         (stream_of I.left I.faults streams.entry.input.now streams.exit.0.now)
         (stream_of O.taken O.faults streams.entry.out.now streams.exit.1.0.now)))
@@ -59,8 +62,8 @@ fn execute_text<I: Source, O: Sink>(
     watchers: &mut Vec<Box<dyn Watcher>>,
 ) -> Answer
     requires { KeepsLimits (asked_of command.now) }
-    ensures due { OrMemory ⊤ (IsExecuted (HasWatchedRun (λ w. stands w) (λ w. report w)
-        watchers.old.items watchers.new.items (streams_of
+    ensures due { OrMemory ⊤ (IsExecuted (HasWatchedRunBy (λ w. stands w) (λ w. report w)
+        command.now.flags.bare watchers.old.items watchers.new.items (streams_of
         (stream_of I.left I.faults streams.entry.input.now streams.exit.0.now)
         (stream_of O.taken O.faults streams.entry.out.now streams.exit.1.0.now)))
         (asked_of command.now) text.now) result }
@@ -72,10 +75,86 @@ fn execute_text<I: Source, O: Sink>(
         return Answer::TooLong;
     }
     match assemble(alloc, text) {
-        Ok(image) => execute(alloc, command, &image, streams, watchers),
+        Ok(image) => execute_asked(alloc, command, &image, streams, watchers),
         Err(Faulty::Bad { rule, at }) => Answer::BadLine(rule, at),
         Err(Faulty::Memory) => Answer::OutOfMemory,
     }
+}
+
+/// Runs an image with the sizes and the steps of a command, on the machine that its flags ask for.
+/// No watcher sees a run of the one with delayed branches.
+fn execute_asked<I: Source, O: Sink>(
+    alloc: Global,
+    command: &Command,
+    image: &Image,
+    streams: Streams<I, O>,
+    watchers: &mut Vec<Box<dyn Watcher>>,
+) -> Answer
+    requires limits { KeepsLimits (asked_of command.now) }
+    requires code { length image.now.code ≤ most_words }
+    requires statics { length image.now.statics ≤ most_bytes }
+    ensures runs { IsRunOrMemory (HasWatchedRunBy (λ w. stands w) (λ w. report w)
+        command.now.flags.bare watchers.old.items watchers.new.items (streams_of
+        (stream_of I.left I.faults streams.entry.input.now streams.exit.0.now)
+        (stream_of O.taken O.faults streams.entry.out.now streams.exit.1.0.now)))
+        (streams_of
+        (stream_of I.left I.faults streams.entry.input.now streams.exit.0.now)
+        (stream_of O.taken O.faults streams.entry.out.now streams.exit.1.0.now))
+        image.now command.now.heap command.now.stack command.now.steps result }
+    ensures before_start { UntouchedBeforeStart (streams_of
+        (stream_of I.left I.faults streams.entry.input.now streams.exit.0.now)
+        (stream_of O.taken O.faults streams.entry.out.now streams.exit.1.0.now)) result }
+{
+    if command.flags.bare {
+        execute_bare(alloc, command, image, streams)
+    } else {
+        execute(alloc, command, image, streams, watchers)
+    }
+}
+
+/// Runs an image on the machine with delayed branches, with the sizes and the steps of a command.
+fn execute_bare<I: Source, O: Sink>(
+    alloc: Global,
+    command: &Command,
+    image: &Image,
+    streams: Streams<I, O>,
+) -> Answer
+    requires limits { KeepsLimits (asked_of command.now) }
+    requires code { length image.now.code ≤ most_words }
+    requires statics { length image.now.statics ≤ most_bytes }
+    ensures runs { IsRunOrMemory (HasBareRun (streams_of
+        (stream_of I.left I.faults streams.entry.input.now streams.exit.0.now)
+        (stream_of O.taken O.faults streams.entry.out.now streams.exit.1.0.now)))
+        (streams_of
+        (stream_of I.left I.faults streams.entry.input.now streams.exit.0.now)
+        (stream_of O.taken O.faults streams.entry.out.now streams.exit.1.0.now))
+        image.now command.now.heap command.now.stack command.now.steps result }
+    ensures before_start { UntouchedBeforeStart (streams_of
+        (stream_of I.left I.faults streams.entry.input.now streams.exit.0.now)
+        (stream_of O.taken O.faults streams.entry.out.now streams.exit.1.0.now)) result }
+{
+    match load_bare(alloc, image, command.heap, command.stack) {
+        Ok(machine) => Answer::Finished(run_bare(machine, streams, command.steps)),
+        Err(_) => Answer::OutOfMemory,
+    }
+}
+
+/// Runs a machine with delayed branches that was loaded.
+fn run_bare<I: Source, O: Sink>(
+    machine: BareMachine,
+    streams: Streams<I, O>,
+    steps: u64,
+) -> RunEnd
+    requires { 0 < steps }
+    ensures { (image : ImageOf) (heap stack : ℕ) → machine ≡ loaded_bare image heap stack
+        → HasBareRun (streams_of
+        (stream_of I.left I.faults streams.entry.input.now streams.exit.0.now)
+        (stream_of O.taken O.faults streams.entry.out.now streams.exit.1.0.now))
+        image heap stack steps result }
+{
+    let mut machine = machine;
+    let Streams { input, out } = streams;
+    machine.run(input, out, steps)
 }
 
 /// Runs an image on the machine with the sizes and the steps of a command.

@@ -3,7 +3,7 @@
 // a text that does what the source means. The law speaks of the bytes of the input, which the
 // contract gives: those that it tells, or those that were read where it tells none.
 
-ghost use Rattle.std.specs.Prelude.{◌≡◌, ◌⊎◌, ℕ, List, [], Some, take};
+ghost use Rattle.std.specs.Prelude.{◌≡◌, ◌⊎◌, ℕ, Bool, List, [], Some, take};
 ghost use Rattle.tg_machine_state.specs.declared.ends.RunEnd.{RunEnd};
 ghost use Rattle.tg_isa.specs.declared.images.Image.{Image};
 ghost use Rattle.tg_profiler.specs.Watching.{Report};
@@ -21,9 +21,9 @@ ghost use Rattle.tg_driver.specs.ExecMode.{IsExecuted};
 ghost use Rattle.tg_driver.specs.FormatMode.{Formats, IsFormatted};
 ghost use Rattle.tg_driver.specs.laws.OfTexts.{TakeOneText, IsDueOfText, most_of};
 ghost use Rattle.tg_driver.specs.glue.PrivateCalls.{HasStarted};
-ghost use Rattle.tg_driver.specs.Runs.{HasRun};
+ghost use Rattle.tg_driver.specs.Runs.{HasRunBy};
 ghost use Rattle.tg_driver.specs.laws.Settled.{IsExact, reports_on};
-ghost use Rattle.tg_driver.specs.Watching.{HasToldRun};
+ghost use Rattle.tg_driver.specs.Watching.{HasToldRunBy};
 ghost use Rattle.tg_driver.specs.laws.Laws.{Gives, IsFaultless, IsGood, IsSettled};
 ghost use Rattle.tg_driver.specs.laws.Meanings.{SourcesAreNeverStuck};
 ghost use Rattle.tg_driver.specs.laws.MeantCommands.{DoesAsMeant};
@@ -39,43 +39,44 @@ use tg_compile_proof::{ends_are_as_meant, exits_are_words};
 pub fn one_answer<I, O>()
     ensures { (s : Streams I O) (reporters others : List Report) (reports told : List ℕ)
         (mode : Mode) (one other : Asked) (text : List ℕ) (a b : Answer)
-        → IsDueOfText (HasToldRun s reporters reports) mode one text a
-        → IsDueOfText (HasToldRun s others told) mode other text b
+        → IsDueOfText (HasToldRunBy s one.flags.bare reporters reports) mode one text a
+        → IsDueOfText (HasToldRunBy s other.flags.bare others told) mode other text b
         → (a ≡ b) ⊎ (HasStarted a × HasStarted b) }
 {}
 
-/// The law that a run ends exactly as the definition's run does on the same bytes, where the input
-/// tells them and no read or write ended it: it writes what that one writes, and leaves what it
-/// leaves, whatever the counts of faults did. So no failed read or write is passed over. It does
-/// nothing.
+/// The law that a run of either machine ends exactly as the definition's run does on the same bytes,
+/// where the input tells them and no read or write ended it: it writes what that one writes, and
+/// leaves what it leaves, whatever the counts of faults did. So no failed read or write is passed
+/// over. It does nothing.
 pub fn runs_are_exact<I, O>()
-    ensures { (s : Streams I O) (image : Image) (heap stack steps : ℕ) (end : RunEnd)
+    ensures { (s : Streams I O) (bare : Bool) (image : Image) (heap stack steps : ℕ) (end : RunEnd)
         (bytes : List ℕ)
-        → HasRun s image heap stack steps end
+        → HasRunBy s bare image heap stack steps end
         → s.input.told s.input.before ≡ Some bytes → IsFaultless (Finished end)
-        → IsExact s image heap stack steps end bytes }
+        → IsExact s bare image heap stack steps end bytes }
 {}
 
 /// The law that what watchers tell of a run are the reports of exactly what the definition's run
-/// fetches on the same bytes, where the input tells them and no read or write ended it. It does
-/// nothing.
+/// fetches on the same bytes, where the input tells them and no read or write ended it; and that of
+/// a run of the machine with delayed branches nothing is told. It does nothing.
 pub fn reports_are_exact<I, O>()
-    ensures { (s : Streams I O) (reporters : List Report) (reports : List ℕ)
+    ensures { (s : Streams I O) (bare : Bool) (reporters : List Report) (reports : List ℕ)
         (image : Image) (heap stack steps : ℕ) (end : RunEnd) (bytes : List ℕ)
-        → HasToldRun s reporters reports image heap stack steps end
+        → HasToldRunBy s bare reporters reports image heap stack steps end
         → s.input.told s.input.before ≡ Some bytes → IsFaultless (Finished end)
-        → reports ≡ reports_on reporters image heap stack steps bytes }
+        → reports ≡ reports_on bare reporters image heap stack steps bytes }
 {}
 
-/// The law that two calls that run one assembly text have one answer where their inputs tell the
-/// same bytes and no read or write ended a run, out of memory aside. It does nothing.
+/// The law that two calls that run one assembly text on one machine have one answer where their
+/// inputs tell the same bytes and no read or write ended a run, out of memory aside. It does
+/// nothing.
 pub fn answers_are_exact<I, O, J, P>()
     ensures { (s : Streams I O) (t : Streams J P) (reporters others : List Report)
         (reports told : List ℕ) (asked : Asked) (text bytes : List ℕ) (a b : Answer)
         → s.input.told s.input.before ≡ Some bytes → t.input.told t.input.before ≡ Some bytes
         → IsFaultless a → IsFaultless b
-        → IsExecuted (HasToldRun s reporters reports) asked text a
-        → IsExecuted (HasToldRun t others told) asked text b
+        → IsExecuted (HasToldRunBy s asked.flags.bare reporters reports) asked text a
+        → IsExecuted (HasToldRunBy t asked.flags.bare others told) asked text b
         → a ≡ b }
 {}
 

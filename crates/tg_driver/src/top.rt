@@ -23,7 +23,7 @@ ghost use Rattle.tg_driver.specs.glue.PrivateCalls.{
 };
 ghost use Rattle.tg_driver.specs.OfFiles.{OfFile};
 ghost use Rattle.tg_driver.specs.Watching.{if_watched};
-ghost use Rattle.tg_driver.specs.glue.Watched.{HasWatchedRun};
+ghost use Rattle.tg_driver.specs.glue.Watched.{HasWatchedRunBy};
 ghost use Rattle.tg_driver.specs.Passes.{passes_of};
 
 use crate::answers::Answer;
@@ -46,8 +46,8 @@ use tg_profiler::Watcher;
 
 /// The program: reads the words of a command, does what they ask, and answers the exit status. What
 /// it compiles is compiled by the policy of the tools. With `--watch` their watchers see the run, and
-/// each tells its report, line by line, on the error sink before the line of the status. The tools
-/// are dropped by the end.
+/// each tells its report, line by line, on the error sink before the line of the status. With
+/// `--bare` the machine of `exec` has delayed branches. The tools are dropped by the end.
 ///
 /// The answer is due both by what sources mean and by what they are compiled to: what `build`
 /// writes, and what `run` and `gen` run, does what the source means, and is an assembly text that
@@ -100,7 +100,7 @@ fn answer_words<H: Shelf, I: Source, O: Sink>(
     watchers: &mut Vec<Box<dyn Watcher>>,
 ) -> Answer
     ensures due { IsDueBy (texts_compiled (rule policy.old))
-        (λ a. HasWatchedRun (λ w. stands w) (λ w. report w)
+        (λ a. HasWatchedRunBy (λ w. stands w) (λ w. report w) a.flags.bare
         (if_watched a.flags watchers.old.items) watchers.new.items (streams_of
         (stream_of I.left I.faults streams.entry.input.now streams.exit.0.now)
         (stream_of O.taken O.faults streams.entry.out.now streams.exit.1.0.now)))
@@ -136,7 +136,7 @@ fn answer_command<H: Shelf, I: Source, O: Sink>(
         (streams_of
         (stream_of I.left I.faults streams.entry.input.now streams.exit.0.now)
         (stream_of O.taken O.faults streams.entry.out.now streams.exit.1.0.now)) in
-        let runs = HasWatchedRun (λ w. stands w) (λ w. report w)
+        let runs = HasWatchedRunBy (λ w. stands w) (λ w. report w) command.now.flags.bare
         (if_watched command.now.flags watchers.old.items) watchers.new.items (streams_of
         (stream_of I.left I.faults streams.entry.input.now streams.exit.0.now)
         (stream_of O.taken O.faults streams.entry.out.now streams.exit.1.0.now)) in

@@ -1,5 +1,5 @@
 -- Runs that watchers see, and what these tell of them.
-use Rattle.std.specs.Prelude.{ℕ, ◌≡◌, List, [], length, map, All}
+use Rattle.std.specs.Prelude.{ℕ, ◌≡◌, Bool, true, false, List, [], length, map, All}
 use Rattle.tg_machine_state.specs.declared.ends.RunEnd.{RunEnd}
 use Rattle.tg_isa.specs.declared.images.Image.{Image}
 use Rattle.tg_machine.specs.declared.fetches.Seen.{Seen}
@@ -9,7 +9,7 @@ use Rattle.tg_profiler.specs.Watchers.{HaveSeen}
 use Rattle.tg_driver.specs.declared.answers.Answer.{Answer}
 use Rattle.tg_driver.specs.declared.answers.Answer.TheVariants.{Finished}
 use Rattle.tg_driver.specs.Calls.{Streams}
-use Rattle.tg_driver.specs.Runs.{HasRun}
+use Rattle.tg_driver.specs.Runs.{RunRelation, HasRun, HasBareRun}
 use Rattle.tg_driver.specs.Watching.{HasToldRun, HasFetched}
 
 -- such a run is a run
@@ -27,6 +27,19 @@ pub record HasWatchedRun {W I O : Type 0} (stands : W → List Seen → ℕ → 
   pub seen : List Seen
   pub fetched : HasFetched s image heap stack steps end seen
   pub have_seen : HaveSeen stands report old new seen (length image.code)
+
+-- the machine with delayed branches ran so, which none of these watchers saw
+pub record HasUnseenRun {W I O : Type 0} (old new : List W) (s : Streams I O)
+    (image : Image) (heap stack steps : ℕ) (end : RunEnd) : Type 0 where
+  pub run : HasBareRun s image heap stack steps end
+  pub same : new ≡ old
+
+-- the machine that the flag asks for ran so before these watchers
+abbrev pub HasWatchedRunBy :
+    {W I O : Type 0} → (stands : W → List Seen → ℕ → Type 0) (report : W → Report)
+    (bare : Bool) (old new : List W) → Streams I O → RunRelation
+HasWatchedRunBy stands report true old new s = HasUnseenRun old new s
+HasWatchedRunBy stands report false old new s = HasWatchedRun stands report old new s
 
 -- watchers that all stand for some fetches tell these reports of them
 pub record Tell {W : Type 0} (stands : W → List Seen → ℕ → Type 0) (report : W → Report)

@@ -1,5 +1,5 @@
 -- What the answers to a call amount to.
-use Rattle.std.specs.Prelude.{ℕ, ◌≡◌, ◌≢◌, List, [], ◌++◌, Option, Some}
+use Rattle.std.specs.Prelude.{ℕ, ◌≡◌, ◌≢◌, Bool, false, List, [], ◌++◌, Option, Some}
 use Rattle.std.specs.Io.KnownBytes.{Appends}
 use Rattle.tg_machine_state.specs.declared.ends.RunEnd.{RunEnd}
 use Rattle.tg_machine_state.specs.declared.ends.RunEnd.TheVariants.{ReadFault, WriteFault}
@@ -63,18 +63,21 @@ pub record Gives {H I O E : Type 0} (c : Call H I O E)
   pub before_end : NoneBeforeEnd reports answer
   pub unasked : NoneUnasked c.words reports
 
--- where an input tells its bytes, a run of the image ends so on these
-abbrev pub EndsAsTold : Option (List ℕ) → RunRelation
-EndsAsTold told image heap stack steps end =
-    (bytes : List ℕ) → told ≡ Some bytes → end ≡ end_in (outcome_on image heap stack steps bytes)
+-- where an input tells its bytes, a run of the image on the machine that the flag asks for ends so
+-- on these
+abbrev pub EndsAsTold : Option (List ℕ) → (bare : Bool) → RunRelation
+EndsAsTold told bare image heap stack steps end =
+    (bytes : List ℕ) → told ≡ Some bytes →
+    end ≡ end_in (outcome_on bare image heap stack steps bytes)
 
 -- and these are the reports of what it fetches
-pub record EndsAndTells (told : Option (List ℕ)) (reporters : List Report) (reports : List ℕ)
+pub record EndsAndTells (told : Option (List ℕ)) (bare : Bool)
+    (reporters : List Report) (reports : List ℕ)
     (image : Image) (heap stack steps : ℕ) (end : RunEnd) : Type 0 where
-  pub ends : EndsAsTold told image heap stack steps end
+  pub ends : EndsAsTold told bare image heap stack steps end
   pub tells :
       (bytes : List ℕ) → told ≡ Some bytes →
-      reports ≡ reports_on reporters image heap stack steps bytes
+      reports ≡ reports_on bare reporters image heap stack steps bytes
 
 -- to a source: its first fault, or that a text of it was written
 abbrev pub IsFaultyOrWritten : List ℕ → Answer → Type 0
@@ -85,7 +88,7 @@ IsFaultyOrWritten text _ = ⊥
 -- the end of a run of what does what a generated source means, on an empty input
 abbrev pub EndsGenerated : Asked → Answer → Type 0
 EndsGenerated asked (Finished end) =
-    EndsAsMeant (EndsAsTold (Some [])) (generated asked.number)
+    EndsAsMeant (EndsAsTold (Some []) false) (generated asked.number)
     asked.heap asked.stack asked.steps end
 EndsGenerated asked _ = ⊥
 
@@ -103,7 +106,7 @@ Settles runs Format asked text answer = IsFaultyOrFormatted text answer
 -- what text and input settle of a run of the call whose reports are these
 abbrev pub settled_runs : {H I O E : Type 0} → Call H I O E → (reports : List ℕ) → Asked → RunRelation
 settled_runs c reports asked =
-    EndsAndTells (c.streams.input.told c.streams.input.before)
+    EndsAndTells (c.streams.input.told c.streams.input.before) asked.flags.bare
     (if_watched asked.flags c.reporters) reports
 
 -- the status, the reports and the line are those of an answer that is so settled

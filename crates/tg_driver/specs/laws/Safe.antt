@@ -1,15 +1,13 @@
 -- What a call leaves, whatever it is given: any words, any bytes, streams that fail at any call.
-use Rattle.std.specs.Prelude.{ℕ, ◌≡◌, ◌≤◌, ◌⊎◌, List, [], ◌++◌, length, Option, Some, Ok}
+use Rattle.std.specs.Prelude.{ℕ, ◌≡◌, ◌≤◌, ◌⊎◌, Bool, false, List, [], ◌++◌, length, Option}
+use Rattle.std.specs.Prelude.{Some, Ok}
 use Rattle.tg_machine_state.specs.declared.ends.RunEnd.{RunEnd}
 use Rattle.tg_machine_state.specs.declared.ends.RunEnd.TheVariants.{Exit, ReadFault, WriteFault}
 use Rattle.tg_base.specs.Files.{IsFilePrefix}
-use Rattle.tg_machine_state.specs.State.{initial_machine}
 use Rattle.tg_base.specs.Writes.{TakesPrefix}
 use Rattle.tg_isa.specs.declared.images.Image.{Image}
 use Rattle.tg_asm_text.specs.Assembly.{assembled}
-use Rattle.tg_isa.specs.Runs.{run}
 use Rattle.tg_asm.specs.Images.{image_of}
-use Rattle.tg_machine.specs.Ran.{begun_on}
 use Rattle.tg_irc_definition.specs.Policies.{Rule as SpillRule}
 use Rattle.tg_program_generator.specs.Generated.{generated}
 use Rattle.tg_command.specs.declared.modes.Mode.{Mode}
@@ -28,7 +26,7 @@ use Rattle.tg_driver.specs.FormatMode.{Formats}
 use Rattle.tg_driver.specs.GenMode.{summary}
 use Rattle.tg_driver.specs.glue.PrivateCalls.{ReadsNoInput}
 use Rattle.tg_driver.specs.laws.OfTexts.{most_of}
-use Rattle.tg_driver.specs.laws.Settled.{Tells, world_in}
+use Rattle.tg_driver.specs.laws.Settled.{Tells, outcome_on, world_in}
 use Rattle.tg_driver.specs.laws.Laws.{ReadsFile}
 use Rattle.tg_driver.specs.Telling.{IsTold}
 use Rattle.tg_driver.specs.glue.PrivateCalls.{IsBeforeStart}
@@ -56,9 +54,9 @@ abbrev pub IsImageOf : Mode → (text : List ℕ) → Image → Type 0
 IsImageOf Exec text image = assembled text ≡ Ok (image_of image)
 IsImageOf mode text image = IsMeantImage text image
 
--- what the image writes within its steps, its reads answered by an input that tells these bytes, or
--- by some bytes where it tells none
-pub record IsOutput (told : Option (List ℕ)) (mode : Mode) (asked : Asked)
+-- what the image writes within its steps on one of the machines, its reads answered by an input that
+-- tells these bytes, or by some bytes where it tells none
+pub record IsOutput (told : Option (List ℕ)) (bare : Bool) (mode : Mode) (asked : Asked)
     (text written : List ℕ) : Type 0 where
   pub image : Image
   pub is_of : IsImageOf mode text image
@@ -67,13 +65,12 @@ pub record IsOutput (told : Option (List ℕ)) (mode : Mode) (asked : Asked)
   pub made : ℕ
   pub within : made ≤ asked.steps
   pub written_is :
-      let first = initial_machine image.code image.statics image.entry asked.heap asked.stack in
-      written ≡ (world_in (run made (begun_on first input))).output
+      written ≡ (world_in (outcome_on bare image asked.heap asked.stack made input)).output
 
 -- what `gen` writes: what the image writes on no input, and the summary
 pub record IsSummed (asked : Asked) (text written : List ℕ) : Type 0 where
   pub output : List ℕ
-  pub is_output : IsOutput (Some []) Gen asked text output
+  pub is_output : IsOutput (Some []) false Gen asked text output
   pub count : ℕ
   pub status : ℕ
   pub written_is : written ≡ output ++ summary asked.number (length text) count status
@@ -83,8 +80,9 @@ abbrev pub HasToWrite :
     SpillRule → (told : Option (List ℕ)) → Mode → Asked → (text written : List ℕ) → Type 0
 HasToWrite rule told Check asked text written = ⊥
 HasToWrite rule told Build asked text written = IsAsMeant text written
-HasToWrite rule told Run asked text written = IsOutput told Run asked text written
-HasToWrite rule told Exec asked text written = IsOutput told Exec asked text written
+HasToWrite rule told Run asked text written = IsOutput told false Run asked text written
+HasToWrite rule told Exec asked text written =
+    IsOutput told asked.flags.bare Exec asked text written
 HasToWrite rule told Alloc asked text written = Lists (passes_of asked) rule text written
 HasToWrite rule told Show asked text written = Shows (passes_of asked) rule text written
 HasToWrite rule told Gen asked text written = IsSummed asked text written

@@ -1,6 +1,7 @@
-use Rattle.tg_driver.specs.Watching.{HasToldRun}
+use Rattle.tg_driver.specs.Watching.{HasToldRunBy}
 use Rattle.tg_driver.proofs.ModesOnce.{due_alike}
 use Rattle.tg_driver.proofs.laws.one_answer.Goals as goal
 
 pub returns : goal.returns
-returns g c = λ s reporters others reports told. due_alike (HasToldRun s reporters reports) (HasToldRun s others told)
+returns g c = λ s reporters others reports told mode one other.
+    due_alike (HasToldRunBy s one.flags.bare reporters reports) (HasToldRunBy s other.flags.bare others told) mode one other
