@@ -1,4 +1,14 @@
 """Assembly texts that `bench/exec` and `bench/compare` run, each for a number that its time grows with."""
+import re
+
+# A line that branches or jumps, and whose delay slot isn't named as filled.
+CONTROLS = re.compile(r"(?m)^((?:\w+:)?\s*(?:j|jal|jr|jalr|beq|bne|blez|bgtz|bltz|bgez)\s[^#\n]*)$")
+
+
+def with_slots(code):
+    """A text for a machine with delayed branches: behind each branch and jump stands a `nop`, but where a comment says
+    that its delay slot is filled."""
+    return CONTROLS.sub(r"\1\n        nop", code)
 
 
 def text(code, statics="", functions=""):

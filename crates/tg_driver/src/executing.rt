@@ -105,7 +105,8 @@ fn execute_asked<I: Source, O: Sink>(
         (stream_of I.left I.faults streams.entry.input.now streams.exit.0.now)
         (stream_of O.taken O.faults streams.entry.out.now streams.exit.1.0.now)) result }
 {
-    if command.flags.bare {
+    let bare = command.flags.bare;
+    if bare {
         execute_bare(alloc, command, image, streams)
     } else {
         execute(alloc, command, image, streams, watchers)

@@ -359,7 +359,7 @@ fn other_modes_are_not_watched(rt: HostRuntime) -> Result<(), Fail> {
             "{line}"
         );
         assert!(rt; seen.error.starts_with(b"tiger: usage: "), "{line}");
-        assert!(rt; seen.error.ends_with(b" [--fold]\n"), "{line}");
+        assert!(rt; seen.error.ends_with(b" [--fold] [--bare]\n"), "{line}");
     }
     Ok(())
 }
