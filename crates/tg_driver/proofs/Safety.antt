@@ -17,7 +17,7 @@ use Rattle.tg_machine.proofs.Runs.{run_more}
 use Rattle.tg_bare.specs.Delayed as delayed
 use Rattle.tg_bare.specs.Delayed.{initial_bare}
 use Rattle.tg_bare.specs.BareRuns.{BareExecution, run_bare, bare_begun}
-use Rattle.tg_bare.specs.Ran as bare
+use Rattle.tg_bare.specs.Ran as stopping
 use Rattle.tg_bare.specs.Ran.{BareStops, bare_standing}
 use Rattle.tg_bare.proofs.Runs as bare_runs
 use Rattle.tg_program_generator.specs.Generated.{generated}
@@ -107,11 +107,11 @@ module _ (n : ℕ) (w : Execution) (end : RunEnd) where
 module _ (n : ℕ) (w : BareExecution) (end : RunEnd) where
   bare_reached : (last : BareExecution) (front : List ℕ) → BareStops n w end last front →
       Reached n (λ made. (world_in (plain_progress (run_bare made w))).output) end (last.output ++ front)
-  bare_reached last front (bare.still q p f) = stopped n _ end n last.output front (omega arith) (ap (λ r. (world_in (plain_progress r)).output) q) f
-  bare_reached last front (bare.ended q f) = stopped n _ end n last.output front (omega arith) (ap (λ r. (world_in (plain_progress r)).output) q) f
-  bare_reached last front (bare.read_failed i l q p d f) =
+  bare_reached last front (stopping.still q p f) = stopped n _ end n last.output front (omega arith) (ap (λ r. (world_in (plain_progress r)).output) q) f
+  bare_reached last front (stopping.ended q f) = stopped n _ end n last.output front (omega arith) (ap (λ r. (world_in (plain_progress r)).output) q) f
+  bare_reached last front (stopping.read_failed i l q p d f) =
       stopped n _ end i last.output front (omega (arith, l)) (ap (λ r. (world_in (plain_progress r)).output) q) f
-  bare_reached last front (bare.write_failed i rest l q p d) = record {
+  bare_reached last front (stopping.write_failed i rest l q p d) = record {
     made = i + 1;
     within = omega (arith, l);
     rest = rest;
