@@ -6,8 +6,8 @@ use Rattle.clap.specs.Words.{Text}
 use Rattle.tg_command.specs.Simple.{value_of}
 use Rattle.tg_command.specs.declared.flags.Flags.{Flags}
 use Rattle.tg_command.specs.declared.modes.Mode.{Mode}
-use Rattle.tg_command.specs.declared.modes.Mode.TheVariants.{Build, Run, Exec, Alloc, Gen}
-use Rattle.tg_command.specs.declared.modes.Mode.TheVariants.{Show}
+use Rattle.tg_command.specs.declared.modes.Mode.TheVariants.{Check, Build, Run, Exec, Alloc, Gen}
+use Rattle.tg_command.specs.declared.modes.Mode.TheVariants.{Show, Format}
 
 -- the words give the flag: the parser's value of one that stands there is the word `true`
 abbrev pub has_flag : Text → List Text → Bool
@@ -17,6 +17,7 @@ abbrev pub flags_of : List Text → Flags
 flags_of words = record {
   watch = has_flag (codes "watch") words;
   fold = has_flag (codes "fold") words;
+  explain = has_flag (codes "explain") words;
 }
 
 -- `--watch` is for the modes that run an image on the streams
@@ -34,10 +35,21 @@ takes_fold Show = true
 takes_fold Gen = true
 takes_fold _ = false
 
+-- `--explain` is for those that read a source
+abbrev pub takes_explain : Mode → Bool
+takes_explain Check = true
+takes_explain Build = true
+takes_explain Run = true
+takes_explain Alloc = true
+takes_explain Show = true
+takes_explain Format = true
+takes_explain _ = false
+
 -- a mode takes the flags
 abbrev pub flags_fit : Mode → Flags → Bool
 flags_fit mode flags =
     (takes_watch mode || not flags.watch) && (takes_fold mode || not flags.fold)
+    && (takes_explain mode || not flags.explain)
 
 -- the words give these flags, and the mode takes them
 pub record GivesFlags (words : List Text) (mode : Mode) (flags : Flags) : Type 0 where

@@ -1,5 +1,5 @@
 ghost use Rattle.std.specs.Prelude.{◌≡◌};
-ghost use Rattle.tg_command.specs.Flagged.{flags_fit, takes_fold, takes_watch};
+ghost use Rattle.tg_command.specs.Flagged.{flags_fit, takes_explain, takes_fold, takes_watch};
 
 use crate::modes::Mode;
 
@@ -10,13 +10,17 @@ pub struct Flags {
     pub watch: bool,
     /// `--fold`: the trees of the program are folded.
     pub fold: bool,
+    /// `--explain`: the fault of a source is explained.
+    pub explain: bool,
 }
 
 /// Whether a mode takes these flags.
 pub(crate) fn flags_fit(mode: Mode, flags: Flags) -> bool
     ensures { result ≡ flags_fit mode flags }
 {
-    (takes_watch(mode) || !flags.watch) && (takes_fold(mode) || !flags.fold)
+    (takes_watch(mode) || !flags.watch)
+        && (takes_fold(mode) || !flags.fold)
+        && (takes_explain(mode) || !flags.explain)
 }
 
 /// `--watch` is for the modes that run an image on the streams.
@@ -35,6 +39,16 @@ fn takes_fold(mode: Mode) -> bool
 {
     match mode {
         Mode::Build | Mode::Run | Mode::Alloc | Mode::Show | Mode::Gen => true,
+        _ => false,
+    }
+}
+
+/// `--explain` is for the modes that read a source.
+fn takes_explain(mode: Mode) -> bool
+    ensures { result ≡ takes_explain mode }
+{
+    match mode {
+        Mode::Check | Mode::Build | Mode::Run | Mode::Alloc | Mode::Show | Mode::Format => true,
         _ => false,
     }
 }

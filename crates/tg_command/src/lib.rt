@@ -1,6 +1,7 @@
 //! The command line: its words become a mode, a file, sizes and flags, or a usage fault.
 //!
-//! Its form is `MODE FILE [--heap BYTES] [--stack BYTES] [--steps COUNT] [--watch] [--fold]`.
+//! Its form is `MODE FILE [--heap BYTES] [--stack BYTES] [--steps COUNT] [--watch] [--fold]
+//! [--explain]`.
 //! Promises the mode, the file, the three numbers and the flags that the words ask for, or that
 //! they ask for none.
 #![tactic(auto)]

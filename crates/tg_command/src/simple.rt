@@ -60,7 +60,8 @@ fn command<'a>(alloc: Global) -> Result<Command<'a>, AllocError>
         .arg(option(alloc, "stack"))?
         .arg(option(alloc, "steps"))?
         .arg(flag(alloc, "watch"))?
-        .arg(flag(alloc, "fold"))
+        .arg(flag(alloc, "fold"))?
+        .arg(flag(alloc, "explain"))
 }
 
 // The kind of fault that an error of the parse is.
@@ -102,6 +103,7 @@ pub(crate) fn take_words<'a>(alloc: Global, words: &'a [String]) -> Result<Value
         flags: Flags {
             watch: has_flag(&matches, "watch"),
             fold: has_flag(&matches, "fold"),
+            explain: has_flag(&matches, "explain"),
         },
     })
 }

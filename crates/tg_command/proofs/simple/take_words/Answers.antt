@@ -31,7 +31,8 @@ returns-clause-ok c =
       flags =
           let watch = c.has_flag.ensures ∙ ap set (given (codes "watch")) in
           let fold = c.has_flag-2.ensures ∙ ap set (given (codes "fold")) in
-          λ i. record { watch = watch i; fold = fold i };
+          let explain = c.has_flag-3.ensures ∙ ap set (given (codes "explain")) in
+          λ i. record { watch = watch i; fold = fold i; explain = explain i };
     }
 
 usage_is : (fault : CommandFault) → ◌≡◌ {A = Result Values CommandFault} (Err fault) (Err Usage) → fault ≡ Usage
