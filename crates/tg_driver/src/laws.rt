@@ -84,7 +84,7 @@ pub fn answers_are_exact<I, O, J, P>()
 /// failed read or write has a count as its cause. It does nothing.
 pub fn answers_are_safe<H, I, O, E>()
     ensures { (c : Call H I O E) (status : ℕ) (given : Answers c status)
-        → IsSafe c status given.reports given.answer }
+        → IsSafe c status given.reports given.answer given.explanation }
 {}
 
 /// The law that a call with good words for a file that is there, in which no count of faults rose,
@@ -93,7 +93,7 @@ pub fn answers_are_complete<H, I, O, E>()
     ensures { (c : Call H I O E) (status : ℕ) (asked : Asked) (file : List ℕ)
         → Answers c status → IsGood c asked file
         → IsSettled c status asked (take (most_of asked.mode) file)
-        ⊎ Gives c status [] OutOfMemory }
+        ⊎ Gives c status [] OutOfMemory [] }
 {}
 
 /// The law that the evaluation of an accepted source is never stuck: it meets no value of the wrong
@@ -123,7 +123,7 @@ pub fn commands_are_as_meant<H, I, O, E>()
     ensures { (c : Call H I O E) (status : ℕ) (asked : Asked) (file : List ℕ)
         → Answers c status → IsGood c asked file
         → DoesAsMeant c status asked (take (most_of asked.mode) file)
-        ⊎ Gives c status [] OutOfMemory }
+        ⊎ Gives c status [] OutOfMemory [] }
 {
     ends_are_as_meant();
 }

@@ -9,6 +9,7 @@ mod checking;
 mod compiling;
 mod endings;
 mod executing;
+mod explaining;
 mod faults;
 mod formatting;
 mod generating;
