@@ -10,7 +10,9 @@ pub mod ModesOnce
 pub mod ToldInputs
 mod ExactRuns
 pub mod MeantEnds
+pub mod SettledExplanations
 pub mod Complete
+pub mod GivenTexts
 pub mod MeantCommands
 pub mod AnswerLemmas
 pub mod Watched

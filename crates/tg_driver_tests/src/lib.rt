@@ -11,6 +11,8 @@ mod cut;
 #[cfg(test)]
 mod deep;
 #[cfg(test)]
+mod explained;
+#[cfg(test)]
 mod failures;
 #[cfg(test)]
 mod faults;
