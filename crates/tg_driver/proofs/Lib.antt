@@ -4,6 +4,7 @@ pub mod Typings
 pub mod LineLemmas
 pub mod TokensOnce
 pub mod FaultsOnce
+mod ExplanationsOnce
 pub mod SourcesOnce
 pub mod CanonicalTexts
 pub mod ModesOnce

@@ -1,6 +1,10 @@
 use Rattle.tg_driver.specs.Watching.{HasToldRun}
+use Rattle.tg_driver.proofs.ExplanationsOnce.{why_once}
 use Rattle.tg_driver.proofs.ModesOnce.{due_alike}
 use Rattle.tg_driver.proofs.laws.one_answer.Goals as goal
 
-pub returns : goal.returns
-returns g c = λ s reporters others reports told. due_alike (HasToldRun s reporters reports) (HasToldRun s others told)
+pub returns-clause-answers : goal.returns-clause-answers
+returns-clause-answers g c = λ s reporters others reports told. due_alike (HasToldRun s reporters reports) (HasToldRun s others told)
+
+pub returns-clause-explanations : goal.returns-clause-explanations
+returns-clause-explanations g c = why_once
