@@ -3,13 +3,13 @@
 # Sourced by `tiger`. All of it is done by the shell alone, and no program is needed.
 
 # Of each mode its operand, what it does, what it takes, a call, and how it ends.
-modes='check|FILE|tells the first fault of a Tiger source||examples/fault.tig|with 0 where the source is accepted, else with 65
-run|FILE|compiles a source and runs it|heap stack steps watch fold|examples/merge.tig <examples/merge.in|with the code of the program modulo 256, 65 at a fault of the source, 101 to 110 at an end by a fault
-show|FILE|tells what each stage makes of each function|fold out|examples/sum.tig|with 0 where it is told, 65 at a fault of the source
-build|FILE|writes the MIPS assembly text of a source|fold out|examples/sum.tig -o sum.s|with 0 where the text is written, 65 at a fault of the source
-alloc|FILE|tells the steps of the register allocator|fold out|examples/sum.tig|with 0 where they are written, 65 at a fault of the source
+modes='check|FILE|tells the first fault of a Tiger source|explain|examples/fault.tig|with 0 where the source is accepted, else with 65
+run|FILE|compiles a source and runs it|heap stack steps watch fold explain|examples/merge.tig <examples/merge.in|with the code of the program modulo 256, 65 at a fault of the source, 101 to 110 at an end by a fault
+show|FILE|tells what each stage makes of each function|fold explain out|examples/sum.tig|with 0 where it is told, 65 at a fault of the source
+build|FILE|writes the MIPS assembly text of a source|fold explain out|examples/sum.tig -o sum.s|with 0 where the text is written, 65 at a fault of the source
+alloc|FILE|tells the steps of the register allocator|fold explain out|examples/sum.tig|with 0 where they are written, 65 at a fault of the source
 exec|FILE|assembles a text and runs it|heap stack steps watch bare|examples/hello.s|with the code of the program modulo 256, 65 at a fault of the text, 101 to 111 at an end by a fault
-format|FILE|writes a source in its one layout|out|examples/crooked.tig|with 0 where the source is written, 65 at a fault of tokens or grammar
+format|FILE|writes a source in its one layout|explain out|examples/crooked.tig|with 0 where the source is written, 65 at a fault of tokens or grammar
 gen|N|makes a source of N functions, 1 to 1000, and runs it|heap stack steps fold|10|with the code of the program modulo 256'
 # Of each option its value, what it is for, and the least, the most and what it is where it is left out.
 options='heap|BYTES|the heap of the simulated machine, a multiple of 4|4|268435456|16777216
@@ -38,14 +38,14 @@ is_mode() { row "$1" "$modes" its operand does takes call ends; }
 
 # All modes, a line each.
 page() {
-    printf 'tiger MODE FILE [--heap BYTES] [--stack BYTES] [--steps COUNT] [--watch] [--fold] [--bare] [--gnu] [-o OUT]\n\n'
+    printf 'tiger MODE FILE [--heap BYTES] [--stack BYTES] [--steps COUNT] [--watch] [--fold] [--bare]\n    [--explain] [--gnu] [-o OUT]\n\n'
     while IFS='|' read -r its operand does takes call ends; do
         printf '  %-12s %-55s ./tiger %s %s\n' "$its $operand" "$does" "$its" "$call"
     done <<ROWS
 $modes
 ROWS
     printf '\n'
-    page_of_options 'heap stack steps watch fold bare out gnu'
+    page_of_options 'heap stack steps watch fold bare explain out gnu'
     cat_lines <<'REST'
 
 FILE may be -, the standard input. What is asked for without a MODE:
@@ -70,6 +70,7 @@ page_of_options() {
         watch) printf '  %-15s run and exec tell on standard error what the run fetched\n' --watch ;;
         fold) printf '  %-15s build, run, show, alloc and gen fold the trees before they go on\n' --fold ;;
         bare) printf '  %-15s exec runs a machine with delayed branches, unwatched\n' --bare ;;
+        explain) printf '  %-15s what explains a fault of a source stands behind its line; not in exec and gen\n' --explain ;;
         out) printf '  %-15s build, show, alloc and format write OUT, where they end with 0, in place of standard output\n' '-o OUT' ;;
         gnu) printf '  %-15s FILE:LINE:COLUMN: stands before a fault, as it does on a terminal\n' --gnu ;;
         *)
@@ -86,7 +87,7 @@ page_of() {
     printf 'tiger %s %s' "$its" "$operand"
     for option in $takes gnu; do
         case $option in
-        watch | fold | bare | gnu) printf ' [--%s]' "$option" ;;
+        watch | fold | bare | explain | gnu) printf ' [--%s]' "$option" ;;
         out) printf ' [-o OUT]' ;;
         steps) printf ' [--steps COUNT]' ;;
         *) printf ' [--%s BYTES]' "$option" ;;
@@ -181,6 +182,7 @@ look_at_all() {
     [ -z "$is_bare" ] || [ "$mode" = exec ] || blame "--bare is a flag of exec, and not of $mode"
     [ -z "$is_bare" ] || [ -z "$is_watched" ] || blame '--watch and --bare exclude each other'
     case ${is_folded:+$mode} in check | exec | format) blame "--fold is a flag of build, run, show, alloc and gen, and not of $mode" ;; esac
+    case ${is_explained:+$mode} in exec | gen) blame "--explain is a flag of check, build, run, alloc, show and format, and not of $mode" ;; esac
     if [ -z "$has_second" ]; then
         if [ "$mode" = gen ]; then blame 'gen takes how many functions, 1 to 1000'; else blame "$mode takes a file"; fi
     elif [ "$mode" = gen ]; then

@@ -15,7 +15,7 @@ use Rattle.tg_command.specs.Arguments.{IsArgument, IsGiven, IsValued}
 
 -- the names of the arguments
 abbrev names : List Text
-names = codes "mode" ∷ codes "file" ∷ codes "heap" ∷ codes "stack" ∷ codes "steps" ∷ codes "watch" ∷ codes "fold" ∷ codes "bare" ∷ []
+names = codes "mode" ∷ codes "file" ∷ codes "heap" ∷ codes "stack" ∷ codes "steps" ∷ codes "watch" ∷ codes "fold" ∷ codes "bare" ∷ codes "explain" ∷ []
 
 place : Text → ℕ
 place name = position_or_len (λ x. bytes_eq x name) names
@@ -43,12 +43,12 @@ fits rule a h named no_help no_version =
       ]),
     )
 
-module _ (a b d e f w o r : Arg) (is_a : IsArgument (positional (codes "mode")) a) (is_b : IsArgument (positional (codes "file")) b)
+module _ (a b d e f w o r p : Arg) (is_a : IsArgument (positional (codes "mode")) a) (is_b : IsArgument (positional (codes "file")) b)
     (is_d : IsArgument (option (codes "heap")) d) (is_e : IsArgument (option (codes "stack")) e) (is_f : IsArgument (option (codes "steps")) f)
     (is_w : IsArgument (flag_rule (codes "watch")) w) (is_o : IsArgument (flag_rule (codes "fold")) o)
-    (is_r : IsArgument (flag_rule (codes "bare")) r) where
+    (is_r : IsArgument (flag_rule (codes "bare")) r) (is_p : IsArgument (flag_rule (codes "explain")) p) where
   abbrev pub chain : List Arg
-  chain = a ∷ b ∷ d ∷ e ∷ f ∷ w ∷ o ∷ r ∷ []
+  chain = a ∷ b ∷ d ∷ e ∷ f ∷ w ∷ o ∷ r ∷ p ∷ []
 
   all_fit : All FitsChain chain
   all_fit zero x lt = fits _ a is_a refl refl refl
@@ -59,7 +59,8 @@ module _ (a b d e f w o r : Arg) (is_a : IsArgument (positional (codes "mode")) 
   all_fit (suc (suc (suc (suc (suc zero))))) x lt = fits _ w is_w refl refl refl
   all_fit (suc (suc (suc (suc (suc (suc zero)))))) x lt = fits _ o is_o refl refl refl
   all_fit (suc (suc (suc (suc (suc (suc (suc zero))))))) x lt = fits _ r is_r refl refl refl
-  all_fit (suc (suc (suc (suc (suc (suc (suc (suc k)))))))) x lt = absurd (omega arith)
+  all_fit (suc (suc (suc (suc (suc (suc (suc (suc zero)))))))) x lt = fits _ p is_p refl refl refl
+  all_fit (suc (suc (suc (suc (suc (suc (suc (suc (suc k))))))))) x lt = absurd (omega arith)
 
   -- each argument stands in the place of its name
   stands : (k : ℕ) (x : Arg) → k < length chain → place (slice_index_or chain k x).id.now ≡ k
@@ -72,7 +73,8 @@ module _ (a b d e f w o r : Arg) (is_a : IsArgument (positional (codes "mode")) 
   stands (suc (suc (suc (suc (suc zero))))) x lt = rw (id_is _ w is_w) refl
   stands (suc (suc (suc (suc (suc (suc zero)))))) x lt = rw (id_is _ o is_o) refl
   stands (suc (suc (suc (suc (suc (suc (suc zero))))))) x lt = rw (id_is _ r is_r) refl
-  stands (suc (suc (suc (suc (suc (suc (suc (suc k)))))))) x lt = absurd (omega arith)
+  stands (suc (suc (suc (suc (suc (suc (suc (suc zero)))))))) x lt = rw (id_is _ p is_p) refl
+  stands (suc (suc (suc (suc (suc (suc (suc (suc (suc k))))))))) x lt = absurd (omega arith)
 
   distinct : HasDistinctIds chain
   distinct j k y x low_j low_k same =

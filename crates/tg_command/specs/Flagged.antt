@@ -6,8 +6,8 @@ use Rattle.clap.specs.Words.{Text}
 use Rattle.tg_command.specs.Simple.{value_of}
 use Rattle.tg_command.specs.declared.flags.Flags.{Flags}
 use Rattle.tg_command.specs.declared.modes.Mode.{Mode}
-use Rattle.tg_command.specs.declared.modes.Mode.TheVariants.{Build, Run, Exec, Alloc, Gen}
-use Rattle.tg_command.specs.declared.modes.Mode.TheVariants.{Show}
+use Rattle.tg_command.specs.declared.modes.Mode.TheVariants.{Check, Build, Run, Exec, Alloc, Gen}
+use Rattle.tg_command.specs.declared.modes.Mode.TheVariants.{Show, Format}
 
 -- the words give the flag: the parser's value of one that stands there is the word `true`
 abbrev pub has_flag : Text → List Text → Bool
@@ -18,6 +18,7 @@ flags_of words = record {
   watch = has_flag (codes "watch") words;
   fold = has_flag (codes "fold") words;
   bare = has_flag (codes "bare") words;
+  explain = has_flag (codes "explain") words;
 }
 
 -- `--watch` is for the modes that run an image on the streams
@@ -40,11 +41,22 @@ abbrev pub takes_bare : Mode → Bool
 takes_bare Exec = true
 takes_bare _ = false
 
+-- `--explain` is for those that read a source
+abbrev pub takes_explain : Mode → Bool
+takes_explain Check = true
+takes_explain Build = true
+takes_explain Run = true
+takes_explain Alloc = true
+takes_explain Show = true
+takes_explain Format = true
+takes_explain _ = false
+
 -- a mode takes the flags, and no run of the machine with delayed branches is watched
 abbrev pub flags_fit : Mode → Flags → Bool
 flags_fit mode flags =
     (takes_watch mode || not flags.watch) && (takes_fold mode || not flags.fold)
-    && (takes_bare mode || not flags.bare) && not (flags.watch && flags.bare)
+    && (takes_bare mode || not flags.bare) && (takes_explain mode || not flags.explain)
+    && not (flags.watch && flags.bare)
 
 -- the words give these flags, and the mode takes them
 pub record GivesFlags (words : List Text) (mode : Mode) (flags : Flags) : Type 0 where

@@ -1,6 +1,5 @@
--- The simple command
--- `MODE FILE [--heap BYTES] [--stack BYTES] [--steps COUNT] [--watch] [--fold] [--bare]`, as the
--- command line's parser knows it.
+-- The simple command `MODE FILE [--heap BYTES] [--stack BYTES] [--steps COUNT] [--watch] [--fold]
+-- [--bare] [--explain]`, as the command line's parser knows it.
 use Rattle.std.specs.Prelude.{◌≡◌, List, [], Option, Some, codes, true}
 use Rattle.clap.specs.Words.{App, Rule, Text, new_app, new_rule, with_rule, fault_of, first_of}
 use Rattle.clap.specs.Words.{matches_of}
@@ -24,11 +23,12 @@ abbrev pub flag_rule : Text → Rule
 flag_rule name = record (new_rule name) { long = Some name; action = Some SetTrue }
 
 abbrev pub simple_command : App
-simple_command = with_rule (with_rule (with_rule (with_rule (with_rule (with_rule (with_rule (with_rule
+simple_command = with_rule (with_rule (with_rule (with_rule (with_rule (with_rule (with_rule (with_rule (with_rule
     (without_flags (new_app (codes "tiger")))
     (positional (codes "mode"))) (positional (codes "file")))
     (option (codes "heap"))) (option (codes "stack"))) (option (codes "steps")))
-    (flag_rule (codes "watch"))) (flag_rule (codes "fold"))) (flag_rule (codes "bare"))
+    (flag_rule (codes "watch"))) (flag_rule (codes "fold"))) (flag_rule (codes "bare")))
+    (flag_rule (codes "explain"))
 
 -- The simple command takes the words, of which the first is the program's name: by `clap`'s
 -- `fault_of`, which lists the kinds of error of the first step of the parse that fails, no step

@@ -1,5 +1,11 @@
 ghost use Rattle.std.specs.Prelude.{◌≡◌};
-ghost use Rattle.tg_command.specs.Flagged.{flags_fit, takes_bare, takes_fold, takes_watch};
+ghost use Rattle.tg_command.specs.Flagged.{
+  flags_fit,
+  takes_bare,
+  takes_explain,
+  takes_fold,
+  takes_watch,
+};
 
 use crate::modes::Mode;
 
@@ -12,6 +18,8 @@ pub struct Flags {
     pub fold: bool,
     /// `--bare`: the machine has delayed branches.
     pub bare: bool,
+    /// `--explain`: the fault of a source is explained.
+    pub explain: bool,
 }
 
 /// Whether a mode takes these flags.
@@ -21,6 +29,7 @@ pub(crate) fn flags_fit(mode: Mode, flags: Flags) -> bool
     (takes_watch(mode) || !flags.watch)
         && (takes_fold(mode) || !flags.fold)
         && (takes_bare(mode) || !flags.bare)
+        && (takes_explain(mode) || !flags.explain)
         && !(flags.watch && flags.bare)
 }
 
@@ -49,4 +58,14 @@ fn takes_bare(mode: Mode) -> bool
     ensures { result ≡ takes_bare mode }
 {
     matches!(mode, Mode::Exec)
+}
+
+/// `--explain` is for the modes that read a source.
+fn takes_explain(mode: Mode) -> bool
+    ensures { result ≡ takes_explain mode }
+{
+    match mode {
+        Mode::Check | Mode::Build | Mode::Run | Mode::Alloc | Mode::Show | Mode::Format => true,
+        _ => false,
+    }
 }

@@ -1,6 +1,7 @@
 //! The command line: its words become a mode, a file, sizes and flags, or a usage fault.
 //!
-//! Its form is `MODE FILE`, with `--heap`, `--stack`, `--steps`, `--watch`, `--fold` and `--bare`.
+//! Its form is `MODE FILE`, with `--heap`, `--stack`, `--steps`, `--watch`, `--fold`, `--bare` and
+//! `--explain`.
 //! Promises the mode, the file, the three numbers and the flags that the words ask for, or that
 //! they ask for none.
 #![tactic(auto)]

@@ -61,7 +61,8 @@ fn command<'a>(alloc: Global) -> Result<Command<'a>, AllocError>
         .arg(option(alloc, "steps"))?
         .arg(flag(alloc, "watch"))?
         .arg(flag(alloc, "fold"))?
-        .arg(flag(alloc, "bare"))
+        .arg(flag(alloc, "bare"))?
+        .arg(flag(alloc, "explain"))
 }
 
 // The kind of fault that an error of the parse is.
@@ -104,6 +105,7 @@ pub(crate) fn take_words<'a>(alloc: Global, words: &'a [String]) -> Result<Value
             watch: has_flag(&matches, "watch"),
             fold: has_flag(&matches, "fold"),
             bare: has_flag(&matches, "bare"),
+            explain: has_flag(&matches, "explain"),
         },
     })
 }

@@ -40,6 +40,7 @@ use Rattle.tg_driver.specs.FormatMode.{IsFormatted, ByFormat}
 use Rattle.tg_driver.specs.laws.Laws.{ReadsFile}
 use Rattle.tg_driver.specs.glue.PrivateCalls.{IsBeforeStart, IsReported, itself, no_memory}
 use Rattle.tg_driver.specs.Answered.{IsDueBy, StaysInGen, NoneUnasked, told_runs, usage, asked, AnswersBy}
+use Rattle.tg_driver.specs.Explained.{IsExplained}
 use Rattle.tg_driver.specs.Watching.{NoneBeforeEnd}
 use Rattle.tg_driver.specs.Answered as answered
 
@@ -284,19 +285,30 @@ left_alone texts runs words shelf s answer b (answered.no_memory is kept u) = u
 left_alone texts runs words shelf s answer b (asked a ask h) = left_in texts (runs a) a.mode shelf s a answer b h
 
 -- the answer that was told
-pub answers_of : {H I O E : Type 0} (texts : Texts) (c : Call H I O E) (status : ℕ) (reports : List ℕ) (answer : Answer) →
+pub answers_of : {H I O E : Type 0} (texts : Texts) (c : Call H I O E) (status : ℕ) (reports : List ℕ) (answer : Answer) (explanation : List ℕ) →
     IsDueBy texts (told_runs c reports) c.words c.shelf c.streams answer → NoneBeforeEnd reports answer → NoneUnasked c.words reports →
-    IsReported c.err reports answer status → AnswersBy texts c status
-answers_of texts c status reports answer due before_end unasked (itself told) =
-    record { answer = answer; reports = reports; due = due; before_end = before_end; unasked = unasked; told = told }
-answers_of texts c status reports answer due before_end unasked (no_memory before told) =
+    IsExplained c.words c.shelf answer explanation → IsReported c.err reports answer explanation status → AnswersBy texts c status
+answers_of texts c status reports answer explanation due before_end unasked explained (itself told) =
+    record {
+      answer = answer;
+      reports = reports;
+      explanation = explanation;
+      due = due;
+      before_end = before_end;
+      unasked = unasked;
+      explained = explained;
+      told = told;
+    }
+answers_of texts c status reports answer explanation due before_end unasked explained (no_memory before told) =
     record {
       answer = OutOfMemory;
       reports = [];
+      explanation = [];
       due = answered.no_memory refl (stays_in_gen texts (told_runs c reports) c.words c.shelf c.streams answer due)
           (left_alone texts (told_runs c reports) c.words c.shelf c.streams answer before due);
       before_end = refl;
       unasked = λ a ask off. refl;
+      explained = refl;
       told = told;
     }
 

@@ -31,20 +31,11 @@ use Rattle.tg_driver.specs.Answered.{told_runs, usage, no_memory, asked, Answers
 use Rattle.tg_driver.specs.laws.AsMeant.{IsDue}
 use Rattle.tg_driver.specs.laws.Laws.{HoldsFile, ReadsFile, IsGood, Gives, EndsAndTells, IsFaultyOrWritten, EndsGenerated, Settles, settled_runs}
 use Rattle.tg_driver.specs.laws.Laws.{IsSettled}
+use Rattle.tg_driver.proofs.SettledExplanations.{front_is, settled_explanation}
 use Rattle.tg_driver.proofs.ExactRuns.{ends_as_told, ends_faultless, exact_reports, read_cause, write_cause, run_of}
 use Rattle.tg_driver.proofs.Watched.{run_more, exec_more}
 use Rattle.tg_driver.proofs.SourcesOnce.{meant_source, listed_source, shown_source}
 use Rattle.tg_driver.proofs.CanonicalTexts.{of_formatted}
-
--- the prefix of a file that the shelf holds
-front_is : (files : Files) (name : List ℕ) (most : ℕ) (text file : List ℕ) (at : List ℕ → Option (List ℕ)) → files ≡ Some at →
-    at name ≡ Some file → IsFilePrefix files name most text → text ≡ take most file
-front_is files name most text file at tells holds front =
-    let P : Files → Type 0 = λ f. IsFilePrefix f name most text in
-    held at (subst P tells front) holds
-  where
-    held : (at : List ℕ → Option (List ℕ)) → IsFilePrefix (Some at) name most text → at name ≡ Some file → text ≡ take most file
-    held at front holds = rw holds at front
 
 -- the answer to the text of the file, where that can be read
 pub to_text : {H : Type 0} (shelf : Shelved H) (name : List ℕ) (most : ℕ) (due : List ℕ → Answer → Type 0) (file : List ℕ) (answer : Answer) →
@@ -198,43 +189,46 @@ took sink due whole status kept (all some is line) = (is, line)
 took sink due whole status kept (part is some failed front) = absurd (kept failed)
 
 pub given : {H I O E : Type 0} (c : Call H I O E) (status : ℕ) (a : Asked) (file : List ℕ) (h : Answers c status) → IsGood c a file →
-    Gives c status h.reports h.answer
+    Gives c status h.reports h.answer h.explanation
 given c status a file h good =
-    let t = took c.err (h.reports ++ line_of h.answer) (status_of h.answer) status good.all_told h.told in
-    record { status_is = t.0; text_is = t.1; before_end = h.before_end; unasked = h.unasked }
+    let t = took c.err (h.reports ++ (line_of h.answer ++ h.explanation)) (status_of h.answer) status good.all_told h.told in
+    record { status_is = t.0; text_is = t.1; before_end = h.before_end; unasked = h.unasked; explained = h.explained }
 
 -- out of memory was told
-pub given_memory : {H I O E : Type 0} (c : Call H I O E) (status : ℕ) (reports : List ℕ) (answer : Answer) → answer ≡ OutOfMemory →
-    Gives c status reports answer → Gives c status [] OutOfMemory
-given_memory c status reports answer is g =
-    let P : Answer → Type 0 = λ x. Gives c status reports x in
-    let Q : List ℕ → Type 0 = λ r. Gives c status r OutOfMemory in
+pub given_memory : {H I O E : Type 0} (c : Call H I O E) (status : ℕ) (reports : List ℕ) (answer : Answer) (explanation : List ℕ) →
+    answer ≡ OutOfMemory → Gives c status reports answer explanation → Gives c status [] OutOfMemory []
+given_memory c status reports answer explanation is g =
+    let P : Answer → Type 0 = λ x. Gives c status reports x explanation in
+    let Q : List ℕ → Type 0 = λ r. Gives c status r OutOfMemory explanation in
+    let R : List ℕ → Type 0 = λ e. Gives c status [] OutOfMemory e in
     let m = subst P is g in
-    subst Q m.before_end m
+    subst R m.explained (subst Q m.before_end m)
 
 -- what a good call answers is due in its mode, or memory ran out
 pub in_its_mode : {H I O E : Type 0} (c : Call H I O E) (status : ℕ) (a : Asked) (file : List ℕ) (h : Answers c status) → IsGood c a file →
-    InMode c.rule (told_runs c h.reports a) a.mode c.shelf c.streams a h.answer ⊎ Gives c status [] OutOfMemory
+    InMode c.rule (told_runs c h.reports a) a.mode c.shelf c.streams a h.answer ⊎ Gives c status [] OutOfMemory []
 in_its_mode c status a file h good = by h.due
   where
     by : IsDue c.rule (told_runs c h.reports) c.words c.shelf c.streams h.answer →
-        InMode c.rule (told_runs c h.reports a) a.mode c.shelf c.streams a h.answer ⊎ Gives c status [] OutOfMemory
+        InMode c.rule (told_runs c h.reports a) a.mode c.shelf c.streams a h.answer ⊎ Gives c status [] OutOfMemory []
     by (usage is fault same u) = absurd (asked_no_fault c.words a good.ask fault)
-    by (no_memory is kept u) = inr (given_memory c status h.reports h.answer is (given c status a file h good))
+    by (no_memory is kept u) = inr (given_memory c status h.reports h.answer h.explanation is (given c status a file h good))
     by (asked b ask in_its) =
         let P : Asked → Type 0 = λ x. InMode c.rule (told_runs c h.reports x) x.mode c.shelf c.streams x h.answer in
         inl (subst P (asked_once c.words b a ask good.ask) in_its)
 
 pub complete : {H I O E : Type 0} (c : Call H I O E) (status : ℕ) (a : Asked) (file : List ℕ) → Answers c status →
-    IsGood c a file → IsSettled c status a (take (most_of a.mode) file) ⊎ Gives c status [] OutOfMemory
+    IsGood c a file → IsSettled c status a (take (most_of a.mode) file) ⊎ Gives c status [] OutOfMemory []
 complete c status a file h good = by (in_its_mode c status a file h good)
   where
-    by : InMode c.rule (told_runs c h.reports a) a.mode c.shelf c.streams a h.answer ⊎ Gives c status [] OutOfMemory →
-        IsSettled c status a (take (most_of a.mode) file) ⊎ Gives c status [] OutOfMemory
+    by : InMode c.rule (told_runs c h.reports a) a.mode c.shelf c.streams a h.answer ⊎ Gives c status [] OutOfMemory [] →
+        IsSettled c status a (take (most_of a.mode) file) ⊎ Gives c status [] OutOfMemory []
     by (inr wanting) = inr wanting
     by (inl in_mode) = inl (record {
       answer = h.answer;
       reports = h.reports;
+      explanation = h.explanation;
       settled = settled c a file a.mode h.reports h.answer good (λ r. r) in_mode;
+      explains = settled_explanation c a file h.answer h.explanation good h.explained;
       gives = given c status a file h good;
     })

@@ -4,6 +4,7 @@ pub mod Typings
 pub mod LineLemmas
 pub mod TokensOnce
 pub mod FaultsOnce
+mod ExplanationsOnce
 pub mod SourcesOnce
 pub mod CanonicalTexts
 pub mod ModesOnce
@@ -11,7 +12,9 @@ pub mod ToldInputs
 pub mod FlagLemmas
 mod ExactRuns
 pub mod MeantEnds
+pub mod SettledExplanations
 pub mod Complete
+pub mod GivenTexts
 pub mod MeantCommands
 pub mod AnswerLemmas
 pub mod Watched

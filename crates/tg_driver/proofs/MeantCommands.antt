@@ -118,11 +118,11 @@ module _ (ends : EndedIsMeant) (goes_on : RunningIsMeant) where
   means c a file Gen answer good reads fit h = generates_so c.streams.out a answer (sizes_of c.words a good.ask) good.all_written h.3
 
   pub does_as_meant : {H I O E : Type 0} (c : Call H I O E) (status : ℕ) (a : Asked) (file : List ℕ) → Answers c status →
-      IsGood c a file → DoesAsMeant c status a (take (most_of a.mode) file) ⊎ Gives c status [] OutOfMemory
+      IsGood c a file → DoesAsMeant c status a (take (most_of a.mode) file) ⊎ Gives c status [] OutOfMemory []
   does_as_meant c status a file h good = by (in_its_mode c status a file h good)
     where
-      by : InMode c.rule (told_runs c h.reports a) a.mode c.shelf c.streams a h.answer ⊎ Gives c status [] OutOfMemory →
-          DoesAsMeant c status a (take (most_of a.mode) file) ⊎ Gives c status [] OutOfMemory
+      by : InMode c.rule (told_runs c h.reports a) a.mode c.shelf c.streams a h.answer ⊎ Gives c status [] OutOfMemory [] →
+          DoesAsMeant c status a (take (most_of a.mode) file) ⊎ Gives c status [] OutOfMemory []
       by (inr wanting) = inr wanting
       by (inl told) =
           let in_mode = in_mode_more (texts_meant c.rule) (told_runs c h.reports a) (HasRunBy c.streams a.flags.bare) a.mode c.shelf c.streams a h.answer
@@ -130,6 +130,7 @@ module _ (ends : EndedIsMeant) (goes_on : RunningIsMeant) where
           inl (record {
             answer = h.answer;
             reports = h.reports;
+            explanation = h.explanation;
             means = means c a file a.mode h.answer good (λ r. r) good.ask.flags.fit in_mode;
             gives = given c status a file h good;
           })

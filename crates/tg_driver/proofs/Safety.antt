@@ -462,11 +462,11 @@ blamed c Unwritten e h = inr (inr (inl h))
 blamed c (Finished end) e h = blamed_end c end e h
 blamed c _ e h = absurd (omega (arith, e))
 
-told_74 : {H I O E : Type 0} (c : Call H I O E) (status : ℕ) (reports : List ℕ) (answer : Answer) → IsCaused c.streams answer →
-    IsTold c.err reports answer status → status ≡ 74 → IsExit answer ⊎ SomeFailed c
-told_74 c status reports answer h (nothing none is stays) e = blamed c answer (sym is ∙ e) h
-told_74 c status reports answer h (all some is line) e = blamed c answer (sym is ∙ e) h
-told_74 c status reports answer h (part is some f front) e = inr (inr (inr f))
+told_74 : {H I O E : Type 0} (c : Call H I O E) (status : ℕ) (reports : List ℕ) (answer : Answer) (explanation : List ℕ) → IsCaused c.streams answer →
+    IsTold c.err reports answer explanation status → status ≡ 74 → IsExit answer ⊎ SomeFailed c
+told_74 c status reports answer explanation h (nothing none is stays) e = blamed c answer (sym is ∙ e) h
+told_74 c status reports answer explanation h (all some is line) e = blamed c answer (sym is ∙ e) h
+told_74 c status reports answer explanation h (part is some f front) e = inr (inr (inr f))
 
 module _ {H I O E : Type 0} (c : Call H I O E) (answer : Answer) where
   caused_due : IsDue c.rule (λ a. HasRunBy c.streams a.flags.bare) c.words c.shelf c.streams answer → IsCaused c.streams answer
@@ -508,7 +508,7 @@ module _ {H I O E : Type 0} (c : Call H I O E) (answer : Answer) where
         takes = it.takes;
       }
 
-pub safe : {H I O E : Type 0} (c : Call H I O E) (status : ℕ) (given : Answers c status) → IsSafe c status given.reports given.answer
+pub safe : {H I O E : Type 0} (c : Call H I O E) (status : ℕ) (given : Answers c status) → IsSafe c status given.reports given.answer given.explanation
 safe c status given =
     let due = due_more (texts_meant c.rule) (told_runs c given.reports) (λ a. HasRunBy c.streams a.flags.bare) c.words c.shelf c.streams given.answer
     (λ a image end is. run_of c.streams a.flags.bare (if_watched a.flags c.reporters) given.reports image a.heap a.stack a.steps end) given.due in
@@ -520,5 +520,5 @@ safe c status given =
       front = front_due c given.answer due;
       caused = caused;
       told = given.told;
-      failed = told_74 c status given.reports given.answer caused given.told;
+      failed = told_74 c status given.reports given.answer given.explanation caused given.told;
     }

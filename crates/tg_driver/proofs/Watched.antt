@@ -1,6 +1,6 @@
 -- What is said of runs, more weakly; and from runs that watchers saw to what they tell.
 use Rattle.std.specs.Prelude.{Ok, Err, if◌then◌else◌}
-use Rattle.std.proofs.Common.{ℕ, ◌≡◌, Option, None, List, [], Bool, true, false, map, refl, sym, ap, subst, ◌∙◌, length, arith}
+use Rattle.std.proofs.Common.{ℕ, ◌≡◌, Option, None, List, [], ◌++◌, Bool, true, false, map, refl, sym, ap, subst, ◌∙◌, length, arith, append-nil}
 use Rattle.tg_machine_state.specs.declared.ends.RunEnd.{RunEnd}
 use Rattle.tg_isa.specs.declared.images.Image.{Image}
 use Rattle.tg_machine.specs.declared.fetches.Seen.{Seen}
@@ -39,6 +39,7 @@ use Rattle.tg_driver.specs.Modes.{InModeBy, texts_meant}
 use Rattle.tg_driver.specs.glue.PrivateCalls.{ReadsNoInput}
 use Rattle.tg_driver.specs.Answered.{IsDueBy, NoneUnasked, told_runs, usage, no_memory, asked, AnswersBy}
 use Rattle.tg_driver.specs.glue.PrivateCalls.{IsReported}
+use Rattle.tg_driver.specs.Explained.{IsExplained}
 use Rattle.tg_driver.specs.Watching.{HasToldRun, HasToldRunBy, NoneBeforeEnd, if_watched}
 use Rattle.tg_driver.specs.glue.Watched.{HasWatchedRun, HasWatchedRunBy, HasUnseenRun, Tell, TellAfter}
 use Rattle.tg_driver.proofs.AnswerLemmas.{answers_of, took_all}
@@ -263,12 +264,14 @@ module _ {W I O : Type 0} (stands : W → List Seen → ℕ → Type 0) (report 
     told_due answer others (asked a ask h) = by_answer answer a ask (λ started. others started a ask) h
 
 -- and so by the rule of the policy in the box
-pub answers_by : {H I O E : Type 0} (by : SpillRule → Texts) (rule : SpillRule) (c : Call H I O E) (status : ℕ) (reports : List ℕ) (answer : Answer) →
+pub answers_by : {H I O E : Type 0} (by : SpillRule → Texts) (rule : SpillRule) (c : Call H I O E) (status : ℕ) (reports : List ℕ) (answer : Answer)
+    (explanation : List ℕ) →
     rule ≡ c.rule → IsDueBy (by rule) (told_runs c reports) c.words c.shelf c.streams answer → NoneBeforeEnd reports answer →
-    NoneUnasked c.words reports → IsReported c.err reports answer status → AnswersBy (by c.rule) c status
-answers_by by rule c status reports answer is due before_end unasked told =
+    NoneUnasked c.words reports → IsExplained c.words c.shelf answer explanation → IsReported c.err reports answer explanation status →
+    AnswersBy (by c.rule) c status
+answers_by by rule c status reports answer explanation is due before_end unasked explained told =
     let P : SpillRule → Type 0 = λ r. IsDueBy (by r) (told_runs c reports) c.words c.shelf c.streams answer in
-    answers_of (by c.rule) c status reports answer (subst P is due) before_end unasked told
+    answers_of (by c.rule) c status reports answer explanation (subst P is due) before_end unasked explained told
 
 -- what is said of texts, more weakly
 module _ (texts others : Texts)
@@ -427,3 +430,10 @@ took_told taken faults old new u due whole failed h = took_all (stream_of taken 
 pub took_part : {T E A : Type 0} {F : Type 0} (taken : T → Option (List ℕ)) (faults : T → ℕ) (old new : T) (f : F) (due : List ℕ) (whole failed : A) →
     HasTold {T = E} {E = F} taken faults old new (Err f) due → Takes (stream_of taken faults old new) due whole failed failed
 took_part taken faults old new f due whole failed h = part refl h.some h.cause.failed h.bytes
+
+-- and with nothing behind it
+pub with_nothing : {T A : Type 0} (sink : Stream T) (reports line : List ℕ) (whole failed result : A) →
+    Takes sink (reports ++ line) whole failed result → Takes sink (reports ++ (line ++ [])) whole failed result
+with_nothing sink reports line whole failed result h =
+    let P : List ℕ → Type 0 = λ l. Takes sink (reports ++ l) whole failed result in
+    subst P (sym (append-nil line)) h

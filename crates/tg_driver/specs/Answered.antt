@@ -5,6 +5,7 @@ use Rattle.tg_command.specs.Commands.{Asked, Ask, IsUsageFault}
 use Rattle.tg_driver.specs.declared.answers.Answer.{Answer}
 use Rattle.tg_driver.specs.declared.answers.Answer.TheVariants.{Usage, OutOfMemory}
 use Rattle.tg_driver.specs.Calls.{Shelved, Streams, Untouched, Call}
+use Rattle.tg_driver.specs.Explained.{IsExplained}
 use Rattle.tg_driver.specs.Modes.{InModeBy, texts_meant}
 use Rattle.tg_driver.specs.Runs.{RunRelation}
 use Rattle.tg_driver.specs.Telling.{IsTold}
@@ -49,15 +50,17 @@ abbrev pub told_runs : {H I O E : Type 0} → Call H I O E → (reports : List �
 told_runs c reports a =
     HasToldRunBy c.streams a.flags.bare (if_watched a.flags c.reporters) reports
 
--- The answer is due. The error sink took the reports of its run and its line, and the status is its
--- own; or a write of these failed, and the status is 74.
+-- The answer is due. The error sink took the reports of its run, its line and its explanation, and
+-- the status is its own; or a write of these failed, and the status is 74.
 pub record AnswersBy {H I O E : Type 0} (texts : Texts) (c : Call H I O E) (status : ℕ) : Type 0 where
   pub answer : Answer
   pub reports : List ℕ
+  pub explanation : List ℕ
   pub due : IsDueBy texts (told_runs c reports) c.words c.shelf c.streams answer
   pub before_end : NoneBeforeEnd reports answer
   pub unasked : NoneUnasked c.words reports
-  pub told : IsTold c.err reports answer status
+  pub explained : IsExplained c.words c.shelf answer explanation
+  pub told : IsTold c.err reports answer explanation status
 
 -- by assembly texts that do what the source means
 abbrev pub Answers : {H I O E : Type 0} → Call H I O E → (status : ℕ) → Type 0

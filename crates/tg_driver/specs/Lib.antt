@@ -1,6 +1,7 @@
 pub mod Faults
 pub mod Statuses
 pub mod Calls
+pub mod Explained
 pub mod OfFiles
 pub mod Runs
 pub mod Watching

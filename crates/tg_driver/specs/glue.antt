@@ -4,3 +4,4 @@ pub mod Plainly
 pub mod Found
 pub mod Watched
 pub mod PrivateCalls
+pub mod Explanations

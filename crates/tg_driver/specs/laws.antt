@@ -6,3 +6,4 @@ pub mod Meanings
 pub mod AsMeant
 pub mod OfTexts
 pub mod Settled
+pub mod Explanations

@@ -7,7 +7,7 @@ ghost use Rattle.tg_command.specs.Commands.{asked_of};
 ghost use Rattle.tg_driver.specs.Calls.{shelf_of};
 ghost use Rattle.tg_driver.specs.CheckMode.{IsChecked};
 ghost use Rattle.tg_driver.specs.OfFiles.{OfFile};
-ghost use Rattle.tg_driver.specs.glue.PrivateCalls.{OrMemory};
+ghost use Rattle.tg_driver.specs.glue.PrivateCalls.{GivesText, OrMemory};
 ghost use Rattle.tg_driver.specs.glue.Found.{IsRefused};
 ghost use Rattle.tg_driver.specs.glue.Readings.{HasNamedTree, IsRefusalOf};
 
@@ -21,14 +21,25 @@ use tg_base::{Shelf, place};
 use tg_command::Command;
 use tg_typecheck::check;
 
-/// The answer of the mode `check`.
-pub(crate) fn answer_check<H: Shelf>(alloc: Global, command: &Command, shelf: &mut H) -> Answer
+/// The answer of the mode `check`, and the source that was read.
+pub(crate) fn answer_check<H: Shelf>(
+    alloc: Global,
+    command: &Command,
+    shelf: &mut H,
+    source: &mut Vec<u8>,
+) -> Answer
     ensures due { OrMemory ⊤ (OfFile (shelf_of H.files H.faults shelf.old shelf.new)
         (asked_of command.now).file 262145 IsChecked) result }
+    ensures source { GivesText (shelf_of H.files H.faults shelf.old shelf.new)
+        (asked_of command.now).file result source.new.items }
     ensures files { H.files shelf.new ≡ H.files shelf.old }
 {
     match shelf.read_file(alloc, command.file.as_str(), LONGEST + 1) {
-        Ok(text) => check_text(alloc, &text),
+        Ok(text) => {
+            let answer = check_text(alloc, &text);
+            *source = text;
+            answer
+        }
         Err(fault) => unread(fault),
     }
 }

@@ -2,7 +2,12 @@ ghost use Rattle.std.specs.Prelude.{◌≡◌, ⊤, MatchResult};
 ghost use Rattle.tg_command.specs.Commands.{asked_of};
 ghost use Rattle.tg_driver.specs.Calls.{shelf_of, stream_of};
 ghost use Rattle.tg_driver.specs.FormatMode.{Formats, IsFormatted};
-ghost use Rattle.tg_driver.specs.glue.PrivateCalls.{IsRefusedUntyped, OrMemory, StaysBeforeStart};
+ghost use Rattle.tg_driver.specs.glue.PrivateCalls.{
+  GivesText,
+  IsRefusedUntyped,
+  OrMemory,
+  StaysBeforeStart,
+};
 ghost use Rattle.tg_driver.specs.OfFiles.{OfFile};
 ghost use Rattle.tg_driver.specs.glue.Readings.{IsUntypedRefusalOf};
 
@@ -24,6 +29,7 @@ pub(crate) fn answer_format<H: Shelf, I: Source, O: Sink>(
     command: &Command,
     shelf: &mut H,
     streams: Streams<I, O>,
+    source: &mut Vec<u8>,
 ) -> Answer
     ensures due { OrMemory ⊤ (OfFile (shelf_of H.files H.faults shelf.old shelf.new)
         (asked_of command.now).file 262145
@@ -32,10 +38,12 @@ pub(crate) fn answer_format<H: Shelf, I: Source, O: Sink>(
     ensures before_start { StaysBeforeStart
         (stream_of O.taken O.faults streams.entry.out.now streams.exit.1.0.now) result }
     ensures unread { streams.exit.0.now ≡ streams.entry.input.now }
+    ensures source { GivesText (shelf_of H.files H.faults shelf.old shelf.new)
+        (asked_of command.now).file result source.new.items }
     ensures files { H.files shelf.new ≡ H.files shelf.old }
 {
     let Streams { input: _, out } = streams;
-    format_file(alloc, command, shelf, out)
+    format_file(alloc, command, shelf, out, source)
 }
 
 /// The answer of the source in the command's file, of which the canonical text is to be written.
@@ -44,15 +52,22 @@ fn format_file<H: Shelf, O: Sink>(
     command: &Command,
     shelf: &mut H,
     out: &mut O,
+    source: &mut Vec<u8>,
 ) -> Answer
     ensures due { OrMemory ⊤ (OfFile (shelf_of H.files H.faults shelf.old shelf.new)
         (asked_of command.now).file 262145
         (IsFormatted (stream_of O.taken O.faults out.old out.new))) result }
     ensures before_start { StaysBeforeStart (stream_of O.taken O.faults out.old out.new) result }
+    ensures source { GivesText (shelf_of H.files H.faults shelf.old shelf.new)
+        (asked_of command.now).file result source.new.items }
     ensures files { H.files shelf.new ≡ H.files shelf.old }
 {
     match shelf.read_file(alloc, command.file.as_str(), LONGEST + 1) {
-        Ok(text) => format_source(alloc, &text, out),
+        Ok(text) => {
+            let answer = format_source(alloc, &text, out);
+            *source = text;
+            answer
+        }
         Err(fault) => unread(fault),
     }
 }

@@ -18,12 +18,14 @@ ghost use Rattle.tg_driver.specs.declared.answers.Answer.TheVariants.{
 ghost use Rattle.tg_driver.specs.Answered.{Answers};
 ghost use Rattle.tg_driver.specs.Calls.{Call, Stream, Streams};
 ghost use Rattle.tg_driver.specs.ExecMode.{IsExecuted};
+ghost use Rattle.tg_driver.specs.Explained.{TellsWhy, no_memory_line};
 ghost use Rattle.tg_driver.specs.FormatMode.{Formats, IsFormatted};
 ghost use Rattle.tg_driver.specs.laws.OfTexts.{TakeOneText, IsDueOfText, most_of};
 ghost use Rattle.tg_driver.specs.glue.PrivateCalls.{HasStarted};
 ghost use Rattle.tg_driver.specs.Runs.{HasRunBy};
 ghost use Rattle.tg_driver.specs.laws.Settled.{IsExact, reports_on};
 ghost use Rattle.tg_driver.specs.Watching.{HasToldRunBy};
+ghost use Rattle.tg_driver.specs.laws.Explanations.{ExpectedAreTold};
 ghost use Rattle.tg_driver.specs.laws.Laws.{Gives, IsFaultless, IsGood, IsSettled};
 ghost use Rattle.tg_driver.specs.laws.Meanings.{SourcesAreNeverStuck};
 ghost use Rattle.tg_driver.specs.laws.MeantCommands.{DoesAsMeant};
@@ -31,18 +33,30 @@ ghost use Rattle.tg_driver.specs.laws.MeantEnds.{GeneratedAreMeant, RunsAreMeant
 ghost use Rattle.tg_driver.specs.laws.Safe.{IsSafe};
 
 use tg_compile_proof::{ends_are_as_meant, exits_are_words};
+use tg_explain::expected_is_all;
 
 /// The law that the commands of a mode have at most one answer for a text, but where the streams
 /// were touched: an end of a run, which the input decides too, or whether the output took what was
 /// written. So each refusal comes exactly where its cause stands, whatever the policies, and
-/// whatever else the commands ask for, flags too; or it is out of memory. It does nothing.
+/// whatever else the commands ask for, flags too; or it is out of memory. And a text has one
+/// explanation, or there was no memory for it. It does nothing.
 pub fn one_answer<I, O>()
-    ensures { (s : Streams I O) (reporters others : List Report) (reports told : List ℕ)
+    ensures answers { (s : Streams I O) (reporters others : List Report) (reports told : List ℕ)
         (mode : Mode) (one other : Asked) (text : List ℕ) (a b : Answer)
         → IsDueOfText (HasToldRunBy s one.flags.bare reporters reports) mode one text a
         → IsDueOfText (HasToldRunBy s other.flags.bare others told) mode other text b
         → (a ≡ b) ⊎ (HasStarted a × HasStarted b) }
+    ensures explanations { (text one other : List ℕ) → TellsWhy text one → TellsWhy text other
+        → (one ≡ other) ⊎ (one ≡ no_memory_line) ⊎ (other ≡ no_memory_line) }
 {}
+
+/// The law that where the tokens of a text have S1, its explanation tells exactly the kinds of tokens
+/// with which some program goes on behind those before. It does nothing.
+pub fn expected_are_told()
+    ensures { ExpectedAreTold }
+{
+    expected_is_all();
+}
 
 /// The law that a run of either machine ends exactly as the definition's run does on the same bytes,
 /// where the input tells them and no read or write ended it: it writes what that one writes, and
@@ -85,7 +99,7 @@ pub fn answers_are_exact<I, O, J, P>()
 /// failed read or write has a count as its cause. It does nothing.
 pub fn answers_are_safe<H, I, O, E>()
     ensures { (c : Call H I O E) (status : ℕ) (given : Answers c status)
-        → IsSafe c status given.reports given.answer }
+        → IsSafe c status given.reports given.answer given.explanation }
 {}
 
 /// The law that a call with good words for a file that is there, in which no count of faults rose,
@@ -94,7 +108,7 @@ pub fn answers_are_complete<H, I, O, E>()
     ensures { (c : Call H I O E) (status : ℕ) (asked : Asked) (file : List ℕ)
         → Answers c status → IsGood c asked file
         → IsSettled c status asked (take (most_of asked.mode) file)
-        ⊎ Gives c status [] OutOfMemory }
+        ⊎ Gives c status [] OutOfMemory [] }
 {}
 
 /// The law that the evaluation of an accepted source is never stuck: it meets no value of the wrong
@@ -124,7 +138,7 @@ pub fn commands_are_as_meant<H, I, O, E>()
     ensures { (c : Call H I O E) (status : ℕ) (asked : Asked) (file : List ℕ)
         → Answers c status → IsGood c asked file
         → DoesAsMeant c status asked (take (most_of asked.mode) file)
-        ⊎ Gives c status [] OutOfMemory }
+        ⊎ Gives c status [] OutOfMemory [] }
 {
     ends_are_as_meant();
 }

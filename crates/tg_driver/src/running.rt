@@ -7,7 +7,7 @@ ghost use Rattle.tg_compile.specs.Compiling.{HasImage};
 ghost use Rattle.tg_compile_proof.specs.Builds.{Builds};
 ghost use Rattle.tg_driver.specs.Calls.{shelf_of, stream_of, streams_of};
 ghost use Rattle.tg_driver.specs.OfFiles.{OfFile, UntouchedBeforeStart};
-ghost use Rattle.tg_driver.specs.glue.PrivateCalls.{OrMemory, EndsAssembled};
+ghost use Rattle.tg_driver.specs.glue.PrivateCalls.{GivesText, OrMemory, EndsAssembled};
 ghost use Rattle.tg_driver.specs.RunMode.{IsRunBy};
 ghost use Rattle.tg_driver.specs.glue.Watched.{HasWatchedRun};
 ghost use Rattle.tg_driver.specs.Passes.{passes_of};
@@ -33,6 +33,7 @@ pub(crate) fn answer_run<H: Shelf, I: Source, O: Sink>(
     streams: Streams<I, O>,
     policy: &mut dyn SpillPolicy,
     watchers: &mut Vec<Box<dyn Watcher>>,
+    source: &mut Vec<u8>,
 ) -> Answer
     requires { KeepsLimits (asked_of command.now) }
     ensures due { OrMemory ⊤ (OfFile (shelf_of H.files H.faults shelf.old shelf.new)
@@ -46,10 +47,16 @@ pub(crate) fn answer_run<H: Shelf, I: Source, O: Sink>(
     ensures before_start { UntouchedBeforeStart (streams_of
         (stream_of I.left I.faults streams.entry.input.now streams.exit.0.now)
         (stream_of O.taken O.faults streams.entry.out.now streams.exit.1.0.now)) result }
+    ensures source { GivesText (shelf_of H.files H.faults shelf.old shelf.new)
+        (asked_of command.now).file result source.new.items }
     ensures files { H.files shelf.new ≡ H.files shelf.old }
 {
     match shelf.read_file(alloc, command.file.as_str(), LONGEST + 1) {
-        Ok(text) => run_text(alloc, command, &text, streams, policy, watchers),
+        Ok(text) => {
+            let answer = run_text(alloc, command, &text, streams, policy, watchers);
+            *source = text;
+            answer
+        }
         Err(fault) => unread(fault),
     }
 }

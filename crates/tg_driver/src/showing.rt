@@ -6,7 +6,7 @@ ghost use Rattle.tg_driver.specs.OfFiles.{OfFile};
 ghost use Rattle.tg_driver.specs.Passes.{passes_of};
 ghost use Rattle.tg_driver.specs.ShowMode.{Shows};
 ghost use Rattle.tg_driver.specs.Writing.{IsWritten};
-ghost use Rattle.tg_driver.specs.glue.PrivateCalls.{OrMemory, StaysBeforeStart};
+ghost use Rattle.tg_driver.specs.glue.PrivateCalls.{GivesText, OrMemory, StaysBeforeStart};
 ghost use Rattle.tg_driver.specs.glue.Readings.{HasNamedTree, IsRefusalOf};
 
 use crate::answers::{Answer, unread};
@@ -33,6 +33,7 @@ pub(crate) fn answer_show<H: Shelf, I: Source, O: Sink>(
     shelf: &mut H,
     streams: Streams<I, O>,
     policy: &mut dyn SpillPolicy,
+    source: &mut Vec<u8>,
 ) -> Answer
     ensures due { OrMemory ⊤ (OfFile (shelf_of H.files H.faults shelf.old shelf.new)
         (asked_of command.now).file 262145
@@ -41,10 +42,12 @@ pub(crate) fn answer_show<H: Shelf, I: Source, O: Sink>(
     ensures before_start { StaysBeforeStart
         (stream_of O.taken O.faults streams.entry.out.now streams.exit.1.0.now) result }
     ensures unread { streams.exit.0.now ≡ streams.entry.input.now }
+    ensures source { GivesText (shelf_of H.files H.faults shelf.old shelf.new)
+        (asked_of command.now).file result source.new.items }
     ensures files { H.files shelf.new ≡ H.files shelf.old }
 {
     let Streams { input: _, out } = streams;
-    show_file(alloc, command, shelf, out, policy)
+    show_file(alloc, command, shelf, out, policy, source)
 }
 
 /// The answer of the source in the command's file, which is to be shown.
@@ -54,16 +57,23 @@ fn show_file<H: Shelf, O: Sink>(
     shelf: &mut H,
     out: &mut O,
     policy: &mut dyn SpillPolicy,
+    source: &mut Vec<u8>,
 ) -> Answer
     ensures due { OrMemory ⊤ (OfFile (shelf_of H.files H.faults shelf.old shelf.new)
         (asked_of command.now).file 262145
         (IsWritten (stream_of O.taken O.faults out.old out.new)
         (Shows (passes_of (asked_of command.now)) (rule policy.old)))) result }
     ensures before_start { StaysBeforeStart (stream_of O.taken O.faults out.old out.new) result }
+    ensures source { GivesText (shelf_of H.files H.faults shelf.old shelf.new)
+        (asked_of command.now).file result source.new.items }
     ensures files { H.files shelf.new ≡ H.files shelf.old }
 {
     match shelf.read_file(alloc, command.file.as_str(), LONGEST + 1) {
-        Ok(text) => show_source(alloc, &text, out, passes_of(command), policy),
+        Ok(text) => {
+            let answer = show_source(alloc, &text, out, passes_of(command), policy);
+            *source = text;
+            answer
+        }
         Err(fault) => unread(fault),
     }
 }

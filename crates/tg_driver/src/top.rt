@@ -12,9 +12,12 @@ ghost use Rattle.tg_command.specs.Commands.{Ask, Asked, KeepsLimits, asked_of};
 ghost use Rattle.tg_driver.specs.Answered.{Answers, IsDueBy};
 ghost use Rattle.tg_driver.specs.Calls.{call_of, shelf_of, stream_of, streams_of};
 ghost use Rattle.tg_driver.specs.Compiled.{AnswersCompiled, texts_compiled};
+ghost use Rattle.tg_driver.specs.Explained.{IsExplained};
 ghost use Rattle.tg_driver.specs.GenMode.{IsGeneratedBy};
 ghost use Rattle.tg_driver.specs.Modes.{InModeBy};
+ghost use Rattle.tg_driver.specs.glue.Explanations.{text_of};
 ghost use Rattle.tg_driver.specs.glue.PrivateCalls.{
+  GivesText,
   LeavesAlone,
   ReadsNoInput,
   HasStarted,
@@ -29,6 +32,7 @@ ghost use Rattle.tg_driver.specs.Passes.{passes_of};
 use crate::answers::Answer;
 use crate::checking::answer_check;
 use crate::executing::answer_exec;
+use crate::explaining::{Explanation, explain};
 use crate::formatting::answer_format;
 use crate::generating::answer_gen;
 use crate::running::answer_run;
@@ -47,7 +51,8 @@ use tg_profiler::Watcher;
 /// The program: reads the words of a command, does what they ask, and answers the exit status. What
 /// it compiles is compiled by the policy of the tools. With `--watch` their watchers see the run, and
 /// each tells its report, line by line, on the error sink before the line of the status. With
-/// `--bare` the machine of `exec` has delayed branches. The tools are dropped by the end.
+/// `--bare` the machine of `exec` has delayed branches. With `--explain` the fault of a source is
+/// explained behind its line. The tools are dropped by the end.
 ///
 /// The answer is due both by what sources mean and by what they are compiled to: what `build`
 /// writes, and what `run` and `gen` run, does what the source means, and is an assembly text that
@@ -79,6 +84,7 @@ pub fn tiger<H: Shelf, I: Source, O: Sink, E: Sink>(
     build_is_correct();
     let mut tools = tools;
     let streams = Streams { input, out };
+    let mut explanation = Explanation::Nothing;
     let answer = answer_words(
         alloc,
         words,
@@ -86,11 +92,12 @@ pub fn tiger<H: Shelf, I: Source, O: Sink, E: Sink>(
         streams,
         &mut *tools.policy,
         &mut tools.watchers,
+        &mut explanation,
     );
-    report(alloc, err, &tools.watchers, answer)
+    report(alloc, err, &tools.watchers, answer, &explanation)
 }
 
-/// The answer that is due for the words.
+/// The answer that is due for the words, and what is told behind its line.
 fn answer_words<H: Shelf, I: Source, O: Sink>(
     alloc: Global,
     words: &[String],
@@ -98,7 +105,9 @@ fn answer_words<H: Shelf, I: Source, O: Sink>(
     streams: Streams<I, O>,
     policy: &mut dyn SpillPolicy,
     watchers: &mut Vec<Box<dyn Watcher>>,
+    explanation: &mut Explanation,
 ) -> Answer
+    requires { text_of explanation.old ≡ [] }
     ensures due { IsDueBy (texts_compiled (rule policy.old))
         (λ a. HasWatchedRunBy (λ w. stands w) (λ w. report w) a.flags.bare
         (if_watched a.flags watchers.old.items) watchers.new.items (streams_of
@@ -112,16 +121,31 @@ fn answer_words<H: Shelf, I: Source, O: Sink>(
         result }
     ensures unwatched { HasStarted result → (a : Asked) → Ask (map string_bytes words.now) a
         → ReadsNoInput a.mode → watchers.new.items ≡ [] }
+    ensures explained { IsExplained (map string_bytes words.now)
+        (shelf_of H.files H.faults shelf.old shelf.new) result (text_of explanation.new) }
     ensures files { H.files shelf.new ≡ H.files shelf.old }
 {
     match read_words(alloc, words) {
-        Ok(command) => answer_command(alloc, &command, shelf, streams, policy, watchers),
+        Ok(command) => {
+            let mut source = Vec::new(alloc);
+            let answer = answer_command(
+                alloc,
+                &command,
+                shelf,
+                streams,
+                policy,
+                watchers,
+                &mut source,
+            );
+            *explanation = explain(alloc, command.flags, &source, answer);
+            answer
+        }
         Err(CommandFault::Usage) => Answer::Usage,
         Err(CommandFault::Memory) => Answer::OutOfMemory,
     }
 }
 
-/// The answer to a command, by its mode.
+/// The answer to a command, by its mode, and the source that has the fault that is answered.
 fn answer_command<H: Shelf, I: Source, O: Sink>(
     alloc: Global,
     command: &Command,
@@ -129,6 +153,7 @@ fn answer_command<H: Shelf, I: Source, O: Sink>(
     streams: Streams<I, O>,
     policy: &mut dyn SpillPolicy,
     watchers: &mut Vec<Box<dyn Watcher>>,
+    source: &mut Vec<u8>,
 ) -> Answer
     requires { KeepsLimits (asked_of command.now) }
     ensures due { let left_alone = LeavesAlone command.now.mode
@@ -147,18 +172,24 @@ fn answer_command<H: Shelf, I: Source, O: Sink>(
         (stream_of O.taken O.faults streams.entry.out.now streams.exit.1.0.now))
         (asked_of command.now)) result }
     ensures unwatched { ReadsNoInput command.now.mode → watchers.new.items ≡ [] }
+    ensures source { GivesText (shelf_of H.files H.faults shelf.old shelf.new)
+        (asked_of command.now).file result source.new.items }
     ensures files { H.files shelf.new ≡ H.files shelf.old }
 {
     keep_asked(command.flags, watchers);
     match command.mode {
-        Mode::Check => answer_check(alloc, command, shelf),
-        Mode::Build => answer_written(alloc, command, shelf, streams, policy, Wanted::Assembly),
-        Mode::Run => answer_run(alloc, command, shelf, streams, policy, watchers),
+        Mode::Check => answer_check(alloc, command, shelf, source),
+        Mode::Build => {
+            answer_written(alloc, command, shelf, streams, policy, Wanted::Assembly, source)
+        }
+        Mode::Run => answer_run(alloc, command, shelf, streams, policy, watchers, source),
         Mode::Exec => answer_exec(alloc, command, shelf, streams, watchers),
-        Mode::Alloc => answer_written(alloc, command, shelf, streams, policy, Wanted::Allocations),
-        Mode::Show => answer_show(alloc, command, shelf, streams, policy),
+        Mode::Alloc => {
+            answer_written(alloc, command, shelf, streams, policy, Wanted::Allocations, source)
+        }
+        Mode::Show => answer_show(alloc, command, shelf, streams, policy, source),
         Mode::Gen => generate_to(alloc, command, streams, policy),
-        Mode::Format => answer_format(alloc, command, shelf, streams),
+        Mode::Format => answer_format(alloc, command, shelf, streams, source),
     }
 }
 

@@ -2,7 +2,12 @@ ghost use Rattle.std.specs.Prelude.{◌≡◌, ⊤, IfOk};
 ghost use Rattle.tg_command.specs.Commands.{asked_of};
 ghost use Rattle.tg_driver.specs.Calls.{shelf_of, stream_of};
 ghost use Rattle.tg_driver.specs.OfFiles.{OfFile};
-ghost use Rattle.tg_driver.specs.glue.PrivateCalls.{HasStarted, OrMemory, StaysBeforeStart};
+ghost use Rattle.tg_driver.specs.glue.PrivateCalls.{
+  GivesText,
+  HasStarted,
+  OrMemory,
+  StaysBeforeStart,
+};
 ghost use Rattle.tg_driver.specs.Passes.{passes_of};
 ghost use Rattle.tg_driver.specs.Writing.{IsWritten, TakesText};
 ghost use Rattle.tg_driver.specs.glue.Texts.{wanted_text, writes_of};
@@ -36,6 +41,7 @@ pub(crate) fn answer_written<H: Shelf, I: Source, O: Sink>(
     streams: Streams<I, O>,
     policy: &mut dyn SpillPolicy,
     wanted: Wanted,
+    source: &mut Vec<u8>,
 ) -> Answer
     ensures due { OrMemory ⊤ (OfFile (shelf_of H.files H.faults shelf.old shelf.new)
         (asked_of command.now).file 262145
@@ -44,10 +50,12 @@ pub(crate) fn answer_written<H: Shelf, I: Source, O: Sink>(
     ensures before_start { StaysBeforeStart
         (stream_of O.taken O.faults streams.entry.out.now streams.exit.1.0.now) result }
     ensures unread { streams.exit.0.now ≡ streams.entry.input.now }
+    ensures source { GivesText (shelf_of H.files H.faults shelf.old shelf.new)
+        (asked_of command.now).file result source.new.items }
     ensures files { H.files shelf.new ≡ H.files shelf.old }
 {
     let Streams { input: _, out } = streams;
-    write_file(alloc, command, shelf, out, policy, wanted)
+    write_file(alloc, command, shelf, out, policy, wanted, source)
 }
 
 /// The answer of the source in the command's file, of which a text is to be written.
@@ -58,16 +66,23 @@ fn write_file<H: Shelf, O: Sink>(
     out: &mut O,
     policy: &mut dyn SpillPolicy,
     wanted: Wanted,
+    source: &mut Vec<u8>,
 ) -> Answer
     ensures due { OrMemory ⊤ (OfFile (shelf_of H.files H.faults shelf.old shelf.new)
         (asked_of command.now).file 262145
         (IsWritten (stream_of O.taken O.faults out.old out.new)
         (writes_of wanted (passes_of (asked_of command.now)) (rule policy.old)))) result }
     ensures before_start { StaysBeforeStart (stream_of O.taken O.faults out.old out.new) result }
+    ensures source { GivesText (shelf_of H.files H.faults shelf.old shelf.new)
+        (asked_of command.now).file result source.new.items }
     ensures files { H.files shelf.new ≡ H.files shelf.old }
 {
     match shelf.read_file(alloc, command.file.as_str(), LONGEST + 1) {
-        Ok(text) => write_source(alloc, &text, out, passes_of(command), policy, wanted),
+        Ok(text) => {
+            let answer = write_source(alloc, &text, out, passes_of(command), policy, wanted);
+            *source = text;
+            answer
+        }
         Err(fault) => unread(fault),
     }
 }

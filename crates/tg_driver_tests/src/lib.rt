@@ -13,6 +13,8 @@ mod deep;
 #[cfg(test)]
 mod delayed;
 #[cfg(test)]
+mod explained;
+#[cfg(test)]
 mod failures;
 #[cfg(test)]
 mod faults;

@@ -6,7 +6,7 @@ use tg_command::{Command, Mode, read_words};
 use tg_driver::usage;
 
 // Command lines, with a `|` between their words, that are usage faults. FILE is there.
-static REFUSED: [&str; 95] = [
+static REFUSED: [&str; 100] = [
     "tiger",
     "tiger|run",
     "tiger|FILE",
@@ -42,6 +42,11 @@ static REFUSED: [&str; 95] = [
     "tiger|check|FILE|--fold",
     "tiger|exec|FILE|--fold",
     "tiger|format|FILE|--fold",
+    "tiger|exec|FILE|--explain",
+    "tiger|gen|3|--explain",
+    "tiger|check|FILE|--explain|--explain",
+    "tiger|check|FILE|--explain=1",
+    "tiger|check|FILE|--exp",
     "tiger|show|FILE|--watch",
     "tiger|show|FILE|--heap|16777216",
     "tiger|show|FILE|--stack=67108864",
@@ -106,7 +111,7 @@ static REFUSED: [&str; 95] = [
 
 // A status, a blank, and a command line that has it, where FILE holds `exit(7)` and the output
 // takes 64 bytes.
-static LINES: [&str; 44] = [
+static LINES: [&str; 46] = [
     "7 tiger|run|FILE",
     "7 |run|FILE",
     "0 tiger|check|FILE",
@@ -145,6 +150,8 @@ static LINES: [&str; 44] = [
     "7 tiger|--fold|run|FILE|--heap|8",
     "74 tiger|build|FILE|--fold",
     "66 tiger|alloc|MISSING|--fold",
+    "0 tiger|check|FILE|--explain",
+    "7 tiger|--explain|run|FILE|--fold|--watch",
     "65 tiger|exec|FILE",
     "66 tiger|exec|MISSING",
     "66 tiger|run|",

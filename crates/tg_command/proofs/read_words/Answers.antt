@@ -1,4 +1,4 @@
-use Rattle.std.proofs.Common.{◌≡◌, ℕ, List, Some, false, subst, codes, map, option_map, string_bytes, rules}
+use Rattle.std.proofs.Common.{◌≡◌, Some, false, subst, codes, map, option_map, string_bytes, rules}
 use Rattle.tg_command.specs.declared.flags.Flags.{Flags}
 use Rattle.tg_command.specs.Flagged.{flags_fit}
 use Rattle.tg_command.specs.Commands.{flags, number, sizes}

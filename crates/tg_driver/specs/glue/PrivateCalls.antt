@@ -13,6 +13,8 @@ use Rattle.tg_command.specs.declared.modes.Mode.{Mode}
 use Rattle.tg_command.specs.declared.modes.Mode.TheVariants.{Run, Exec, Gen}
 use Rattle.tg_driver.specs.Telling.{IsTold}
 use Rattle.tg_driver.specs.FormatMode.{IsUntypedFault}
+use Rattle.tg_driver.specs.Faults.{IsFaultOf}
+use Rattle.tg_base.specs.Files.{IsFilePrefix}
 use Rattle.tg_machine_state.specs.declared.ends.RunEnd.{RunEnd}
 use Rattle.tg_driver.specs.GenMode.{SumsUp}
 use Rattle.tg_driver.specs.MeantRuns.{RunsAssembled}
@@ -74,12 +76,14 @@ IsBeforeStart answer = Unit {0}
 
 -- the answer is told as it is, or, before anything was read or written, as out of memory
 pub data IsReported {E : Type 0} (err : Stream E) (reports : List ℕ)
-    (answer : Answer) (status : ℕ) : Type 0 where
-  itself : IsTold err reports answer status → IsReported err reports answer status
+    (answer : Answer) (explanation : List ℕ) (status : ℕ) : Type 0 where
+  itself :
+      IsTold err reports answer explanation status →
+      IsReported err reports answer explanation status
   no_memory :
       IsBeforeStart answer →
-      IsTold err [] OutOfMemory status →
-      IsReported err reports answer status
+      IsTold err [] OutOfMemory [] status →
+      IsReported err reports answer explanation status
 
 -- a source that is refused, but for no fault of types: that fault, or out of memory
 abbrev pub IsRefusedUntyped : List ℕ → Answer → Type 0
@@ -100,3 +104,10 @@ EndsAssembled runs assembly heap stack steps (Finished end) =
     RunsAssembled runs assembly heap stack steps end
 EndsAssembled runs assembly heap stack steps OutOfMemory = Unit {0}
 EndsAssembled runs assembly heap stack steps _ = ⊥
+
+-- the text is the one that the shelf gave of the file, and has the fault that is answered
+abbrev pub GivesText :
+    {H : Type 0} → Shelved H → (name : List ℕ) → Answer → (text : List ℕ) → Type 0
+GivesText shelf name (Faulty fault) text =
+    IsFilePrefix (shelf.files shelf.before) name 262145 text × IsFaultOf text fault
+GivesText shelf name answer text = Unit {0}

@@ -26,6 +26,7 @@ use Rattle.tg_driver.specs.Statuses.{status_of, line_of}
 use Rattle.tg_driver.specs.Watching.{NoneBeforeEnd, if_watched}
 use Rattle.tg_driver.specs.laws.Settled.{reports_on}
 use Rattle.tg_driver.specs.Answered.{NoneUnasked}
+use Rattle.tg_driver.specs.Explained.{IsExplanation, IfAsked, IsExplained}
 
 -- no read and no write ended the run of the answer
 pub record IsFaultless (answer : Answer) : Type 0 where
@@ -53,15 +54,18 @@ pub record IsGood {H I O E : Type 0} (c : Call H I O E)
   pub all_written : HasFailed c.streams.out → ⊥
   pub all_told : HasFailed c.err → ⊥
 
--- the status is that of the answer, and the error sink took its reports and its line; only a run
--- that was to be watched has reports
+-- the status is that of the answer, and the error sink took its reports, its line and its
+-- explanation; only a run that was to be watched has reports, and only a fault that was to be
+-- explained has an explanation
 pub record Gives {H I O E : Type 0} (c : Call H I O E)
-    (status : ℕ) (reports : List ℕ) (answer : Answer) : Type 0 where
+    (status : ℕ) (reports : List ℕ) (answer : Answer) (explanation : List ℕ) : Type 0 where
   pub status_is : status ≡ status_of answer
   pub text_is :
-      Appends (c.err.told c.err.before) (c.err.told c.err.after) (reports ++ line_of answer)
+      Appends (c.err.told c.err.before) (c.err.told c.err.after)
+      (reports ++ (line_of answer ++ explanation))
   pub before_end : NoneBeforeEnd reports answer
   pub unasked : NoneUnasked c.words reports
+  pub explained : IsExplained c.words c.shelf answer explanation
 
 -- where an input tells its bytes, a run of the image on the machine that the flag asks for ends so
 -- on these
@@ -109,10 +113,18 @@ settled_runs c reports asked =
     EndsAndTells (c.streams.input.told c.streams.input.before) asked.flags.bare
     (if_watched asked.flags c.reporters) reports
 
--- the status, the reports and the line are those of an answer that is so settled
+-- what a text settles of the explanation of an answer to it
+abbrev pub SettlesExplanation : Asked → (text : List ℕ) → Answer → (explanation : List ℕ) → Type 0
+SettlesExplanation asked text (Faulty fault) explanation =
+    IfAsked asked.flags (IsExplanation text fault explanation) explanation
+SettlesExplanation asked text answer explanation = explanation ≡ []
+
+-- the status, the reports, the line and the explanation are those of an answer that is so settled
 pub record IsSettled {H I O E : Type 0} (c : Call H I O E)
     (status : ℕ) (asked : Asked) (text : List ℕ) : Type 0 where
   pub answer : Answer
   pub reports : List ℕ
+  pub explanation : List ℕ
   pub settled : Settles (settled_runs c reports asked) asked.mode asked text answer
-  pub gives : Gives c status reports answer
+  pub explains : SettlesExplanation asked text answer explanation
+  pub gives : Gives c status reports answer explanation

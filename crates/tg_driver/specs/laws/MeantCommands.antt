@@ -57,10 +57,11 @@ ByMeaning s Run asked text answer = RunsByMeaning s asked text answer
 ByMeaning s Gen asked text answer = GeneratesByMeaning s.out asked answer
 ByMeaning s _ asked text answer = Unit {0}
 
--- the status, the reports and the line are those of an answer that is so
+-- the status, the reports, the line and the explanation are those of an answer that is so
 pub record DoesAsMeant {H I O E : Type 0} (c : Call H I O E)
     (status : ℕ) (asked : Asked) (text : List ℕ) : Type 0 where
   pub answer : Answer
   pub reports : List ℕ
+  pub explanation : List ℕ
   pub means : ByMeaning c.streams asked.mode asked text answer
-  pub gives : Gives c status reports answer
+  pub gives : Gives c status reports answer explanation

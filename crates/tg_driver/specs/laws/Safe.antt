@@ -133,14 +133,14 @@ SomeFailed c = HasFailed c.streams.input ⊎ HasFailed c.streams.out ⊎ HasFail
 -- What a call with this answer and this status leaves. A refusal touches no stream. Each mode
 -- leaves alone what it doesn't read. A file is unreadable where its count rose. What was written is
 -- a prefix of what was to be written. A failed read or write has its count as its cause. The error
--- sink took the reports and the line of the answer whole, and the status is its own; or its count
--- rose, it took a prefix, and the status is 74.
+-- sink took the reports, the line of the answer and its explanation whole, and the status is its
+-- own; or its count rose, it took a prefix, and the status is 74.
 pub record IsSafe {H I O E : Type 0} (c : Call H I O E)
-    (status : ℕ) (reports : List ℕ) (answer : Answer) : Type 0 where
+    (status : ℕ) (reports : List ℕ) (answer : Answer) (explanation : List ℕ) : Type 0 where
   pub refused : IsBeforeStart answer → Untouched c.streams
   pub unread : (asked : Asked) → Ask c.words asked → LeavesUnread c asked
   pub unreadable : answer ≡ Unreadable → IsFileUnread c
   pub front : HasStarted answer → WritesPrefix c
   pub caused : IsCaused c.streams answer
-  pub told : IsTold c.err reports answer status
+  pub told : IsTold c.err reports answer explanation status
   pub failed : status ≡ 74 → IsExit answer ⊎ SomeFailed c

@@ -22,13 +22,14 @@ returns-clause-app c =
     let five = c.in_ok-arg-5.ensures.shape c.option-3.ensures.local ∙ ap₂ with_rule four c.option-3.ensures.rule_is in
     let six = c.in_ok-arg-6.ensures.shape c.flag.ensures.local ∙ ap₂ with_rule five c.flag.ensures.rule_is in
     let seven = c.in_ok-arg-7.ensures.shape c.flag-2.ensures.local ∙ ap₂ with_rule six c.flag-2.ensures.rule_is in
-    IfOk-weaker c.arg-8.result _ _ (λ r h. h.shape c.flag-3.ensures.local ∙ ap₂ with_rule seven c.flag-3.ensures.rule_is) c.arg-8.ensures
+    let eight = c.in_ok-arg-8.ensures.shape c.flag-3.ensures.local ∙ ap₂ with_rule seven c.flag-3.ensures.rule_is in
+    IfOk-weaker c.arg-9.result _ _ (λ r h. h.shape c.flag-4.ensures.local ∙ ap₂ with_rule eight c.flag-4.ensures.rule_is) c.arg-9.ensures
 
 pub returns-clause-required : goal.returns-clause-required
 returns-clause-required c =
     let fields : fields_of c.disable_version_flag.result ≡ record (record (fields_of c.new.result) { disable_help_flag = true }) { disable_version_flag = true } = c.disable_version_flag.ensures ∙ ap (λ (f : Command-F Command). record f { disable_version_flag = true }) c.disable_help_flag.ensures in
-    IfOk-weaker c.arg-8.result _ _ (λ r h m parsed. required_given _ _ _ _ _ _ _ _ c.positional.ensures.argument c.positional-2.ensures.argument
-    c.option.ensures c.option-2.ensures c.option-3.ensures c.flag.ensures c.flag-2.ensures c.flag-3.ensures
+    IfOk-weaker c.arg-9.result _ _ (λ r h m parsed. required_given _ _ _ _ _ _ _ _ _ c.positional.ensures.argument c.positional-2.ensures.argument
+    c.option.ensures c.option-2.ensures c.option-3.ensures c.flag.ensures c.flag-2.ensures c.flag-3.ensures c.flag-4.ensures
     c.disable_version_flag.result r m (
       c.in_ok-arg.field-0,
       c.in_ok-arg.ensures,
@@ -47,7 +48,7 @@ returns-clause-required c =
               (
                 c.in_ok-arg-6.field-0,
                 c.in_ok-arg-6.ensures,
-                (c.in_ok-arg-7.field-0, c.in_ok-arg-7.ensures, (r, h, refl)),
+                (c.in_ok-arg-7.field-0, c.in_ok-arg-7.ensures, (c.in_ok-arg-8.field-0, c.in_ok-arg-8.ensures, (r, h, refl))),
               ),
             ),
           ),
@@ -58,4 +59,4 @@ returns-clause-required c =
     ∙ c.new.ensures.empty.1)
     (ap (λ (f : Command-F Command). f.has_globals) fields ∙ c.new.ensures.local)
     (ap (λ (f : Command-F Command). f.subcommand_negates_reqs) fields ∙ c.new.ensures.negates) parsed
-    c.positional.ensures.values c.positional-2.ensures.values) c.arg-8.ensures
+    c.positional.ensures.values c.positional-2.ensures.values) c.arg-9.ensures

@@ -32,7 +32,8 @@ returns-clause-ok c =
           let watch = c.has_flag.ensures ∙ ap set (given (codes "watch")) in
           let fold = c.has_flag-2.ensures ∙ ap set (given (codes "fold")) in
           let bare = c.has_flag-3.ensures ∙ ap set (given (codes "bare")) in
-          λ i. record { watch = watch i; fold = fold i; bare = bare i };
+          let explain = c.has_flag-4.ensures ∙ ap set (given (codes "explain")) in
+          λ i. record { watch = watch i; fold = fold i; bare = bare i; explain = explain i };
     }
 
 usage_is : (fault : CommandFault) → ◌≡◌ {A = Result Values CommandFault} (Err fault) (Err Usage) → fault ≡ Usage

@@ -1,4 +1,5 @@
 use Rattle.tg_driver.proofs.AnswerLemmas.{of_text, of_unread}
+use Rattle.tg_driver.proofs.GivenTexts.{gives_written, gives_unread}
 use Rattle.tg_driver.proofs.showing.show_file.Goals as goal
 
 pub returns-in-Ok-clause-due : goal.returns-in-Ok-clause-due
@@ -8,3 +9,9 @@ returns-in-Ok-clause-due g c =
 
 pub returns-in-Err-clause-due : goal.returns-in-Err-clause-due
 returns-in-Err-clause-due g c = rw c.unread.ensures (of_unread _ _ _ _ _ (rw c.as_str.ensures.value at c.in-Err.ensures.cause))
+
+pub returns-in-Ok-clause-source : goal.returns-in-Ok-clause-source
+returns-in-Ok-clause-source g c = gives_written _ _ _ _ _ _ (rw c.as_str.ensures.value at c.in-Ok.ensures.front) (rw c.deref.ensures.value at c.show_source.ensures.due)
+
+pub returns-in-Err-clause-source : goal.returns-in-Err-clause-source
+returns-in-Err-clause-source g c = rw c.unread.ensures (gives_unread _ _ _ _)

@@ -10,6 +10,7 @@ use Rattle.tg_driver.specs.Watching.{if_watched}
 use Rattle.tg_driver.specs.glue.Watched.{HasWatchedRunBy}
 use Rattle.tg_driver.proofs.AnswerLemmas.{by_check, by_writing, by_run, by_exec, by_gen, by_format, in_mode, no_gen}
 use Rattle.tg_driver.proofs.Watched.{run_by_flag}
+use Rattle.tg_driver.proofs.GivenTexts.{gives_executed, gives_generated}
 use Rattle.tg_driver.proofs.top.answer_command.Goals as goal
 
 pub returns-in-Check-clause-due : goal.returns-in-Check-clause-due
@@ -124,3 +125,11 @@ returns-in-Gen-clause-due g c =
 
 pub generate_to-requires-clause-number : goal.generate_to-requires-clause-number
 generate_to-requires-clause-number g c = c.requires.number c.in-Gen.is
+
+pub returns-in-Exec-clause-source : goal.returns-in-Exec-clause-source
+returns-in-Exec-clause-source g c =
+    gives_executed _ _ _ _ c.args.source.now.items c.answer_exec.result c.answer_exec.ensures.due
+
+pub returns-in-Gen-clause-source : goal.returns-in-Gen-clause-source
+returns-in-Gen-clause-source g c =
+    gives_generated _ _ (Builds _ _) _ _ c.args.source.now.items c.generate_to.result c.generate_to.ensures.due
