@@ -1,8 +1,9 @@
 -- From the text that is explained to what a call tells of its fault.
-use Rattle.std.proofs.Common.{ℕ, List, subst}
+use Rattle.std.proofs.Common.{ℕ, ◌≡◌, List, [], true, false, refl, sym, subst, ◌∙◌}
 use Rattle.tg_base.specs.Files.{IsFilePrefix}
 use Rattle.tg_base.specs.declared.outside.ShelfFault.{ShelfFault}
 use Rattle.tg_base.specs.declared.outside.ShelfFault.TheVariants.{Failed, Memory}
+use Rattle.tg_command.specs.declared.flags.Flags.{Flags}
 use Rattle.tg_command.specs.Commands.{Asked, Ask}
 use Rattle.tg_command.proofs.CommandLemmas.{asked_once}
 use Rattle.tg_machine_state.specs.declared.ends.RunEnd.{RunEnd}
@@ -10,7 +11,7 @@ use Rattle.tg_driver.specs.declared.answers.Answer.{Answer}
 use Rattle.tg_driver.specs.declared.answers.Answer.TheVariants.{Faulty, Finished, Unwritten}
 use Rattle.tg_driver.specs.declared.faults.Fault.{Fault}
 use Rattle.tg_driver.specs.Calls.{Stream, stream_of, Shelved, Takes, nothing, all, part}
-use Rattle.tg_driver.specs.Explained.{ExplainsFile, IfAsked, IsExplained}
+use Rattle.tg_driver.specs.Explained.{ExplainsFile, IfAsked, IsExplained, TellsWhy}
 use Rattle.tg_driver.specs.OfFiles.{OfFile, unreadable, read}
 use Rattle.tg_driver.specs.CheckMode.{IsChecked}
 use Rattle.tg_driver.specs.ExecMode.{IsExecuted}
@@ -20,7 +21,7 @@ use Rattle.tg_driver.specs.RunMode.{IsRunBy}
 use Rattle.tg_driver.specs.Runs.{RunRelation}
 use Rattle.tg_driver.specs.Writing.{TextRelation, IsWritten}
 use Rattle.tg_driver.specs.glue.PrivateCalls.{OrMemory, GivesText, unread_answer}
-use Rattle.tg_driver.specs.glue.Explanations.{IsExplainedText, IsOfFault}
+use Rattle.tg_driver.specs.glue.Explanations.{IsExplainedText}
 use Rattle.tg_driver.proofs.Complete.{Summed, cut, summed, summed_by}
 
 -- of each mode that reads a source: the text is the one that has the fault that is answered
@@ -77,6 +78,9 @@ pub gives_generated : {H O : Type 0} (shelf : Shelved H) (name : List ℕ) (text
 gives_generated shelf name texts out a text (Faulty f) h = absurd (no_generated texts out a f h)
 gives_generated shelf name texts out a text _ h = tt
 
+no_truth : false ≡ true → ⊥
+no_truth h = cc
+
 -- the answer to a command is explained as its words ask
 pub explained_as : {H : Type 0} (words : List (List ℕ)) (shelf : Shelved H) (a : Asked) (text : List ℕ) (answer : Answer) (explanation : List ℕ) →
     Ask words a → GivesText shelf a.file answer text → IsExplainedText a.flags text answer explanation → IsExplained words shelf answer explanation
@@ -88,7 +92,15 @@ explained_as words shelf a text (Faulty f) explanation ask gives explains = λ b
     })
 explained_as words shelf a text _ explanation ask gives explains = explains
 
-pub of_fault : {H : Type 0} (words : List (List ℕ)) (shelf : Shelved H) (answer : Answer) (explanation : List ℕ) →
-    IsExplained words shelf answer explanation → IsOfFault answer explanation
-of_fault words shelf (Faulty f) explanation h = tt
-of_fault words shelf _ explanation h = h
+-- what is told of an answer that isn't to be explained, and of one that is no fault
+pub unasked_text : (flags : Flags) (text : List ℕ) (answer : Answer) → flags.explain ≡ false → IsExplainedText flags text answer []
+unasked_text flags text (Faulty f) off = record { asked = λ on. absurd (no_truth (sym off ∙ on)); unasked = λ _. refl }
+unasked_text flags text _ off = refl
+
+pub asked_text : (flags : Flags) (text : List ℕ) (f : Fault) (explanation : List ℕ) → flags.explain ≡ true → TellsWhy text explanation →
+    IsExplainedText flags text (Faulty f) explanation
+asked_text flags text f explanation on why = record { asked = λ _. why; unasked = λ off. absurd (no_truth (sym off ∙ on)) }
+
+pub other_text : (flags : Flags) (text : List ℕ) (answer : Answer) → ((f : Fault) → answer ≡ Faulty f → ⊥) → IsExplainedText flags text answer []
+other_text flags text (Faulty f) other = absurd (other f refl)
+other_text flags text _ other = refl

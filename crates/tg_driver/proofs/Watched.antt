@@ -1,6 +1,6 @@
 -- What is said of runs, more weakly; and from runs that watchers saw to what they tell.
 use Rattle.std.specs.Prelude.{Ok, Err, if◌then◌else◌}
-use Rattle.std.proofs.Common.{ℕ, ◌≡◌, Option, None, List, [], ◌++◌, Bool, true, false, map, refl, sym, ap, subst, ◌∙◌, length, arith, append-nil}
+use Rattle.std.proofs.Common.{ℕ, ◌≡◌, Option, None, List, [], Bool, true, false, map, refl, sym, ap, subst, ◌∙◌, length, arith}
 use Rattle.tg_machine_state.specs.declared.ends.RunEnd.{RunEnd}
 use Rattle.tg_isa.specs.declared.images.Image.{Image}
 use Rattle.tg_machine.specs.declared.fetches.Seen.{Seen}
@@ -430,10 +430,3 @@ took_told taken faults old new u due whole failed h = took_all (stream_of taken 
 pub took_part : {T E A : Type 0} {F : Type 0} (taken : T → Option (List ℕ)) (faults : T → ℕ) (old new : T) (f : F) (due : List ℕ) (whole failed : A) →
     HasTold {T = E} {E = F} taken faults old new (Err f) due → Takes (stream_of taken faults old new) due whole failed failed
 took_part taken faults old new f due whole failed h = part refl h.some h.cause.failed h.bytes
-
--- and with nothing behind it
-pub with_nothing : {T A : Type 0} (sink : Stream T) (reports line : List ℕ) (whole failed result : A) →
-    Takes sink (reports ++ line) whole failed result → Takes sink (reports ++ (line ++ [])) whole failed result
-with_nothing sink reports line whole failed result h =
-    let P : List ℕ → Type 0 = λ l. Takes sink (reports ++ l) whole failed result in
-    subst P (sym (append-nil line)) h

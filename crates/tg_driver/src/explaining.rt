@@ -37,8 +37,11 @@ pub(crate) fn told(explanation: &Explanation) -> &[u8]
 pub(crate) fn explain(alloc: Global, flags: Flags, text: &[u8], answer: Answer) -> Explanation
     ensures { IsExplainedText flags text.now answer (text_of result) }
 {
+    if !flags.explain {
+        return Explanation::Nothing;
+    }
     match answer {
-        Answer::Faulty(_) if flags.explain => explain_text(alloc, text),
+        Answer::Faulty(_) => explain_text(alloc, text),
         _ => Explanation::Nothing,
     }
 }

@@ -4,13 +4,11 @@ ghost use Rattle.tg_driver.specs.Calls.{stream_of};
 ghost use Rattle.tg_driver.specs.Endings.{end_line};
 ghost use Rattle.tg_driver.specs.Statuses.{line_of};
 ghost use Rattle.tg_driver.specs.Telling.{IsTold};
-ghost use Rattle.tg_driver.specs.glue.Explanations.{IsOfFault, text_of};
 ghost use Rattle.tg_driver.specs.glue.PrivateCalls.{IsReported};
 ghost use Rattle.tg_driver.specs.glue.Watched.{Tell, TellAfter};
 
 use crate::answers::{Answer, line, status};
 use crate::endings::{end_status, write_end};
-use crate::explaining::{Explanation, told};
 use crate::faults::{Fault, bad_line, fault_line};
 use std::alloc::Global;
 use tg_asm::AsmRule;
@@ -18,29 +16,28 @@ use tg_base::{Failed, Sink, write_all};
 use tg_machine_state::RunEnd;
 use tg_profiler::{Watcher, write_reports};
 
-/// Reports an answer on the error sink, after a run what its watchers tell first, behind a fault what
-/// explains it, and answers its status. After a run it takes no memory.
+/// Reports an answer on the error sink, after a run what its watchers tell first, and behind the line
+/// what explains it, and answers its status. After a run it takes no memory.
 pub(crate) fn report<E: Sink>(
     alloc: Global,
     err: &mut E,
     watchers: &[Box<dyn Watcher>],
     answer: Answer,
-    explanation: &Explanation,
+    explanation: &[u8],
 ) -> u8
-    requires told { (reports : List ℕ)
+    requires { (reports : List ℕ)
         × TellAfter (λ w. stands w) (λ w. report w) watchers.now answer reports }
-    requires explained { IsOfFault answer (text_of explanation.now) }
     ensures reports { (reports : List ℕ)
         → TellAfter (λ w. stands w) (λ w. report w) watchers.now answer reports
         → IsReported (stream_of E.taken E.faults err.old err.new) reports answer
-        (text_of explanation.now) result }
+        explanation.now result }
     ensures later { E.faults err.old ≤ E.faults err.new }
 {
     match answer {
-        Answer::Faulty(fault) => report_fault(alloc, err, fault, told(explanation)),
-        Answer::BadLine(rule, line) => report_line(alloc, err, rule, line),
-        Answer::Finished(end) => tell_run(err, watchers, end),
-        _ => tell(err, answer, line(answer), &[]),
+        Answer::Faulty(fault) => report_fault(alloc, err, fault, explanation),
+        Answer::BadLine(rule, line) => report_line(alloc, err, rule, line, explanation),
+        Answer::Finished(end) => tell_run(err, watchers, end, explanation),
+        _ => tell(err, answer, line(answer), explanation),
     }
 }
 
@@ -57,14 +54,21 @@ fn report_fault<E: Sink>(alloc: Global, err: &mut E, fault: Fault, explanation: 
     }
 }
 
-/// Reports a fault of assembly text, or out of memory where its line finds none.
-fn report_line<E: Sink>(alloc: Global, err: &mut E, rule: AsmRule, at: u64) -> u8
+/// Reports a fault of assembly text and what explains it, or out of memory where its line finds
+/// none.
+fn report_line<E: Sink>(
+    alloc: Global,
+    err: &mut E,
+    rule: AsmRule,
+    at: u64,
+    explanation: &[u8],
+) -> u8
     ensures reports { IsReported (stream_of E.taken E.faults err.old err.new) []
-        (Answer.BadLine rule at) [] result }
+        (Answer.BadLine rule at) explanation.now result }
     ensures later { E.faults err.old ≤ E.faults err.new }
 {
     match bad_line(alloc, rule, at) {
-        Ok(text) => tell(err, Answer::BadLine(rule, at), text.as_str(), &[]),
+        Ok(text) => tell(err, Answer::BadLine(rule, at), text.as_str(), explanation),
         Err(_) => tell(err, Answer::OutOfMemory, line(Answer::OutOfMemory), &[]),
     }
 }
@@ -91,27 +95,46 @@ fn write_lines<E: Sink>(err: &mut E, line: &str, explanation: &[u8]) -> Result<(
     write_all(err, explanation)
 }
 
-/// Writes what the watchers of a run tell, and the line of its end, and answers its status, or 74
-/// where a write fails.
-fn tell_run<E: Sink>(err: &mut E, watchers: &[Box<dyn Watcher>], end: RunEnd) -> u8
+/// Writes what the watchers of a run tell, the line of its end and what explains it, and answers its
+/// status, or 74 where a write fails.
+fn tell_run<E: Sink>(
+    err: &mut E,
+    watchers: &[Box<dyn Watcher>],
+    end: RunEnd,
+    explanation: &[u8],
+) -> u8
     requires { StandForOne (λ w. stands w) watchers.now }
     ensures told { (reports : List ℕ) → Tell (λ w. stands w) (λ w. report w) watchers.now reports
         → IsTold (stream_of E.taken E.faults err.old err.new) reports
-        (Answer.Finished end) [] result }
+        (Answer.Finished end) explanation.now result }
     ensures later { E.faults err.old ≤ E.faults err.new }
 {
-    match write_run(err, watchers, end) {
+    match write_run(err, watchers, end, explanation) {
         Ok(()) => end_status(end),
         Err(_) => 74,
     }
 }
 
-/// Writes what the watchers of a run tell, and the line of its end.
-fn write_run<E: Sink>(err: &mut E, watchers: &[Box<dyn Watcher>], end: RunEnd) -> Result<(), Failed>
+/// Writes what the watchers of a run tell, the line of its end and what explains it.
+fn write_run<E: Sink>(
+    err: &mut E,
+    watchers: &[Box<dyn Watcher>],
+    end: RunEnd,
+    explanation: &[u8],
+) -> Result<(), Failed>
     requires { StandForOne (λ w. stands w) watchers.now }
     ensures { (reports : List ℕ) → Tell (λ w. stands w) (λ w. report w) watchers.now reports
-        → HasTold E.taken E.faults err.old err.new result (reports ++ end_line end) }
+        → HasTold E.taken E.faults err.old err.new result
+        (reports ++ (end_line end ++ explanation.now)) }
 {
     write_reports(watchers, err)?;
-    write_end(err, end)
+    write_end_lines(err, end, explanation)
+}
+
+/// Writes the line of an end and what explains it.
+fn write_end_lines<E: Sink>(err: &mut E, end: RunEnd, explanation: &[u8]) -> Result<(), Failed>
+    ensures { HasTold E.taken E.faults err.old err.new result (end_line end ++ explanation.now) }
+{
+    write_end(err, end)?;
+    write_all(err, explanation)
 }

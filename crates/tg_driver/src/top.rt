@@ -32,7 +32,7 @@ ghost use Rattle.tg_driver.specs.Passes.{passes_of};
 use crate::answers::Answer;
 use crate::checking::answer_check;
 use crate::executing::answer_exec;
-use crate::explaining::{Explanation, explain};
+use crate::explaining::{Explanation, explain, told};
 use crate::formatting::answer_format;
 use crate::generating::answer_gen;
 use crate::running::answer_run;
@@ -94,7 +94,7 @@ pub fn tiger<H: Shelf, I: Source, O: Sink, E: Sink>(
         &mut tools.watchers,
         &mut explanation,
     );
-    report(alloc, err, &tools.watchers, answer, &explanation)
+    report(alloc, err, &tools.watchers, answer, told(&explanation))
 }
 
 /// The answer that is due for the words, and what is told behind its line.

@@ -17,8 +17,3 @@ abbrev pub IsExplainedText : Flags → (text : List ℕ) → Answer → (explana
 IsExplainedText flags text (Faulty fault) explanation =
     IfAsked flags (TellsWhy text explanation) explanation
 IsExplainedText flags text answer explanation = explanation ≡ []
-
--- none but a fault has one
-abbrev pub IsOfFault : Answer → (explanation : List ℕ) → Type 0
-IsOfFault (Faulty fault) explanation = Unit {0}
-IsOfFault answer explanation = explanation ≡ []

@@ -1,22 +1,17 @@
 use Rattle.std.proofs.Common.{◌++◌, refl}
-use Rattle.tg_driver.specs.Calls.{stream_of}
 use Rattle.tg_driver.specs.Endings.{end_line, end_status}
-use Rattle.tg_driver.proofs.Watched.{took_told, took_part, with_nothing}
+use Rattle.tg_driver.proofs.Watched.{took_told, took_part}
 use Rattle.tg_driver.proofs.telling.tell_run.Goals as goal
 
 pub returns-in-Ok-clause-told : goal.returns-in-Ok-clause-told
 returns-in-Ok-clause-told g c = λ reports tell.
-    let sink = stream_of g.E.Sink.taken g.E.Sink.faults c.args.err.now c.write_run.new.err in
-    rw c.end_status.ensures (with_nothing sink reports (end_line c.args.end) (end_status c.args.end) 74 (end_status c.args.end)
-    (took_told g.E.Sink.taken g.E.Sink.faults c.args.err.now c.write_run.new.err _ (reports ++ end_line c.args.end)
-    (end_status c.args.end) 74 (c.in-Ok.ensures reports tell)))
+    rw c.end_status.ensures (took_told g.E.Sink.taken g.E.Sink.faults c.args.err.now c.write_run.new.err _
+    (reports ++ (end_line c.args.end ++ c.args.explanation.now)) (end_status c.args.end) 74 (c.in-Ok.ensures reports tell))
 
 pub returns-in-Err-clause-told : goal.returns-in-Err-clause-told
 returns-in-Err-clause-told g c = λ reports tell.
-    let sink = stream_of g.E.Sink.taken g.E.Sink.faults c.args.err.now c.write_run.new.err in
-    with_nothing sink reports (end_line c.args.end) (end_status c.args.end) 74 74
-    (took_part g.E.Sink.taken g.E.Sink.faults c.args.err.now c.write_run.new.err _ (reports ++ end_line c.args.end)
-    (end_status c.args.end) 74 (c.in-Err.ensures reports tell))
+    took_part g.E.Sink.taken g.E.Sink.faults c.args.err.now c.write_run.new.err _
+    (reports ++ (end_line c.args.end ++ c.args.explanation.now)) (end_status c.args.end) 74 (c.in-Err.ensures reports tell)
 
 pub returns-in-Ok-clause-later : goal.returns-in-Ok-clause-later
 returns-in-Ok-clause-later g c =
