@@ -1,1 +1,2 @@
 mod Declaring
+pub mod Placing
