@@ -1,2 +1,1 @@
 mod Declaring
-pub mod Placing
