@@ -1,7 +1,7 @@
 -- How a nested text is laid on lines. In a nested text parts stand between parentheses, and a comma
 -- and a blank between two parts. A part of at most 72 bytes stands on one line. Of a longer one
 -- each part begins a line, which is indented by two blanks more.
-use Rattle.std.specs.Prelude.{ℕ, zero, suc, ◌+◌, ◌-◌, ◌==◌, ◌&&◌, ◌||◌, Bool, if◌then◌else◌, min}
+use Rattle.std.specs.Prelude.{ℕ, zero, suc, ◌+◌, ◌-◌, ◌==◌, ◌&&◌, ◌||◌, Bool, if◌then◌else◌}
 use Rattle.std.specs.Prelude.{List, [], ◌∷◌, ◌++◌}
 use Rattle.tg_show.specs.declared.modes.Mode.{Mode}
 use Rattle.tg_show.specs.declared.modes.Mode.TheVariants.{Kept, Broken, Between}
@@ -29,15 +29,14 @@ abbrev pub mode_of : List ℕ → Mode
 mode_of text = measured 0 0 text
 
 -- A line ends, and the next is indented, behind each parenthesis that a long part opens, and in the
--- place of the blank behind each of its commas. Levels beyond 32 are indented as the 32nd: so the
--- text doesn't grow with the product of a tree's size and its depth.
+-- place of the blank behind each of its commas.
 
 abbrev pub blanks : (depth : ℕ) → List ℕ
 blanks zero = []
 blanks (suc d) = 32 ∷ 32 ∷ blanks d
 
 abbrev pub new_line : (depth : ℕ) → List ℕ
-new_line depth = 10 ∷ blanks (min depth 32)
+new_line depth = 10 ∷ blanks depth
 
 abbrev pub written : (depth : ℕ) → Mode → (byte : ℕ) → List ℕ
 written depth (Kept n) c = c ∷ []

@@ -19,9 +19,6 @@ use tg_base::Memory;
 /// The most bytes of a part that stands on one line.
 pub const WIDTH: usize = 72;
 
-/// The deepest level that is indented further than the one around it.
-pub const LEVELS: usize = 32;
-
 /// Puts a nested text at the end, on lines that are indented by two blanks a level: a part of at
 /// most 72 bytes stands on one line, and of a longer one each part begins a line, a level deeper.
 pub fn put_laid(text: &mut Vec<u8>, margin: u8, line: &[u8]) -> Result<(), Memory>
@@ -73,7 +70,7 @@ fn put_new_line(text: &mut Vec<u8>, depth: usize) -> Result<(), Memory>
     ensures { OnOk result (text.new.items ≡ text.old.items ++ new_line depth) }
 {
     text.push(b'\n')?;
-    put_blanks(text, depth.min(LEVELS))
+    put_blanks(text, depth)
 }
 
 /// Puts an indentation of so many levels at the end.
