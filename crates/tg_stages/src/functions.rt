@@ -165,12 +165,7 @@ fn put_instructions(
 }
 
 /// Puts a code at the end, with what is live and what interferes.
-fn put_graphs(
-    alloc: Global,
-    text: &mut Vec<u8>,
-    names: &[Bytes],
-    code: &Code,
-) -> Result<(), Memory>
+fn put_graphs(alloc: Global, text: &mut Vec<u8>, names: &[Bytes], code: &Code) -> Result<(), Memory>
     requires { code.now.temps < 2 ^ 24 }
     ensures { OnOk result (Puts text.old.items text.new.items
         (shown.TellsCode names.now code.now.list code.now.temps)) }

@@ -46,7 +46,14 @@ pub fn headings(alloc: Global, text: &[u8], checked: &Checked) -> Result<Vec<Hea
     let places = places_of(alloc, text)?;
     let mut all = Vec::new(alloc);
     put_undeclared(alloc, &mut all, b"main")?;
-    put_source(alloc, &mut all, text, places.as_slice(), checked.names, &found)?;
+    put_source(
+        alloc,
+        &mut all,
+        text,
+        places.as_slice(),
+        checked.names,
+        &found,
+    )?;
     put_routines(alloc, &mut all)?;
     Ok(all)
 }

@@ -46,7 +46,15 @@ fn put_text(
         one.now.level one.now.function one.now.parts (users_at users.old at)) }
 {
     match one.function {
-        Some(f) => put_parts(alloc, users, notes, homes, one.level, f, one.parts.as_slice()),
+        Some(f) => put_parts(
+            alloc,
+            users,
+            notes,
+            homes,
+            one.level,
+            f,
+            one.parts.as_slice(),
+        ),
         None => Ok(()),
     }
 }
@@ -70,12 +78,7 @@ fn put_parts(
     Ok(())
 }
 
-fn put_use(
-    alloc: Global,
-    users: &mut UserTable,
-    f: Ident,
-    used: Option<u32>,
-) -> Result<(), Memory>
+fn put_use(alloc: Global, users: &mut UserTable, f: Ident, used: Option<u32>) -> Result<(), Memory>
     ensures { OnOk result ((at : ℕ) → users_at users.new at
         ≡ spec.with_use at f used (users_at users.old at)) }
 {
