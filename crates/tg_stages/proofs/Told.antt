@@ -1,5 +1,5 @@
 -- What is told of a function, piece by piece.
-use Rattle.std.proofs.Common.{◌≡◌, ℕ, Bool, List, [], ◌++◌, refl, sym, ap, subst, ◌∙◌, append_assoc}
+use Rattle.std.proofs.Common.{◌≡◌, ℕ, Bool, List, [], ◌++◌, Option, refl, sym, ap, subst, ◌∙◌, append_assoc}
 use Rattle.tg_frame.specs.declared.frames.Frame.{Frame}
 use Rattle.tg_tree.specs.Tree.{Ts, Stms, Linear, Function}
 use Rattle.tg_tree.specs.glue.Plain.{plain_function}
@@ -14,9 +14,10 @@ use Rattle.tg_redundancy.specs.mirror.Known.{known_code}
 use Rattle.tg_regalloc.specs.declared.allocations.Allocation.{Allocation}
 use Rattle.tg_compile.specs.declared.passes.Passes.{Passes}
 use Rattle.tg_compile.specs.Prepared.{prepared_function}
+use Rattle.tg_show.specs.declared.variables.FunctionVariables.{FunctionVariables}
 use Rattle.tg_show.specs.Stages.{canonical_stage, blocks_stage, traces_stage}
 use Rattle.tg_stages.specs.declared.headings.Heading.{Heading}
-use Rattle.tg_stages.specs.Shown.{heading_text, trees_text, flat_text, allocated_text, TellsCode, TellsFunction}
+use Rattle.tg_stages.specs.Shown.{heading_text, variables_text, temp_names, trees_text, flat_text, allocated_text, TellsCode, TellsFunction}
 use Rattle.tg_stages.specs.glue.Putting.{Puts}
 
 abbrev of_statements : (before : List ℕ) → Stms → List ℕ
@@ -38,26 +39,31 @@ flat_told frame body statements next blocks flat t u v w draws cut laid p q r =
     ∙ ap (λ x. t ++ (first ++ (blocks_stage [] (blocks_of statements) ++ traces_stage [] x))) lines
     ∙ ap (λ (d : Drawn Stms). of_statements t d.it) (sym draws.is)
 
-pub function_told : (passes : Passes) (long : Bool) (h : Heading) (f g : Function Ts) (one : Function (List Linear)) (a : Allocation)
-    (t u v w x y : List ℕ) → g ≡ prepared_function passes f → one ≡ flattened g →
-    u ≡ t ++ heading_text f.label h → v ≡ u ++ trees_text passes f → w ≡ v ++ flat_text g →
-    Puts w x (TellsCode (known_code (munched one).code) (munched one).drawn.temp) → y ≡ x ++ allocated_text long a →
-    Puts t y (TellsFunction passes long h f a)
-function_told passes long h f g one a t u v w x y prepared flat p q r s last =
+pub function_told : (passes : Passes) (long : Bool) (h : Heading) (own : Option FunctionVariables) (names : List (List ℕ)) (f g : Function Ts)
+    (one : Function (List Linear)) (a : Allocation) (t h_end u v w x y : List ℕ) → names ≡ temp_names own → g ≡ prepared_function passes f →
+    one ≡ flattened g → h_end ≡ t ++ heading_text f.label h → u ≡ h_end ++ variables_text own → v ≡ u ++ trees_text passes f → w ≡ v ++ flat_text g →
+    Puts w x (TellsCode names (known_code (munched one).code) (munched one).drawn.temp) → y ≡ x ++ allocated_text names long a →
+    Puts t y (TellsFunction passes long h own f a)
+function_told passes long h own names f g one a t h_end u v w x y named prepared flat p o q r s last =
     let head = heading_text f.label h in
+    let mine = variables_text own in
     let trees = trees_text passes f in
     let code = s.told in
-    let end = allocated_text long a in
-    let P : Function (List Linear) → Type 0 = λ m. TellsCode (known_code (munched m).code) (munched m).drawn.temp code in
-    let all : y ≡ ((((t ++ head) ++ trees) ++ flat_text g) ++ code) ++ end =
-    last ∙ ap (λ z. z ++ end) (s.is_behind ∙ ap (λ z. z ++ code) (r ∙ ap (λ z. z ++ flat_text g) (q ∙ ap (λ z. z ++ trees) p))) in
-    let joined : y ≡ t ++ (head ++ (trees ++ (flat_text g ++ (code ++ end)))) = all ∙ simp append_assoc in
+    let end = allocated_text (temp_names own) long a in
+    let N : List (List ℕ) → Type 0 = λ ns. y ≡ x ++ allocated_text ns long a in
+    let M : List (List ℕ) → Type 0 = λ ns. TellsCode ns (known_code (munched one).code) (munched one).drawn.temp code in
+    let P : Function (List Linear) → Type 0 = λ m. TellsCode (temp_names own) (known_code (munched m).code) (munched m).drawn.temp code in
+    let all : y ≡ (((((t ++ head) ++ mine) ++ trees) ++ flat_text g) ++ code) ++ end =
+    subst N named last
+    ∙ ap (λ z. z ++ end) (s.is_behind
+    ∙ ap (λ z. z ++ code) (r ∙ ap (λ z. z ++ flat_text g) (q ∙ ap (λ z. z ++ trees) (o ∙ ap (λ z. z ++ mine) p)))) in
+    let joined : y ≡ t ++ (head ++ (mine ++ (trees ++ (flat_text g ++ (code ++ end))))) = all ∙ simp append_assoc in
     record {
-      told = head ++ (trees ++ (flat_text (prepared_function passes f) ++ (code ++ end)));
-      is_behind = joined ∙ ap (λ m. t ++ (head ++ (trees ++ (flat_text m ++ (code ++ end))))) prepared;
+      told = head ++ (mine ++ (trees ++ (flat_text (prepared_function passes f) ++ (code ++ end))));
+      is_behind = joined ∙ ap (λ m. t ++ (head ++ (mine ++ (trees ++ (flat_text m ++ (code ++ end)))))) prepared;
       holds = record {
         code = code;
-        tells_code = subst P (flat ∙ ap flattened prepared) s.holds;
+        tells_code = subst P (flat ∙ ap flattened prepared) (subst M named s.holds);
         text_is = refl;
       };
     }

@@ -1,6 +1,6 @@
 -- The text of `show`: of each function what each pass made of it, in the order in which the compiler
--- works (Appel, chapters 7 to 12).
-use Rattle.std.specs.Prelude.{ℕ, ◌≡◌, List, [], ◌++◌, Bool, if◌then◌else◌}
+-- works (Appel, chapters 6 to 12).
+use Rattle.std.specs.Prelude.{ℕ, ◌≡◌, List, [], ◌++◌, Bool, Option, Some, None, if◌then◌else◌}
 use Rattle.tg_tree.specs.Tree.{Ts, Function}
 use Rattle.tg_fold.specs.laws.Laws.{folded_function}
 use Rattle.tg_canon.specs.laws.Meaning.{canonical}
@@ -17,14 +17,26 @@ use Rattle.tg_code_bounds.specs.Allocating.{chosen}
 use Rattle.tg_emit.specs.mirror.Lines.{function_lines}
 use Rattle.tg_compile.specs.declared.passes.Passes.{Passes}
 use Rattle.tg_compile.specs.Prepared.{prepared_function}
-use Rattle.tg_show.specs.Stages.{function_line, tree_stage, folded_stage, canonical_stage}
-use Rattle.tg_show.specs.Stages.{blocks_stage, traces_stage, instructions_stage, live_stage}
-use Rattle.tg_show.specs.Stages.{graph_stage, registers_stage, assembly_stage}
+use Rattle.tg_show.specs.declared.variables.FunctionVariables.{FunctionVariables}
+use Rattle.tg_show.specs.Names.{names_of}
+use Rattle.tg_show.specs.Stages.{function_line, variables_stage, tree_stage, folded_stage}
+use Rattle.tg_show.specs.Stages.{canonical_stage, blocks_stage, traces_stage, instructions_stage}
+use Rattle.tg_show.specs.Stages.{live_stage, graph_stage, registers_stage, assembly_stage}
 use Rattle.tg_stages.specs.declared.headings.Heading.{Heading}
 
--- no temporary is told by a name
+-- trees and flat code tell no temporary by a name
 abbrev unnamed : List (List ℕ)
 unnamed = []
+
+-- its variables, which only a function of the source has
+abbrev pub variables_text : Option FunctionVariables → List ℕ
+variables_text None = []
+variables_text (Some own) = variables_stage own
+
+-- the names of its temporaries that are homes of variables
+abbrev pub temp_names : Option FunctionVariables → List (List ℕ)
+temp_names None = []
+temp_names (Some own) = names_of own
 
 -- the tree as it was translated, and, where folding is switched on, as it was folded
 abbrev pub trees_text : Passes → Function Ts → List ℕ
@@ -40,37 +52,42 @@ flat_text f =
     traces_stage unnamed (flattened f).body)
 
 -- its instructions with known words and tests, what is live out of each, and the graph and the moves
--- before the first round of allocation
-abbrev pub code_text : List Instr → Sets → Interference → List ℕ
-code_text code live graph =
-    instructions_stage unnamed code ++
-    (live_stage unnamed live code ++ graph_stage unnamed graph (moves_of code))
+-- before the first round of allocation; by the names of its temporaries
+abbrev pub code_text : (names : List (List ℕ)) → List Instr → Sets → Interference → List ℕ
+code_text names code live graph =
+    instructions_stage names code ++
+    (live_stage names live code ++ graph_stage names graph (moves_of code))
 
 -- its allocation, and its lines of assembly, whose branches are turned where the code is long
-abbrev pub allocated_text : (is_long : Bool) → Allocation → List ℕ
-allocated_text long a =
-    registers_stage unnamed a ++ assembly_stage (function_lines long a.done)
+abbrev pub allocated_text :
+    (names : List (List ℕ)) → (is_long : Bool) → Allocation → List ℕ
+allocated_text names long a =
+    registers_stage names a ++ assembly_stage (function_lines long a.done)
 
 abbrev pub heading_text : (label : ℕ) → Heading → List ℕ
 heading_text label h = function_line label h.name h.place
 
 -- the text of a code from its instructions to its graph
-pub record TellsCode (code : List Instr) (temps : ℕ) (text : List ℕ) : Type 0 where
+pub record TellsCode (names : List (List ℕ)) (code : List Instr) (temps : ℕ) (text : List ℕ) :
+    Type 0 where
   pub live : Sets
   pub graph : Interference
   pub are_live : AreLiveSets code live
   pub interferes : IsInterference code temps graph
-  pub text_is : text ≡ code_text code live graph
+  pub text_is : text ≡ code_text names code live graph
 
--- the text of a function that has this heading and this allocation
-pub record TellsFunction (passes : Passes) (long : Bool) (h : Heading) (f : Function Ts)
-    (a : Allocation) (text : List ℕ) : Type 0 where
+-- the text of a function that has this heading, these variables if the source declares it, and this
+-- allocation
+pub record TellsFunction (passes : Passes) (long : Bool) (h : Heading)
+    (own : Option FunctionVariables) (f : Function Ts) (a : Allocation) (text : List ℕ) :
+    Type 0 where
   pub code : List ℕ
   pub tells_code :
       let g = chosen (prepared_function passes f) in
-      TellsCode (known_code g.code) g.drawn.temp code
+      TellsCode (temp_names own) (known_code g.code) g.drawn.temp code
   pub text_is :
       text ≡ heading_text f.label h ++
+      (variables_text own ++
       (trees_text passes f ++
       (flat_text (prepared_function passes f) ++
-      (code ++ allocated_text long a)))
+      (code ++ allocated_text (temp_names own) long a))))

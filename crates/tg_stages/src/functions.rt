@@ -1,5 +1,5 @@
 ghost use Rattle.std.specs.Prelude.{◌≡◌, ◌<◌, ◌^◌, [], ◌++◌, IfOk, IsTrue, OnOk};
-ghost use Rattle.std.specs.List.{list_all};
+ghost use Rattle.std.specs.List.{list_all, slice_get};
 ghost use Rattle.tg_tree.specs.Named.{HasItsTemps, named_flat};
 ghost use Rattle.tg_tree.specs.Shapes.{IsWellMarked};
 ghost use Rattle.tg_tree.specs.glue.Lists.{code_of};
@@ -16,7 +16,7 @@ ghost use Rattle.tg_stages.specs.glue.Putting.{Puts};
 use crate::headings::Heading;
 use crate::laws::{flat_code_is_well_marked, prepared_is_well_formed};
 use std::alloc::Global;
-use tg_base::{Label, Memory};
+use tg_base::{Bytes, Label, Memory};
 use tg_canon::linearize;
 use tg_compile::Passes;
 use tg_emit::{Line, function};
@@ -29,18 +29,21 @@ use tg_munch::munch;
 use tg_redundancy::known;
 use tg_regalloc::Allocation;
 use tg_show::{
-    put_assembly, put_blocks, put_canonical, put_code, put_folded, put_function, put_graph,
-    put_live, put_registers, put_traces, put_tree,
+    FunctionVariables, names_of, put_assembly, put_blocks, put_canonical, put_code, put_folded,
+    put_function, put_graph, put_live, put_registers, put_traces, put_tree, put_variables,
 };
 use tg_trace_schedule::{blocks, trace};
 use tg_tree::{Fragment, Linear, Ts};
 
-/// Puts the stages of a function at the end that has this allocation. Its lines have turned
-/// branches where the code of the whole program is long.
+/// Puts the stages of the function of a place at the end that has this allocation, by the variables
+/// of all functions of the source. Its lines have turned branches where the code of the whole
+/// program is long.
 pub fn put_stages(
     alloc: Global,
     text: &mut Vec<u8>,
     heading: &Heading,
+    own: &[FunctionVariables],
+    at: usize,
     one: Fragment,
     passes: Passes,
     allocation: &Allocation,
@@ -49,17 +52,20 @@ pub fn put_stages(
     requires formed { IsWellFormed (plain_fragment one) }
     requires emittable { IsTrue (is_emittable allocation.now.done) }
     ensures { OnOk result (Puts text.old.items text.new.items
-        (shown.TellsFunction passes long heading.now (plain_fragment one) allocation.now)) }
+        (shown.TellsFunction passes long heading.now (slice_get own.now at) (plain_fragment one)
+        allocation.now)) }
 {
     prepared_is_well_formed();
     flat_code_is_well_marked();
     put_heading(text, one.frame.label, heading)?;
+    let names = put_own(alloc, text, own, at)?;
+    let names = names.as_slice();
     let prepared = put_trees(alloc, text, one, passes)?;
     let Fragment { frame, body } = prepared;
     let mut frame = frame;
     let flat = put_flat(alloc, text, &mut frame, body)?;
-    put_instructions(alloc, text, &mut frame, &flat)?;
-    Ok(put_allocated(alloc, text, allocation, long)?)
+    put_instructions(alloc, text, names, &mut frame, &flat)?;
+    Ok(put_allocated(alloc, text, names, allocation, long)?)
 }
 
 fn put_heading(text: &mut Vec<u8>, label: Label, heading: &Heading) -> Result<(), Memory>
@@ -67,6 +73,28 @@ fn put_heading(text: &mut Vec<u8>, label: Label, heading: &Heading) -> Result<()
         ≡ text.old.items ++ shown.heading_text label.0 heading.now) }
 {
     put_function(text, label, heading.name.as_slice(), heading.place)
+}
+
+/// Puts the variables of the function of a place at the end, if the source declares it; gives the
+/// names of its temporaries.
+fn put_own(
+    alloc: Global,
+    text: &mut Vec<u8>,
+    own: &[FunctionVariables],
+    at: usize,
+) -> Result<Vec<Bytes>, Memory>
+    ensures names { IfOk result (λ names. names.items
+        ≡ shown.temp_names (slice_get own.now at)) }
+    ensures text { OnOk result (text.new.items
+        ≡ text.old.items ++ shown.variables_text (slice_get own.now at)) }
+{
+    match own.get(at) {
+        Some(one) => {
+            put_variables(text, one)?;
+            names_of(alloc, one)
+        }
+        None => Ok(Vec::new(alloc)),
+    }
 }
 
 /// Puts the tree of a function at the end, and, where folding is switched on, its folded tree; gives
@@ -119,6 +147,7 @@ fn put_flat(
 fn put_instructions(
     alloc: Global,
     text: &mut Vec<u8>,
+    names: &[Bytes],
     frame: &mut Frame,
     flat: &[Linear],
 ) -> Result<(), Memory>
@@ -126,42 +155,44 @@ fn put_instructions(
     requires drawn { HasItsTemps (λ e. named_flat e [])
         (plain_function frame.old (code_of flat.now)) }
     ensures { OnOk result (Puts text.old.items text.new.items
-        (shown.TellsCode (known_code (munched (plain_function frame.old (code_of flat.now))).code)
+        (shown.TellsCode names.now
+        (known_code (munched (plain_function frame.old (code_of flat.now))).code)
         (munched (plain_function frame.old (code_of flat.now))).drawn.temp)) }
 {
     let chosen = munch(alloc, flat, frame)?;
     let code = known(alloc, &chosen)?;
-    put_graphs(alloc, text, &code)
+    put_graphs(alloc, text, names, &code)
 }
 
 /// Puts a code at the end, with what is live and what interferes.
-fn put_graphs(alloc: Global, text: &mut Vec<u8>, code: &Code) -> Result<(), Memory>
+fn put_graphs(alloc: Global, text: &mut Vec<u8>, names: &[Bytes], code: &Code) -> Result<(), Memory>
     requires { code.now.temps < 2 ^ 24 }
     ensures { OnOk result (Puts text.old.items text.new.items
-        (shown.TellsCode code.now.list code.now.temps)) }
+        (shown.TellsCode names.now code.now.list code.now.temps)) }
 {
     let list = code.list.as_slice();
-    put_code(alloc, text, &[], list)?;
+    put_code(alloc, text, names, list)?;
     let flow = flow(alloc, code)?;
     let sets = live(alloc, code, &flow)?;
-    put_live(alloc, text, &[], list, &sets)?;
+    put_live(alloc, text, names, list, &sets)?;
     let graph = interference(alloc, code, &sets)?;
     let moves = moves_of(alloc, code)?;
-    Ok(put_graph(text, &[], &graph, moves.as_slice())?)
+    Ok(put_graph(text, names, &graph, moves.as_slice())?)
 }
 
 /// Puts an allocation at the end, and its lines of assembly.
 fn put_allocated(
     alloc: Global,
     text: &mut Vec<u8>,
+    names: &[Bytes],
     allocation: &Allocation,
     long: bool,
 ) -> Result<(), Memory>
     requires { IsTrue (is_emittable allocation.now.done) }
     ensures { OnOk result (text.new.items
-        ≡ text.old.items ++ shown.allocated_text long allocation.now) }
+        ≡ text.old.items ++ shown.allocated_text names.now long allocation.now) }
 {
-    put_registers(text, &[], allocation)?;
+    put_registers(text, names, allocation)?;
     let lines = lines_of(alloc, &allocation.done, long)?;
     Ok(put_assembly(alloc, text, &lines)?)
 }

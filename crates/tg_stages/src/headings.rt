@@ -1,16 +1,17 @@
 ghost use Rattle.std.specs.Prelude.{◌≡◌, ◌<◌, ◌^◌, [], ◌∷◌, ◌++◌, length, map, take, IsTrue};
 ghost use Rattle.std.specs.Prelude.{IfOk, OnOk, nat_lt, slice_index_or};
 ghost use Rattle.std.specs.List.{list_all};
-ghost use Rattle.tg_base.specs.Lines.{place_of};
 ghost use Rattle.tg_syntax.specs.glue.Plain.{plain};
+ghost use Rattle.tg_variables.specs.Places.{ArePlaces};
 ghost use Rattle.tg_stages.specs.Headings as spec;
 ghost use Rattle.tg_stages.specs.Programs.{heading_at};
 
 use crate::declared::put_declared;
 use std::alloc::Global;
-use tg_base::{Bytes, Memory, Names, Place, place};
+use tg_base::{Bytes, Memory, Names, Place};
 use tg_syntax::Ident;
 use tg_typecheck::Checked;
+use tg_variables::{place_at, places_of};
 
 /// The name of a function, and where the source declares it, if it does.
 #[derive(Drop)]
@@ -42,9 +43,17 @@ pub fn headings(alloc: Global, text: &[u8], checked: &Checked) -> Result<Vec<Hea
 {
     let mut found = Vec::new(alloc);
     put_declared(&mut found, &checked.program.body)?;
+    let places = places_of(alloc, text)?;
     let mut all = Vec::new(alloc);
     put_undeclared(alloc, &mut all, b"main")?;
-    put_source(alloc, &mut all, text, checked.names, &found)?;
+    put_source(
+        alloc,
+        &mut all,
+        text,
+        places.as_slice(),
+        checked.names,
+        &found,
+    )?;
     put_routines(alloc, &mut all)?;
     Ok(all)
 }
@@ -74,40 +83,38 @@ fn put_source(
     alloc: Global,
     all: &mut Vec<Heading>,
     text: &[u8],
+    places: &[Place],
     names: &Names,
     found: &[Ident],
 ) -> Result<(), Memory>
-    requires small { length text.now < 2 ^ 31 }
+    requires places { ArePlaces text.now places.now }
     requires within { IsTrue (list_all (λ f. nat_lt f.name.0 (length names.now)) found.now) }
     ensures { OnOk result (all.new.items
         ≡ all.old.items ++ map (spec.heading_of text.now names.now) found.now) }
 {
     for at in 0..found.len() {
-        let one = heading_of(alloc, text, names, found[at])?;
+        let one = heading_of(alloc, text, places, names, found[at])?;
         all.push(one)?;
     }
     Ok(())
 }
 
-fn heading_of(alloc: Global, text: &[u8], names: &Names, one: Ident) -> Result<Heading, Memory>
-    requires small { length text.now < 2 ^ 31 }
+fn heading_of(
+    alloc: Global,
+    text: &[u8],
+    places: &[Place],
+    names: &Names,
+    one: Ident,
+) -> Result<Heading, Memory>
+    requires places { ArePlaces text.now places.now }
     requires within { one.name.0 < length names.now }
     ensures { IfOk result (λ h. h ≡ spec.heading_of text.now names.now one) }
 {
     let name = Vec::from_slice(alloc, names.text(one.name).as_bytes())?;
     Ok(Heading {
         name: Bytes::from_vec(name),
-        place: Some(place_within(text, one.span.from)),
+        place: Some(place_at(text, places, one.span.from)),
     })
-}
-
-/// The place of a byte of a text, or of the text's end where the byte is beyond.
-fn place_within(text: &[u8], at: u32) -> Place
-    requires { length text.now < 2 ^ 31 }
-    ensures { result ≡ place_of text.now at }
-{
-    let length = text.len() as u32;
-    place(text, at.min(length))
 }
 
 /// Puts the headings of the runtime's functions at the end.

@@ -1,4 +1,4 @@
-//! The text of `tiger show`: of each function what each pass makes of it (Appel, chapters 7 to 12).
+//! The text of `tiger show`: of each function what each pass makes of it (Appel, chapters 6 to 12).
 //!
 //! Goes through the passes once more, and tells what each gives. Promises the driver exactly the
 //! text of `specs/Programs.antt`.

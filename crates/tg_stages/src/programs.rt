@@ -17,6 +17,7 @@ use tg_irc_definition::SpillPolicy;
 use tg_regalloc::Allocation;
 use tg_tree::Fragments;
 use tg_typecheck::Checked;
+use tg_variables::variables;
 
 /// Compiles a program that has no fault, with the passes that are switched on, and gives the text of
 /// what each pass made of each function. The policy is asked as by `compile_checked`.
@@ -54,6 +55,8 @@ fn show(
         (plain checked.now.program.body) allocations.now shown.items) }
 {
     let all = headings(alloc, text, checked)?;
+    let own = variables(alloc, text, checked)?;
+    let own = own.as_slice();
     let long = are_long(alloc, allocations)?;
     let Fragments {
         functions,
@@ -68,6 +71,8 @@ fn show(
             alloc,
             &mut shown,
             heading,
+            own,
+            at,
             one,
             passes,
             &allocations[at],

@@ -1,4 +1,4 @@
-use Rattle.std.proofs.Common.{[], refl}
+use Rattle.std.proofs.Common.{refl}
 use Rattle.tg_interference.specs.Moves.{moves_of}
 use Rattle.tg_show.specs.Stages.{instructions_stage, live_stage, graph_stage}
 use Rattle.tg_stages.specs.Shown.{code_text}
@@ -7,13 +7,14 @@ use Rattle.tg_stages.proofs.functions.put_graphs.Goals as goal
 
 pub returns : goal.returns
 returns c =
+    let names = c.args.names.now in
     let list = c.args.code.now.list in
     let sets = c.in_ok-sets.sets in
     let graph = c.in_ok-graph.graph in
     record {
-      told = code_text list sets graph;
-      is_behind = three_told c.args.text.now.items _ _ _ (instructions_stage [] list) (live_stage [] sets list)
-          (graph_stage [] graph (moves_of list)) (rw c.as_slice-list.ensures at c.in_ok-put_code.ensures)
+      told = code_text names list sets graph;
+      is_behind = three_told c.args.text.now.items _ _ _ (instructions_stage names list) (live_stage names sets list)
+          (graph_stage names graph (moves_of list)) (rw c.as_slice-list.ensures at c.in_ok-put_code.ensures)
           (rw c.as_slice-list.ensures at c.in_ok-put_live.ensures)
           (rw c.in_ok-moves.ensures at rw c.as_slice.ensures at c.in_ok-put_graph.ensures);
       holds = record {

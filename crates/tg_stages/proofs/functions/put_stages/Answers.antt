@@ -1,4 +1,5 @@
-use Rattle.std.proofs.Common.{List, sym, subst}
+use Rattle.std.proofs.Common.{List, sym, subst, ◌∙◌}
+use Rattle.std.specs.List.{slice_get}
 use Rattle.tg_tree.specs.Tree.{Function, Linear}
 use Rattle.tg_tree.specs.glue.Lists.{code_of}
 use Rattle.tg_tree.specs.glue.Plain.{plain_fragment, plain_function}
@@ -25,7 +26,9 @@ put_instructions-requires c =
 
 pub returns : goal.returns
 returns c =
-    function_told c.args.passes c.args.long c.args.heading.now (plain_fragment c.args.one) (plain_fragment c.in_ok-prepared.prepared)
-    (plain_function c.put_flat.new.frame (code_of c.in_ok-flat.flat.items)) c.args.allocation.now _ _ _ _ _ _
-    c.in_ok-prepared.ensures.prepared c.in_ok-flat.ensures.flat c.in_ok-put_heading.ensures c.in_ok-prepared.ensures.text
+    function_told c.args.passes c.args.long c.args.heading.now (slice_get c.args.own.now c.args.at) c.as_slice-names.result.now
+    (plain_fragment c.args.one) (plain_fragment c.in_ok-prepared.prepared)
+    (plain_function c.put_flat.new.frame (code_of c.in_ok-flat.flat.items)) c.args.allocation.now _ _ _ _ _ _ _
+    (c.as_slice-names.ensures ∙ c.in_ok-names.ensures.names) c.in_ok-prepared.ensures.prepared c.in_ok-flat.ensures.flat
+    c.in_ok-put_heading.ensures c.in_ok-names.ensures.text c.in_ok-prepared.ensures.text
     c.in_ok-flat.ensures.text (rw c.deref.ensures.value at c.in_ok-put_instructions.ensures) c.in_ok-put_allocated.ensures

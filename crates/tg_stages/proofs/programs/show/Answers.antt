@@ -12,6 +12,7 @@ use Rattle.tg_emit.specs.mirror.Lines.{is_long}
 use Rattle.tg_compile.specs.Compiling.{fragments_of}
 use Rattle.tg_compile.specs.glue.Passes.{IsWellFormed}
 use Rattle.tg_compile.proofs.WellFormed.{one_is}
+use Rattle.tg_variables.specs.Variables.{variables}
 use Rattle.tg_stages.specs.Headings.{headings}
 use Rattle.tg_stages.specs.Programs.{TellFrom, nothing}
 use Rattle.tg_stages.proofs.Counts.{emittable_at, within}
@@ -56,7 +57,7 @@ loop-one-init c =
     let empty : c.new-shown.result.items ≡ [] = search rules in
     record {
       at = refl;
-      tell = subst (λ t. TellFrom c.args.passes c.in_ok-long.long c.in_ok-all.all.items 0 [] [] t) (sym empty) nothing;
+      tell = subst (λ t. TellFrom c.args.passes c.in_ok-long.long c.in_ok-all.all.items c.as_slice-own.result.now 0 [] [] t) (sym empty) nothing;
     }
 
 pub loop-one-preserved : goal.loop-one-preserved
@@ -71,7 +72,7 @@ loop-one-preserved c =
     (length c.loop-one.yielded) c.in_ok-functions.ensures.fragments c.requires.each (subst P given turn.0) in
     record {
       at = omega (arith, c.loop-one.invariant.at, length_push c.loop-one.yielded c.in-Some.one);
-      tell = tell_next c.args.passes c.in_ok-long.long c.in_ok-all.all.items c.loop-one.yielded c.in-Some.one c.args.allocations.now
+      tell = tell_next c.args.passes c.in_ok-long.long c.in_ok-all.all.items c.as_slice-own.result.now c.loop-one.yielded c.in-Some.one c.args.allocations.now
           c.index-allocations-at.result c.heading_at-heading.result.now c.loop-one.at c.loop-one.shown.items c.put_stages.new.text.items
           c.loop-one.invariant.at (omega (arith, inside, c.loop-one.invariant.at)) c.index-allocations-at.is
           (rw c.deref.ensures.value at c.heading_at-heading.ensures) c.loop-one.invariant.tell c.in_ok-put_stages.ensures;
@@ -86,6 +87,7 @@ returns c =
     let body = plain checked.program.body in
     let all = c.in_ok-functions.field-0 in
     all_told c.args.passes c.in_ok-long.long (is_long (codes_of c.args.allocations.now)) c.in_ok-all.all.items
-    (headings c.args.text.now checked.names body) c.loop-one.yielded all.functions.items all.literals.items (fragments_of checked.notes body)
+    (headings c.args.text.now checked.names body) c.as_slice-own.result.now (variables c.args.text.now checked.notes body) c.loop-one.yielded all.functions.items all.literals.items (fragments_of checked.notes body)
     c.args.allocations.now c.loop-one.at c.loop-one.shown.items c.loop-one.invariant.at (every ∙ c.into_iter-one-iterator.ensures.into_iter_gives.0)
-    c.in_ok-functions.ensures.fragments c.requires.each c.in_ok-all.ensures c.in_ok-long.ensures c.loop-one.invariant.tell
+    c.in_ok-functions.ensures.fragments c.requires.each c.in_ok-all.ensures
+    (c.as_slice-own.ensures ∙ c.in_ok-own.ensures) c.in_ok-long.ensures c.loop-one.invariant.tell

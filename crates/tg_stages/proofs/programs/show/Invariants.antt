@@ -7,5 +7,5 @@ use Rattle.tg_stages.proofs.programs.show.Given as goal
 abbrev pub invariant-loop-one : goal.invariant-loop-one
 invariant-loop-one l = record {
   at : l.at ≡ length l.yielded;
-  tell : TellFrom l.passes l.long l.all.items 0 (map plain_fragment l.yielded) (take l.at l.allocations) l.shown.items;
+  tell : TellFrom l.passes l.long l.all.items l.own 0 (map plain_fragment l.yielded) (take l.at l.allocations) l.shown.items;
 }
