@@ -20,6 +20,13 @@ use Rattle.tg_show_laws.proofs.DenseNumbers.{dense_number}
 use Rattle.tg_show_laws.proofs.Spacing.{spaced_decimal, spaced_tx, spaced_ts, spaced_rel, spaced_two, spaced_parens}
 use Rattle.tg_show_laws.proofs.Trees.{byte, differ, begins, told_tx, told_ts}
 
+abbrev pub mark_then : ℕ → List ℕ → List ℕ
+mark_then m u = 46 ∷ (solid (decimal m) ++ u)
+
+-- a flat statement begins as no other element does: with an `M` or an `E`
+abbrev pub letter : ℕ → ℕ
+letter c = if c == 77 || c == 69 then 0 else c
+
 module _ (names : List (List ℕ)) (plain : HaveNoCommas names) where
   line_dense : (margin : ℕ) (s : Ts) (rest : List ℕ) → NumbersFit s → solid (laid margin (ts_text names s) ++ rest) ≡ ts_then names s (solid rest)
   line_dense margin s rest f = solid_laid margin (ts_text names s) rest (spaced_ts names plain s f) ∙ solid_ts names s (solid rest)
@@ -63,9 +70,6 @@ module _ (names : List (List ℕ)) (plain : HaveNoCommas names) where
       (sym (statements_dense margin ss [] f) ∙ ap (λ x. solid (x ++ [])) h ∙ statements_dense margin ts [] g)
 
   -- flat code
-  abbrev pub mark_then : ℕ → List ℕ → List ℕ
-  mark_then m u = 46 ∷ (solid (decimal m) ++ u)
-
   abbrev element_then : Linear → List ℕ → List ℕ
   element_then (Mark m) u = codes "LABEL" ++ mark_then m u
   element_then (Do' s) u = ts_then names s u
@@ -107,10 +111,6 @@ module _ (names : List (List ℕ)) (plain : HaveNoCommas names) where
 
   element_dense : (e : Linear) (rest : List ℕ) → ElementFits e → solid (laid (element_margin e) (element_text names e) ++ rest) ≡ element_then e (solid rest)
   element_dense e rest f = solid_laid (element_margin e) (element_text names e) rest (element_spaced e f) ∙ element_solid e (solid rest)
-
-  -- a flat statement begins as no other element does
-  abbrev pub letter : ℕ → ℕ
-  letter c = if c == 77 || c == 69 then 0 else c
 
   pub flat_letter : (s : Ts) (u : List ℕ) → IsFlatStatement s → letter (byte 0 (ts_then names s u)) ≡ 0
   flat_letter (Move t x) u f = refl

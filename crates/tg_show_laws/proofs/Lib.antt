@@ -6,3 +6,8 @@ mod DenseNumbers
 mod Spacing
 mod Trees
 mod Codes
+mod BlockTexts
+mod Written
+mod Views
+mod InstructionTexts
+mod Examples

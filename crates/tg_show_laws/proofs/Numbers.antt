@@ -47,7 +47,7 @@ number_told m n u v p q e f h =
     (decimal_injective m n (omega (arith, p)) (omega (arith, q)) same,
     append_cancel_left (decimal n) u v (ap (λ x. x ++ u) (sym same) ∙ h))
 
-no_sign : (m : ℕ) (u rest : List ℕ) → IsWord m → ends u ≡ true → decimal m ++ u ≡ 45 ∷ rest → ⊥
+pub no_sign : (m : ℕ) (u rest : List ℕ) → IsWord m → ends u ≡ true → decimal m ++ u ≡ 45 ∷ rest → ⊥
 no_sign m u rest p e h =
     let a = (decimal_is_IsNumeral m (omega (arith, p))).0.1 in
     let none : decimal m ≡ [] = sym (front_of (decimal m) u a e) ∙ ap digits_front h in

@@ -1,0 +1,228 @@
+-- Each instruction's text is a word, and operands and numbers behind it in one form; both tell the instruction.
+use Rattle.std.proofs.Common.{ℕ, ◌≡◌, List, [], ◌∷◌, ◌++◌, drop, get_or, Bool, true, false, refl, sym, ap, ◌∙◌, append_assoc}
+use Rattle.std.specs.Prelude.{◌==◌, ◌-◌, if◌then◌else◌, codes}
+use Rattle.std.specs.Fmt.{decimal}
+use Rattle.std.proofs.lemmas.List.{append_cancel_left}
+use Rattle.tg_show.specs.Words.{rel_word}
+use Rattle.tg_instr.specs.declared.operands.Opnd.{Opnd}
+use Rattle.tg_instr.specs.declared.instr.Test.{Test}
+use Rattle.tg_instr.specs.declared.instr.Instr.{Instr}
+use Rattle.tg_instr.specs.declared.instr.Instr.TheVariants.{Sll, Srl, Sra, Mfhi, Mflo, Mult, Div, Add, Sub, Addu, Subu, And, Or, Xor, Nor, Slt, Sltu, Addi, Addiu, Slti, Sltiu}
+use Rattle.tg_instr.specs.declared.instr.Instr.TheVariants.{Andi, Ori, Xori, Lui, Lb, Lbu, Lw, Sb, Sw, Move, FrameLoad, FrameStore, FrameAddress, Address, Mark, Jump}
+use Rattle.tg_instr.specs.declared.instr.Instr.TheVariants.{Branch, Call, Service, Fault, Return}
+use Rattle.tg_show.specs.Layout.{blanks}
+use Rattle.tg_show.specs.Trees.{two, three}
+use Rattle.tg_show.specs.Flat.{mark_text}
+use Rattle.tg_show.specs.Instructions.{operand_text, signed_text, instruction_margin, instruction_text}
+use Rattle.tg_show_laws.specs.Fields.{FieldsFit}
+use Rattle.tg_show_laws.proofs.Numbers.{ends}
+use Rattle.tg_show_laws.proofs.Trees.{byte, differ}
+use Rattle.tg_show_laws.proofs.Written.{place, Written, Three, AndNumber, AndSigned, WithMemory, Two, One, WithSlot, Upper, Literal, Here, Goes, Tests, Number, Nothing}
+use Rattle.tg_show_laws.proofs.Written.{WrittenFits, form, written_then, told_written}
+
+-- the words that instructions begin with
+abbrev words : List (List ℕ)
+words =
+    codes "add " ∷ codes "sub " ∷ codes "addu " ∷ codes "subu " ∷ codes "and " ∷ codes "or " ∷ codes "xor " ∷ codes "nor " ∷ codes "slt " ∷
+    codes "sltu " ∷ codes "sll " ∷ codes "srl " ∷ codes "sra " ∷ codes "andi " ∷ codes "ori " ∷ codes "xori " ∷ codes "addi " ∷ codes "addiu " ∷
+    codes "slti " ∷ codes "sltiu " ∷ codes "lb " ∷ codes "lbu " ∷ codes "lw " ∷ codes "sb " ∷ codes "sw " ∷ codes "mult " ∷ codes "div " ∷
+    codes "move " ∷ codes "mfhi " ∷ codes "mflo " ∷ codes "frame " ∷ codes "load " ∷ codes "store " ∷ codes "lui " ∷ codes "la " ∷ codes "." ∷
+    codes "j " ∷ codes "branch " ∷ codes "jal f" ∷ codes "break " ∷ codes "syscall" ∷ codes "return" ∷ []
+
+-- and the form of what stands behind each
+abbrev forms : List ℕ
+forms = 0 ∷ 0 ∷ 0 ∷ 0 ∷ 0 ∷ 0 ∷ 0 ∷ 0 ∷ 0 ∷ 0 ∷ 1 ∷ 1 ∷ 1 ∷ 1 ∷ 1 ∷ 1 ∷ 2 ∷ 2 ∷ 2 ∷ 2 ∷ 3 ∷ 3 ∷ 3 ∷ 3 ∷ 3 ∷ 4 ∷ 4 ∷ 4 ∷ 5 ∷ 5 ∷ 5 ∷ 6 ∷ 6 ∷ 7 ∷ 8 ∷ 9 ∷ 10 ∷ 11 ∷ 12 ∷ 12 ∷ 13 ∷ 13 ∷ []
+
+abbrev made : (word : ℕ) → Written → Instr
+made k (Three x y z) = get_or (Add x y z ∷ Sub x y z ∷ Addu x y z ∷ Subu x y z ∷ And x y z ∷ Or x y z ∷ Xor x y z ∷ Nor x y z ∷ Slt x y z ∷ Sltu x y z ∷ []) (k - 0) Return
+made k (AndNumber x y n) = get_or (Sll x y n ∷ Srl x y n ∷ Sra x y n ∷ Andi x y n ∷ Ori x y n ∷ Xori x y n ∷ []) (k - 10) Return
+made k (AndSigned x y n) = get_or (Addi x y n ∷ Addiu x y n ∷ Slti x y n ∷ Sltiu x y n ∷ []) (k - 16) Return
+made k (WithMemory x n y) = get_or (Lb x n y ∷ Lbu x n y ∷ Lw x n y ∷ Sb x n y ∷ Sw x n y ∷ []) (k - 20) Return
+made k (Two x y) = get_or (Mult x y ∷ Div x y ∷ Move x y ∷ []) (k - 25) Return
+made k (One x) = get_or (Mfhi x ∷ Mflo x ∷ FrameAddress x ∷ []) (k - 28) Return
+made k (WithSlot x n) = get_or (FrameLoad x n ∷ FrameStore x n ∷ []) (k - 31) Return
+made k (Upper x n) = Lui x n
+made k (Literal x label) = Address x (record { 0 = label })
+made k (Here m) = Mark m
+made k (Goes m) = Jump m
+made k (Tests test m) = Branch test m
+made k (Number n) = get_or (Call (record { 0 = n }) ∷ Fault n ∷ []) (k - 38) Return
+made k Nothing = get_or (Service ∷ Return ∷ []) (k - 40) Return
+
+abbrev strip : List ℕ → List ℕ
+strip [] = []
+strip (c ∷ rest) = if c == 32 then strip rest else c ∷ rest
+
+two_then : (a b u : List ℕ) → two a b ++ u ≡ a ++ (44 ∷ 32 ∷ (b ++ u))
+two_then a b u = append_assoc a (codes ", " ++ b) u
+
+three_then : (a b c u : List ℕ) → three a b c ++ u ≡ a ++ (44 ∷ 32 ∷ (b ++ (44 ∷ 32 ∷ (c ++ u))))
+three_then a b c u = append_assoc a (codes ", " ++ two b c) u ∙ ap (λ r. a ++ (44 ∷ 32 ∷ r)) (two_then b c u)
+
+memory_then : (a n b u : List ℕ) → two a (n ++ (codes "(" ++ (b ++ codes ")"))) ++ u ≡ a ++ (44 ∷ 32 ∷ (n ++ (40 ∷ (b ++ (41 ∷ u)))))
+memory_then a n b u =
+    two_then a (n ++ (codes "(" ++ (b ++ codes ")"))) u
+    ∙ ap (λ r. a ++ (44 ∷ 32 ∷ r)) (append_assoc n (codes "(" ++ (b ++ codes ")")) u ∙ ap (λ r. n ++ (40 ∷ r)) (append_assoc b (codes ")") u))
+
+module _ (names : List (List ℕ)) where
+  abbrev o : Opnd → List ℕ
+  o x = operand_text names x
+
+  record Viewed (one : Instr) : Type 0 where
+    word : ℕ
+    parts : Written
+    formed : form parts ≡ get_or forms word 0
+    said : (u : List ℕ) → instruction_text names one ++ u ≡ get_or words word [] ++ written_then names parts u
+    read : (u : List ℕ) → place words (instruction_text names one ++ u) ≡ word
+    stripped : (u : List ℕ) → strip (blanks (instruction_margin one) ++ (instruction_text names one ++ u)) ≡ instruction_text names one ++ u
+    some : (u : List ℕ) → (byte 0 (blanks (instruction_margin one) ++ u) == 0) ≡ false
+    is : made word parts ≡ one
+    fits : WrittenFits parts
+
+  view : (one : Instr) → FieldsFit one → Viewed one
+  view (Sll x y n) f = record {
+    word = 10; parts = AndNumber x y n; formed = refl; said = λ u. ap (λ r. codes "sll " ++ r) (three_then (o x) (o y) (decimal n) u);
+    read = λ u. refl; stripped = λ u. refl; some = λ u. refl; is = refl; fits = f }
+  view (Srl x y n) f = record {
+    word = 11; parts = AndNumber x y n; formed = refl; said = λ u. ap (λ r. codes "srl " ++ r) (three_then (o x) (o y) (decimal n) u);
+    read = λ u. refl; stripped = λ u. refl; some = λ u. refl; is = refl; fits = f }
+  view (Sra x y n) f = record {
+    word = 12; parts = AndNumber x y n; formed = refl; said = λ u. ap (λ r. codes "sra " ++ r) (three_then (o x) (o y) (decimal n) u);
+    read = λ u. refl; stripped = λ u. refl; some = λ u. refl; is = refl; fits = f }
+  view (Mfhi x) f = record {
+    word = 28; parts = One x; formed = refl; said = λ u. refl;
+    read = λ u. refl; stripped = λ u. refl; some = λ u. refl; is = refl; fits = f }
+  view (Mflo x) f = record {
+    word = 29; parts = One x; formed = refl; said = λ u. refl;
+    read = λ u. refl; stripped = λ u. refl; some = λ u. refl; is = refl; fits = f }
+  view (Mult x y) f = record {
+    word = 25; parts = Two x y; formed = refl; said = λ u. ap (λ r. codes "mult " ++ r) (two_then (o x) (o y) u);
+    read = λ u. refl; stripped = λ u. refl; some = λ u. refl; is = refl; fits = f }
+  view (Div x y) f = record {
+    word = 26; parts = Two x y; formed = refl; said = λ u. ap (λ r. codes "div " ++ r) (two_then (o x) (o y) u);
+    read = λ u. refl; stripped = λ u. refl; some = λ u. refl; is = refl; fits = f }
+  view (Add x y z) f = record {
+    word = 0; parts = Three x y z; formed = refl; said = λ u. ap (λ r. codes "add " ++ r) (three_then (o x) (o y) (o z) u);
+    read = λ u. refl; stripped = λ u. refl; some = λ u. refl; is = refl; fits = f }
+  view (Sub x y z) f = record {
+    word = 1; parts = Three x y z; formed = refl; said = λ u. ap (λ r. codes "sub " ++ r) (three_then (o x) (o y) (o z) u);
+    read = λ u. refl; stripped = λ u. refl; some = λ u. refl; is = refl; fits = f }
+  view (Addu x y z) f = record {
+    word = 2; parts = Three x y z; formed = refl; said = λ u. ap (λ r. codes "addu " ++ r) (three_then (o x) (o y) (o z) u);
+    read = λ u. refl; stripped = λ u. refl; some = λ u. refl; is = refl; fits = f }
+  view (Subu x y z) f = record {
+    word = 3; parts = Three x y z; formed = refl; said = λ u. ap (λ r. codes "subu " ++ r) (three_then (o x) (o y) (o z) u);
+    read = λ u. refl; stripped = λ u. refl; some = λ u. refl; is = refl; fits = f }
+  view (And x y z) f = record {
+    word = 4; parts = Three x y z; formed = refl; said = λ u. ap (λ r. codes "and " ++ r) (three_then (o x) (o y) (o z) u);
+    read = λ u. refl; stripped = λ u. refl; some = λ u. refl; is = refl; fits = f }
+  view (Or x y z) f = record {
+    word = 5; parts = Three x y z; formed = refl; said = λ u. ap (λ r. codes "or " ++ r) (three_then (o x) (o y) (o z) u);
+    read = λ u. refl; stripped = λ u. refl; some = λ u. refl; is = refl; fits = f }
+  view (Xor x y z) f = record {
+    word = 6; parts = Three x y z; formed = refl; said = λ u. ap (λ r. codes "xor " ++ r) (three_then (o x) (o y) (o z) u);
+    read = λ u. refl; stripped = λ u. refl; some = λ u. refl; is = refl; fits = f }
+  view (Nor x y z) f = record {
+    word = 7; parts = Three x y z; formed = refl; said = λ u. ap (λ r. codes "nor " ++ r) (three_then (o x) (o y) (o z) u);
+    read = λ u. refl; stripped = λ u. refl; some = λ u. refl; is = refl; fits = f }
+  view (Slt x y z) f = record {
+    word = 8; parts = Three x y z; formed = refl; said = λ u. ap (λ r. codes "slt " ++ r) (three_then (o x) (o y) (o z) u);
+    read = λ u. refl; stripped = λ u. refl; some = λ u. refl; is = refl; fits = f }
+  view (Sltu x y z) f = record {
+    word = 9; parts = Three x y z; formed = refl; said = λ u. ap (λ r. codes "sltu " ++ r) (three_then (o x) (o y) (o z) u);
+    read = λ u. refl; stripped = λ u. refl; some = λ u. refl; is = refl; fits = f }
+  view (Addi x y n) f = record {
+    word = 16; parts = AndSigned x y n; formed = refl; said = λ u. ap (λ r. codes "addi " ++ r) (three_then (o x) (o y) (signed_text n) u);
+    read = λ u. refl; stripped = λ u. refl; some = λ u. refl; is = refl; fits = f }
+  view (Addiu x y n) f = record {
+    word = 17; parts = AndSigned x y n; formed = refl; said = λ u. ap (λ r. codes "addiu " ++ r) (three_then (o x) (o y) (signed_text n) u);
+    read = λ u. refl; stripped = λ u. refl; some = λ u. refl; is = refl; fits = f }
+  view (Slti x y n) f = record {
+    word = 18; parts = AndSigned x y n; formed = refl; said = λ u. ap (λ r. codes "slti " ++ r) (three_then (o x) (o y) (signed_text n) u);
+    read = λ u. refl; stripped = λ u. refl; some = λ u. refl; is = refl; fits = f }
+  view (Sltiu x y n) f = record {
+    word = 19; parts = AndSigned x y n; formed = refl; said = λ u. ap (λ r. codes "sltiu " ++ r) (three_then (o x) (o y) (signed_text n) u);
+    read = λ u. refl; stripped = λ u. refl; some = λ u. refl; is = refl; fits = f }
+  view (Andi x y n) f = record {
+    word = 13; parts = AndNumber x y n; formed = refl; said = λ u. ap (λ r. codes "andi " ++ r) (three_then (o x) (o y) (decimal n) u);
+    read = λ u. refl; stripped = λ u. refl; some = λ u. refl; is = refl; fits = f }
+  view (Ori x y n) f = record {
+    word = 14; parts = AndNumber x y n; formed = refl; said = λ u. ap (λ r. codes "ori " ++ r) (three_then (o x) (o y) (decimal n) u);
+    read = λ u. refl; stripped = λ u. refl; some = λ u. refl; is = refl; fits = f }
+  view (Xori x y n) f = record {
+    word = 15; parts = AndNumber x y n; formed = refl; said = λ u. ap (λ r. codes "xori " ++ r) (three_then (o x) (o y) (decimal n) u);
+    read = λ u. refl; stripped = λ u. refl; some = λ u. refl; is = refl; fits = f }
+  view (Lui x n) f = record {
+    word = 33; parts = Upper x n; formed = refl; said = λ u. ap (λ r. codes "lui " ++ r) (two_then (o x) (decimal n) u);
+    read = λ u. refl; stripped = λ u. refl; some = λ u. refl; is = refl; fits = f }
+  view (Lb x n y) f = record {
+    word = 20; parts = WithMemory x n y; formed = refl; said = λ u. ap (λ r. codes "lb " ++ r) (memory_then (o x) (signed_text n) (o y) u);
+    read = λ u. refl; stripped = λ u. refl; some = λ u. refl; is = refl; fits = f }
+  view (Lbu x n y) f = record {
+    word = 21; parts = WithMemory x n y; formed = refl; said = λ u. ap (λ r. codes "lbu " ++ r) (memory_then (o x) (signed_text n) (o y) u);
+    read = λ u. refl; stripped = λ u. refl; some = λ u. refl; is = refl; fits = f }
+  view (Lw x n y) f = record {
+    word = 22; parts = WithMemory x n y; formed = refl; said = λ u. ap (λ r. codes "lw " ++ r) (memory_then (o x) (signed_text n) (o y) u);
+    read = λ u. refl; stripped = λ u. refl; some = λ u. refl; is = refl; fits = f }
+  view (Sb x n y) f = record {
+    word = 23; parts = WithMemory x n y; formed = refl; said = λ u. ap (λ r. codes "sb " ++ r) (memory_then (o x) (signed_text n) (o y) u);
+    read = λ u. refl; stripped = λ u. refl; some = λ u. refl; is = refl; fits = f }
+  view (Sw x n y) f = record {
+    word = 24; parts = WithMemory x n y; formed = refl; said = λ u. ap (λ r. codes "sw " ++ r) (memory_then (o x) (signed_text n) (o y) u);
+    read = λ u. refl; stripped = λ u. refl; some = λ u. refl; is = refl; fits = f }
+  view (Move x y) f = record {
+    word = 27; parts = Two x y; formed = refl; said = λ u. ap (λ r. codes "move " ++ r) (two_then (o x) (o y) u);
+    read = λ u. refl; stripped = λ u. refl; some = λ u. refl; is = refl; fits = f }
+  view (FrameLoad x n) f = record {
+    word = 31; parts = WithSlot x n; formed = refl; said = λ u. ap (λ r. codes "load " ++ r) (two_then (o x) (codes "slot " ++ decimal n) u);
+    read = λ u. refl; stripped = λ u. refl; some = λ u. refl; is = refl; fits = f }
+  view (FrameStore x n) f = record {
+    word = 32; parts = WithSlot x n; formed = refl; said = λ u. ap (λ r. codes "store " ++ r) (two_then (o x) (codes "slot " ++ decimal n) u);
+    read = λ u. refl; stripped = λ u. refl; some = λ u. refl; is = refl; fits = f }
+  view (FrameAddress x) f = record {
+    word = 30; parts = One x; formed = refl; said = λ u. refl;
+    read = λ u. refl; stripped = λ u. refl; some = λ u. refl; is = refl; fits = f }
+  view (Address x label) f = record {
+    word = 34; parts = Literal x label.0; formed = refl; said = λ u. ap (λ r. codes "la " ++ r) (two_then (o x) (codes "s" ++ decimal label.0) u);
+    read = λ u. refl; stripped = λ u. refl; some = λ u. refl; is = refl; fits = f }
+  view (Mark m) f = record {
+    word = 35; parts = Here m; formed = refl; said = λ u. ap (λ r. codes "." ++ r) (append_assoc (decimal m) (codes ":") u);
+    read = λ u. refl; stripped = λ u. refl; some = λ u. refl; is = refl; fits = f }
+  view (Jump m) f = record {
+    word = 36; parts = Goes m; formed = refl; said = λ u. refl;
+    read = λ u. refl; stripped = λ u. refl; some = λ u. refl; is = refl; fits = f }
+  view (Branch test m) f = record {
+    word = 37; parts = Tests test m; formed = refl; said = λ u. ap (λ r. codes "branch " ++ r) (append_assoc (rel_word test.rel) (codes " " ++ three (o test.left) (o test.right) (mark_text m)) u
+          ∙ ap (λ r. rel_word test.rel ++ (32 ∷ r)) (three_then (o test.left) (o test.right) (mark_text m) u));
+    read = λ u. refl; stripped = λ u. refl; some = λ u. refl; is = refl; fits = f }
+  view (Call label) f = record {
+    word = 38; parts = Number label.0; formed = refl; said = λ u. refl;
+    read = λ u. refl; stripped = λ u. refl; some = λ u. refl; is = refl; fits = f }
+  view Service f = record {
+    word = 40; parts = Nothing; formed = refl; said = λ u. refl;
+    read = λ u. refl; stripped = λ u. refl; some = λ u. refl; is = refl; fits = f }
+  view (Fault n) f = record {
+    word = 39; parts = Number n; formed = refl; said = λ u. refl;
+    read = λ u. refl; stripped = λ u. refl; some = λ u. refl; is = refl; fits = f }
+  view Return f = record {
+    word = 41; parts = Nothing; formed = refl; said = λ u. refl;
+    read = λ u. refl; stripped = λ u. refl; some = λ u. refl; is = refl; fits = f }
+
+  -- Where instructions have one text, with their margins, they are the same, and so is what stands behind them.
+  pub told_one : (one other : Instr) (u v : List ℕ) → FieldsFit one → FieldsFit other → ends u ≡ true → ends v ≡ true →
+      blanks (instruction_margin one) ++ (instruction_text names one ++ u) ≡ blanks (instruction_margin other) ++ (instruction_text names other ++ v) →
+      (one ≡ other) × (u ≡ v)
+  told_one one other u v f g e k h =
+      let a = view one f in
+      let b = view other g in
+      let bare : instruction_text names one ++ u ≡ instruction_text names other ++ v = sym (a.stripped u) ∙ ap strip h ∙ b.stripped v in
+      let word : a.word ≡ b.word = sym (a.read u) ∙ ap (place words) bare ∙ b.read v in
+      let behind : written_then names a.parts u ≡ written_then names b.parts v =
+          append_cancel_left (get_or words b.word []) (written_then names a.parts u) (written_then names b.parts v)
+          (ap (λ j. get_or words j [] ++ written_then names a.parts u) (sym word) ∙ sym (a.said u) ∙ bare ∙ b.said v) in
+      let formed : form a.parts ≡ form b.parts = a.formed ∙ ap (λ j. get_or forms j 0) word ∙ sym b.formed in
+      let parts = told_written names a.parts b.parts u v formed a.fits b.fits e k behind in
+      (sym a.is ∙ (λ i. made (word i) (parts.0 i)) ∙ b.is, parts.1)
+
+  pub begins_some : (one : Instr) (u : List ℕ) → FieldsFit one → (byte 0 (blanks (instruction_margin one) ++ u) == 0) ≡ false
+  begins_some one u f = (view one f).some u
