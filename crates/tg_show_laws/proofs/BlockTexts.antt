@@ -29,9 +29,15 @@ record Follows (u : List ℕ) : Type 0 where
   ended : ends u ≡ true
   other : (letter (byte 0 u) == 0) ≡ false
 
+between_solid : (number part u : List ℕ) → solid ((number ++ (codes ", " ++ part)) ++ codes ")") ++ u ≡ solid number ++ (44 ∷ (solid part ++ (41 ∷ u)))
+between_solid number part u = simp (solid_append, append_assoc)
+
 targets_solid : (front p q u : List ℕ) →
     solid (two front (two (46 ∷ p) (46 ∷ q) ++ codes ")")) ++ u ≡ solid front ++ (44 ∷ 46 ∷ (solid p ++ (44 ∷ 46 ∷ (solid q ++ (41 ∷ u)))))
-targets_solid front p q u = simp (solid_append, append_assoc)
+targets_solid front p q u =
+    ap (λ x. x ++ u) (solid_append front (codes ", " ++ (two (46 ∷ p) (46 ∷ q) ++ codes ")")))
+    ∙ append_assoc (solid front) (44 ∷ 46 ∷ solid ((p ++ (codes ", " ++ (46 ∷ q))) ++ codes ")")) u
+    ∙ ap (λ x. solid front ++ (44 ∷ 46 ∷ x)) (between_solid p (46 ∷ q) u)
 
 module _ (names : List (List ℕ)) (plain : HaveNoCommas names) where
   abbrev end_then : BlockEnd → List ℕ → List ℕ
@@ -117,13 +123,15 @@ module _ (names : List (List ℕ)) (plain : HaveNoCommas names) where
       ∙ ap (λ r. codes "LABEL" ++ mark_then place r)
       (statements_dense names plain 2 b.body (last ++ others) f.1
       ∙ ap (statements_then names plain b.body)
-      (solid_laid 2 (end_text names b.end) others (end_spaced b.end f.2) ∙ end_solid b.end (solid others) ∙ ap (end_then b.end) (blocks_dense (suc place) rest f.3)))
+      (solid_laid 2 (end_text names b.end) others (end_spaced b.end f.2)
+      ∙ end_solid b.end (solid others) ∙ ap (end_then b.end) (blocks_dense (suc place) rest f.3)))
 
   blocks_end : (place : ℕ) (list : List Block) → ends (blocks_then place list) ≡ true
   blocks_end place [] = refl
   blocks_end place (b ∷ rest) = refl
 
-  told_blocks : (place : ℕ) (list others : List Block) → NumbersFitBlocks place list → NumbersFitBlocks place others → AreFlatBlocks list → AreFlatBlocks others →
+  told_blocks : (place : ℕ) (list others : List Block) → NumbersFitBlocks place list → NumbersFitBlocks place others →
+      AreFlatBlocks list → AreFlatBlocks others →
       blocks_then place list ≡ blocks_then place others → list ≡ others
   told_blocks place [] [] f g s t h = refl
   told_blocks place [] (b ∷ rest) f g s t h = absurd (differ 0 76 refl (ap (byte 0) h))

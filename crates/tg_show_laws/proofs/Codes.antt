@@ -97,7 +97,8 @@ module _ (names : List (List ℕ)) (plain : HaveNoCommas names) where
   element_spaced (Do' s) f = spaced_ts names plain s f.0
   element_spaced (Jump m) f = spaced_decimal m f
   element_spaced (Branch rel x y m) f =
-      spaced_two (branch_front names rel x y) (mark_text m ++ codes ")") (spaced_front rel x y f.0 f.1) (spaced_append (decimal m) (codes ")") (spaced_decimal m f.2) refl)
+      spaced_two (branch_front names rel x y) (mark_text m ++ codes ")") (spaced_front rel x y f.0 f.1)
+      (spaced_append (decimal m) (codes ")") (spaced_decimal m f.2) refl)
   element_spaced (Fault' n) f = spaced_decimal n f
   element_spaced (Return' x) f = spaced_parens (tx_text names x) (spaced_tx names plain x f)
 
@@ -130,9 +131,11 @@ module _ (names : List (List ℕ)) (plain : HaveNoCommas names) where
   told_element (Do' s) (Do' t) u v f g e k h = let a = told_ts names s t u v f.0 g.0 e k h in (ap Do' a.0, a.1)
   told_element (Jump m) (Jump n) u v f g e k h = let a = dense_number m n u v f g e k (ap (drop 5) h) in (ap Jump a.0, a.1)
   told_element (Branch r x y m) (Branch r' x' y' n) u v f g e k h =
-      let o = rel_told r r' (tx_then names x (44 ∷ tx_then names y (44 ∷ mark_then m (41 ∷ u)))) (tx_then names x' (44 ∷ tx_then names y' (44 ∷ mark_then n (41 ∷ v))))
+      let o = rel_told r r' (tx_then names x (44 ∷ tx_then names y (44 ∷ mark_then m (41 ∷ u))))
+          (tx_then names x' (44 ∷ tx_then names y' (44 ∷ mark_then n (41 ∷ v))))
           (ap (drop 6) h) in
-      let a = told_tx names x x' (44 ∷ tx_then names y (44 ∷ mark_then m (41 ∷ u))) (44 ∷ tx_then names y' (44 ∷ mark_then n (41 ∷ v))) f.0 g.0 refl refl o.1 in
+      let a = told_tx names x x' (44 ∷ tx_then names y (44 ∷ mark_then m (41 ∷ u))) (44 ∷ tx_then names y' (44 ∷ mark_then n (41 ∷ v)))
+          f.0 g.0 refl refl o.1 in
       let b = told_tx names y y' (44 ∷ mark_then m (41 ∷ u)) (44 ∷ mark_then n (41 ∷ v)) f.1 g.1 refl refl (ap (drop 1) a.1) in
       let c = dense_number m n (41 ∷ u) (41 ∷ v) f.2 g.2 refl refl (ap (drop 2) b.1) in
       (λ i. Branch (o.0 i) (a.0 i) (b.0 i) (c.0 i), ap (drop 1) c.1)

@@ -18,7 +18,8 @@ module _ (names : List (List ℕ)) where
   abbrev behind : Instr → List ℕ → List ℕ
   behind one rest = told names (codes "  # defines") (defs_of one) ++ (told names (codes "  # uses") (uses_of one) ++ (10 ∷ rest))
 
-  operands_end : (word rest : List ℕ) (operands : List Opnd) → ends (32 ∷ word) ≡ true → ends rest ≡ true → ends (told names (32 ∷ word) operands ++ rest) ≡ true
+  operands_end : (word rest : List ℕ) (operands : List Opnd) → ends (32 ∷ word) ≡ true → ends rest ≡ true →
+      ends (told names (32 ∷ word) operands ++ rest) ≡ true
   operands_end word rest [] f h = h
   operands_end word rest (x ∷ operands) f h = refl
 
@@ -27,7 +28,8 @@ module _ (names : List (List ℕ)) where
       operands_end (codes " # defines") (told names (codes "  # uses") (uses_of one) ++ (10 ∷ rest)) (defs_of one) refl
       (operands_end (codes " # uses") (10 ∷ rest) (uses_of one) refl refl)
 
-  line_then : (one : Instr) (rest : List ℕ) → instruction_line names one ++ rest ≡ blanks (instruction_margin one) ++ (instruction_text names one ++ behind one rest)
+  line_then : (one : Instr) (rest : List ℕ) →
+      instruction_line names one ++ rest ≡ blanks (instruction_margin one) ++ (instruction_text names one ++ behind one rest)
   line_then one rest =
       let defines = told names (codes "  # defines") (defs_of one) in
       let uses = told names (codes "  # uses") (uses_of one) in
@@ -40,14 +42,19 @@ module _ (names : List (List ℕ)) where
   told_list [] [] f g h = refl
   told_list [] (one ∷ rest) f g h =
       let w = instruction_text names one ++ behind one (instruction_lines names rest) in
-      absurd (differ (byte 0 (blanks (instruction_margin one) ++ w)) 0 (begins_some names one w g.0) (sym (ap (byte 0) (h ∙ line_then one (instruction_lines names rest)))))
+      absurd
+      (differ (byte 0 (blanks (instruction_margin one) ++ w)) 0 (begins_some names one w g.0)
+      (sym (ap (byte 0) (h ∙ line_then one (instruction_lines names rest)))))
   told_list (one ∷ rest) [] f g h =
       let w = instruction_text names one ++ behind one (instruction_lines names rest) in
-      absurd (differ (byte 0 (blanks (instruction_margin one) ++ w)) 0 (begins_some names one w f.0) (ap (byte 0) (sym (line_then one (instruction_lines names rest)) ∙ h)))
+      absurd
+      (differ (byte 0 (blanks (instruction_margin one) ++ w)) 0 (begins_some names one w f.0)
+      (ap (byte 0) (sym (line_then one (instruction_lines names rest)) ∙ h)))
   told_list (one ∷ rest) (other ∷ others) f g h =
       let u = instruction_lines names rest in
       let v = instruction_lines names others in
-      let a = told_one names one other (behind one u) (behind other v) f.0 g.0 (behind_ends one u) (behind_ends other v) (sym (line_then one u) ∙ h ∙ line_then other v) in
+      let a = told_one names one other (behind one u) (behind other v) f.0 g.0 (behind_ends one u) (behind_ends other v)
+          (sym (line_then one u) ∙ h ∙ line_then other v) in
       let same : behind other u ≡ behind other v = ap (λ i. behind i u) (sym a.0) ∙ a.1 in
       let defines = append_cancel_left (told names (codes "  # defines") (defs_of other))
           (told names (codes "  # uses") (uses_of other) ++ (10 ∷ u)) (told names (codes "  # uses") (uses_of other) ++ (10 ∷ v)) same in

@@ -5,7 +5,8 @@ use Rattle.std.proofs.lemmas.Bool.{eqb-true}
 use Rattle.std.proofs.lemmas.List.{append-nil}
 use Rattle.tg_show.specs.declared.modes.Mode.{Mode}
 use Rattle.tg_show.specs.declared.modes.Mode.TheVariants.{Kept, Broken, Between}
-use Rattle.tg_show.specs.Layout.{deeper, ends_at, kept, measured, mode_of, blanks, new_line, written, next_depth, after_broken, next_mode, laid_from, laid}
+use Rattle.tg_show.specs.Layout.{deeper, ends_at, kept, measured, mode_of, blanks, new_line}
+use Rattle.tg_show.specs.Layout.{written, next_depth, after_broken, next_mode, laid_from, laid}
 
 abbrev pub is_blank : ℕ → Bool
 is_blank c = c == 32 || c == 10
@@ -18,7 +19,8 @@ pub solid_append : (a b : List ℕ) → solid (a ++ b) ≡ solid a ++ solid b
 solid_append [] b = refl
 solid_append (c ∷ rest) b = by (is_blank c) (solid_append rest b)
   where
-    by : (q : Bool) → solid (rest ++ b) ≡ solid rest ++ solid b → (if q then solid (rest ++ b) else c ∷ solid (rest ++ b)) ≡ (if q then solid rest else c ∷ solid rest) ++ solid b
+    by : (q : Bool) → solid (rest ++ b) ≡ solid rest ++ solid b →
+        (if q then solid (rest ++ b) else c ∷ solid (rest ++ b)) ≡ (if q then solid rest else c ∷ solid rest) ++ solid b
     by true ih = ih
     by false ih = ap (λ x. c ∷ x) ih
 
@@ -106,8 +108,9 @@ solid_from depth Broken (c ∷ rest) h r =
     solid_from (deeper depth c) (after_broken c rest) rest (and_true (if c == 44 then blank_first rest else true) (spaced rest) h).1 (broken_ready c rest h))
 solid_from depth Between (c ∷ rest) h r =
     let ih = solid_from depth (mode_of rest) rest (and_true (if c == 44 then blank_first rest else true) (spaced rest) h).1 (measured_ready 0 0 rest rest) in
-    let line = solid_append (new_line depth) (laid_from depth (mode_of rest) rest) ∙ ap (λ x. x ++ solid (laid_from depth (mode_of rest) rest)) (solid_line depth) in
-    subst (λ k. solid (new_line depth ++ laid_from depth (mode_of rest) rest) ≡ solid (k ∷ rest)) (sym (eqb-true c 32 r)) (line ∙ ih)
+    let next = laid_from depth (mode_of rest) rest in
+    let line = solid_append (new_line depth) next ∙ ap (λ x. x ++ solid next) (solid_line depth) in
+    subst (λ k. solid (new_line depth ++ next) ≡ solid (k ∷ rest)) (sym (eqb-true c 32 r)) (line ∙ ih)
 
 -- A text in which each comma has a blank behind it is laid as the same bytes but for blanks and ends of lines.
 pub solid_laid : (margin : ℕ) (text rest : List ℕ) → spaced text ≡ true → solid (laid margin text ++ rest) ≡ solid text ++ solid rest

@@ -146,9 +146,13 @@ module _ (names : List (List ℕ)) where
         stms_then names is_first ss (41 ∷ u) ≡ stms_then names is_first ts (41 ∷ v) → (ss ≡ ts) × (u ≡ v)
     told_stms is_first no_stms no_stms u v f g h = (refl, ap (drop 1) h)
     told_stms true no_stms (stm t ts) u v f g h =
-        absurd (differ (byte 0 (ts_then names t (stms_then names false ts (41 ∷ v)))) 41 (begins t (stms_then names false ts (41 ∷ v))).unclosed (sym (ap (byte 0) h)))
+        absurd
+        (differ (byte 0 (ts_then names t (stms_then names false ts (41 ∷ v)))) 41
+        (begins t (stms_then names false ts (41 ∷ v))).unclosed (sym (ap (byte 0) h)))
     told_stms true (stm s ss) no_stms u v f g h =
-        absurd (differ (byte 0 (ts_then names s (stms_then names false ss (41 ∷ u)))) 41 (begins s (stms_then names false ss (41 ∷ u))).unclosed (ap (byte 0) h))
+        absurd
+        (differ (byte 0 (ts_then names s (stms_then names false ss (41 ∷ u)))) 41
+        (begins s (stms_then names false ss (41 ∷ u))).unclosed (ap (byte 0) h))
     told_stms false no_stms (stm t ts) u v f g h = absurd (differ 41 44 refl (ap (byte 0) h))
     told_stms false (stm s ss) no_stms u v f g h = absurd (differ 44 41 refl (ap (byte 0) h))
     told_stms true (stm s ss) (stm t ts) u v f g h =

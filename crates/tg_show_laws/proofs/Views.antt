@@ -7,8 +7,10 @@ use Rattle.tg_show.specs.Words.{rel_word}
 use Rattle.tg_instr.specs.declared.operands.Opnd.{Opnd}
 use Rattle.tg_instr.specs.declared.instr.Test.{Test}
 use Rattle.tg_instr.specs.declared.instr.Instr.{Instr}
-use Rattle.tg_instr.specs.declared.instr.Instr.TheVariants.{Sll, Srl, Sra, Mfhi, Mflo, Mult, Div, Add, Sub, Addu, Subu, And, Or, Xor, Nor, Slt, Sltu, Addi, Addiu, Slti, Sltiu}
-use Rattle.tg_instr.specs.declared.instr.Instr.TheVariants.{Andi, Ori, Xori, Lui, Lb, Lbu, Lw, Sb, Sw, Move, FrameLoad, FrameStore, FrameAddress, Address, Mark, Jump}
+use Rattle.tg_instr.specs.declared.instr.Instr.TheVariants.{Sll, Srl, Sra, Mfhi, Mflo, Mult, Div, Add, Sub, Addu, Subu}
+use Rattle.tg_instr.specs.declared.instr.Instr.TheVariants.{And, Or, Xor, Nor, Slt, Sltu, Addi, Addiu, Slti, Sltiu}
+use Rattle.tg_instr.specs.declared.instr.Instr.TheVariants.{Andi, Ori, Xori, Lui, Lb, Lbu, Lw, Sb}
+use Rattle.tg_instr.specs.declared.instr.Instr.TheVariants.{Sw, Move, FrameLoad, FrameStore, FrameAddress, Address, Mark, Jump}
 use Rattle.tg_instr.specs.declared.instr.Instr.TheVariants.{Branch, Call, Service, Fault, Return}
 use Rattle.tg_show.specs.Layout.{blanks}
 use Rattle.tg_show.specs.Trees.{two, three}
@@ -17,7 +19,8 @@ use Rattle.tg_show.specs.Instructions.{operand_text, signed_text, instruction_ma
 use Rattle.tg_show_laws.specs.Fields.{FieldsFit}
 use Rattle.tg_show_laws.proofs.Numbers.{ends}
 use Rattle.tg_show_laws.proofs.Trees.{byte, differ}
-use Rattle.tg_show_laws.proofs.Written.{place, Written, Three, AndNumber, AndSigned, WithMemory, Two, One, WithSlot, Upper, Literal, Here, Goes, Tests, Number, Nothing}
+use Rattle.tg_show_laws.proofs.Written.{place, Written, Three, AndNumber, AndSigned, WithMemory, Two, One}
+use Rattle.tg_show_laws.proofs.Written.{WithSlot, Upper, Literal, Here, Goes, Tests, Number, Nothing}
 use Rattle.tg_show_laws.proofs.Written.{WrittenFits, form, written_then, told_written}
 
 -- the words that instructions begin with
@@ -31,10 +34,13 @@ words =
 
 -- and the form of what stands behind each
 abbrev forms : List ℕ
-forms = 0 ∷ 0 ∷ 0 ∷ 0 ∷ 0 ∷ 0 ∷ 0 ∷ 0 ∷ 0 ∷ 0 ∷ 1 ∷ 1 ∷ 1 ∷ 1 ∷ 1 ∷ 1 ∷ 2 ∷ 2 ∷ 2 ∷ 2 ∷ 3 ∷ 3 ∷ 3 ∷ 3 ∷ 3 ∷ 4 ∷ 4 ∷ 4 ∷ 5 ∷ 5 ∷ 5 ∷ 6 ∷ 6 ∷ 7 ∷ 8 ∷ 9 ∷ 10 ∷ 11 ∷ 12 ∷ 12 ∷ 13 ∷ 13 ∷ []
+forms =
+    0 ∷ 0 ∷ 0 ∷ 0 ∷ 0 ∷ 0 ∷ 0 ∷ 0 ∷ 0 ∷ 0 ∷ 1 ∷ 1 ∷ 1 ∷ 1 ∷ 1 ∷ 1 ∷ 2 ∷ 2 ∷ 2 ∷ 2 ∷ 3 ∷ 3 ∷ 3 ∷ 3 ∷ 3 ∷ 4 ∷ 4 ∷ 4 ∷ 5 ∷ 5 ∷ 5 ∷
+    6 ∷ 6 ∷ 7 ∷ 8 ∷ 9 ∷ 10 ∷ 11 ∷ 12 ∷ 12 ∷ 13 ∷ 13 ∷ []
 
 abbrev made : (word : ℕ) → Written → Instr
-made k (Three x y z) = get_or (Add x y z ∷ Sub x y z ∷ Addu x y z ∷ Subu x y z ∷ And x y z ∷ Or x y z ∷ Xor x y z ∷ Nor x y z ∷ Slt x y z ∷ Sltu x y z ∷ []) (k - 0) Return
+made k (Three x y z) =
+    get_or (Add x y z ∷ Sub x y z ∷ Addu x y z ∷ Subu x y z ∷ And x y z ∷ Or x y z ∷ Xor x y z ∷ Nor x y z ∷ Slt x y z ∷ Sltu x y z ∷ []) k Return
 made k (AndNumber x y n) = get_or (Sll x y n ∷ Srl x y n ∷ Sra x y n ∷ Andi x y n ∷ Ori x y n ∷ Xori x y n ∷ []) (k - 10) Return
 made k (AndSigned x y n) = get_or (Addi x y n ∷ Addiu x y n ∷ Slti x y n ∷ Sltiu x y n ∷ []) (k - 16) Return
 made k (WithMemory x n y) = get_or (Lb x n y ∷ Lbu x n y ∷ Lw x n y ∷ Sb x n y ∷ Sw x n y ∷ []) (k - 20) Return
@@ -192,8 +198,11 @@ module _ (names : List (List ℕ)) where
     word = 36; parts = Goes m; formed = refl; said = λ u. refl;
     read = λ u. refl; stripped = λ u. refl; some = λ u. refl; is = refl; fits = f }
   view (Branch test m) f = record {
-    word = 37; parts = Tests test m; formed = refl; said = λ u. ap (λ r. codes "branch " ++ r) (append_assoc (rel_word test.rel) (codes " " ++ three (o test.left) (o test.right) (mark_text m)) u
-          ∙ ap (λ r. rel_word test.rel ++ (32 ∷ r)) (three_then (o test.left) (o test.right) (mark_text m) u));
+    word = 37; parts = Tests test m; formed = refl;
+    said = λ u.
+        ap (λ r. codes "branch " ++ r)
+        (append_assoc (rel_word test.rel) (codes " " ++ three (o test.left) (o test.right) (mark_text m)) u
+        ∙ ap (λ r. rel_word test.rel ++ (32 ∷ r)) (three_then (o test.left) (o test.right) (mark_text m) u));
     read = λ u. refl; stripped = λ u. refl; some = λ u. refl; is = refl; fits = f }
   view (Call label) f = record {
     word = 38; parts = Number label.0; formed = refl; said = λ u. refl;

@@ -1,5 +1,6 @@
 -- What stands behind an instruction's word: operands and numbers in one of a few forms, which tells them.
-use Rattle.std.proofs.Common.{ℕ, zero, suc, ◌-◌, ◌<◌, ◌^◌, ◌≡◌, List, [], ◌∷◌, ◌++◌, drop, Bool, true, false, refl, sym, ap, subst, ◌∙◌, arith, append_assoc}
+use Rattle.std.proofs.Common.{ℕ, zero, suc, ◌-◌, ◌<◌, ◌^◌, ◌≡◌, List, [], ◌∷◌, ◌++◌}
+use Rattle.std.proofs.Common.{drop, Bool, true, false, refl, sym, ap, subst, ◌∙◌, arith, append_assoc}
 use Rattle.std.specs.Prelude.{◌==◌, ◌&&◌, nat_lt, if◌then◌else◌, codes, slice_index_or}
 use Rattle.std.specs.Fmt.{decimal}
 use Rattle.std.proofs.Math.Bool.{Bool-set}
@@ -158,8 +159,9 @@ module _ (names : List (List ℕ)) where
 
   told_operand : (x y : Opnd) (u v : List ℕ) → OperandFits x → OperandFits y → ends u ≡ true → ends v ≡ true → o x ++ u ≡ o y ++ v → (x ≡ y) × (u ≡ v)
   told_operand (Temp s) (Temp t) u v f g e k h =
-      let n = temp_told (λ j. name_text (slice_index_or names j [])) (λ j w. name_ends (slice_index_or names j []) w) s.0 t.0 u v f g e k
-          (sym (append_assoc (decimal s.0) (name_text (slice_index_or names s.0 [])) u) ∙ ap (drop 1) h ∙ append_assoc (decimal t.0) (name_text (slice_index_or names t.0 [])) v) in
+      let name = λ (j : ℕ). name_text (slice_index_or names j []) in
+      let n = temp_told name (λ j w. name_ends (slice_index_or names j []) w) s.0 t.0 u v f g e k
+          (sym (append_assoc (decimal s.0) (name s.0) u) ∙ ap (drop 1) h ∙ append_assoc (decimal t.0) (name t.0) v) in
       (ap (λ j. Temp (record { 0 = j })) n.0, n.1)
   told_operand (Temp s) (Reg r) u v f g e k h = absurd (differ 116 36 refl (ap (byte 0) h ∙ register_dollar r v g))
   told_operand (Reg r) (Temp t) u v f g e k h = absurd (differ 36 116 refl (sym (register_dollar r u f) ∙ ap (byte 0) h))
@@ -213,9 +215,11 @@ module _ (names : List (List ℕ)) where
       let a = number_told m n u v f g e k (ap (drop 1) h) in
       (ap Goes a.0, a.1)
   told_written (Tests s m) (Tests s' n) u v t f g e k h =
-      let r = rel_told_blank s.rel s'.rel (o s.left ++ comma (o s.right ++ comma (46 ∷ (decimal m ++ u)))) (o s'.left ++ comma (o s'.right ++ comma (46 ∷ (decimal n ++ v)))) h in
-      let a = told_operand s.left s'.left (comma (o s.right ++ comma (46 ∷ (decimal m ++ u)))) (comma (o s'.right ++ comma (46 ∷ (decimal n ++ v)))) f.0 g.0 refl refl r.1 in
-      let b = told_operand s.right s'.right (comma (46 ∷ (decimal m ++ u))) (comma (46 ∷ (decimal n ++ v))) f.1 g.1 refl refl (ap (drop 2) a.1) in
+      let mark = comma (46 ∷ (decimal m ++ u)) in
+      let other = comma (46 ∷ (decimal n ++ v)) in
+      let r = rel_told_blank s.rel s'.rel (o s.left ++ comma (o s.right ++ mark)) (o s'.left ++ comma (o s'.right ++ other)) h in
+      let a = told_operand s.left s'.left (comma (o s.right ++ mark)) (comma (o s'.right ++ other)) f.0 g.0 refl refl r.1 in
+      let b = told_operand s.right s'.right mark other f.1 g.1 refl refl (ap (drop 2) a.1) in
       let c = number_told m n u v f.2 g.2 e k (ap (drop 3) b.1) in
       let test = same_test s s' r.0 a.0 b.0 in
       (λ i. Tests (test i) (c.0 i), c.1)
