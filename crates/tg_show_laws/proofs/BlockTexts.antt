@@ -102,7 +102,7 @@ module _ (names : List (List ℕ)) (plain : HaveNoCommas names) where
       absurd (differ (letter (byte 0 v)) 0 k.other (ap (λ w. letter (byte 0 w)) (sym h) ∙ flat_letter names plain a (statements_then names plain ss u) s.0))
   told_body (stm a ss) (stm b ts) u v f g s t e k h =
       let o = told_ts names a b (statements_then names plain ss u) (statements_then names plain ts v) f.0 g.0
-          (statements_end ss u e.ended) (statements_end ts v k.ended) h in
+      (statements_end ss u e.ended) (statements_end ts v k.ended) h in
       let r = told_body ss ts u v f.1 g.1 s.1 t.1 e k o.1 in
       (λ i. stm (o.0 i) (r.0 i), r.1)
 
@@ -142,10 +142,10 @@ module _ (names : List (List ℕ)) (plain : HaveNoCommas names) where
       let e = end_follows b.end (blocks_then (suc place) rest) in
       let k = end_follows c.end (blocks_then (suc place) others) in
       let n = dense_number place place (statements_then names plain b.body u) (statements_then names plain c.body v) f.0 g.0
-          (statements_end b.body u e.ended) (statements_end c.body v k.ended) (ap (drop 6) h) in
+      (statements_end b.body u e.ended) (statements_end c.body v k.ended) (ap (drop 6) h) in
       let body = told_body b.body c.body u v f.1 g.1 s.0.0 t.0.0 e k n.1 in
       let last = told_end b.end c.end (blocks_then (suc place) rest) (blocks_then (suc place) others) f.2 g.2
-          (blocks_end (suc place) rest) (blocks_end (suc place) others) body.1 in
+      (blocks_end (suc place) rest) (blocks_end (suc place) others) body.1 in
       let more = told_blocks (suc place) rest others f.3 g.3 s.1 t.1 last.1 in
       let one : b ≡ c = (λ i. record { body = body.0 i; end = last.0 i }) in
       (λ i. one i ∷ more i)

@@ -132,10 +132,10 @@ module _ (names : List (List ℕ)) (plain : HaveNoCommas names) where
   told_element (Jump m) (Jump n) u v f g e k h = let a = dense_number m n u v f g e k (ap (drop 5) h) in (ap Jump a.0, a.1)
   told_element (Branch r x y m) (Branch r' x' y' n) u v f g e k h =
       let o = rel_told r r' (tx_then names x (44 ∷ tx_then names y (44 ∷ mark_then m (41 ∷ u))))
-          (tx_then names x' (44 ∷ tx_then names y' (44 ∷ mark_then n (41 ∷ v))))
-          (ap (drop 6) h) in
+      (tx_then names x' (44 ∷ tx_then names y' (44 ∷ mark_then n (41 ∷ v))))
+      (ap (drop 6) h) in
       let a = told_tx names x x' (44 ∷ tx_then names y (44 ∷ mark_then m (41 ∷ u))) (44 ∷ tx_then names y' (44 ∷ mark_then n (41 ∷ v)))
-          f.0 g.0 refl refl o.1 in
+      f.0 g.0 refl refl o.1 in
       let b = told_tx names y y' (44 ∷ mark_then m (41 ∷ u)) (44 ∷ mark_then n (41 ∷ v)) f.1 g.1 refl refl (ap (drop 1) a.1) in
       let c = dense_number m n (41 ∷ u) (41 ∷ v) f.2 g.2 refl refl (ap (drop 2) b.1) in
       (λ i. Branch (o.0 i) (a.0 i) (b.0 i) (c.0 i), ap (drop 1) c.1)

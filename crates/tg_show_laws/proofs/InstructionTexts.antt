@@ -54,10 +54,10 @@ module _ (names : List (List ℕ)) where
       let u = instruction_lines names rest in
       let v = instruction_lines names others in
       let a = told_one names one other (behind one u) (behind other v) f.0 g.0 (behind_ends one u) (behind_ends other v)
-          (sym (line_then one u) ∙ h ∙ line_then other v) in
+      (sym (line_then one u) ∙ h ∙ line_then other v) in
       let same : behind other u ≡ behind other v = ap (λ i. behind i u) (sym a.0) ∙ a.1 in
       let defines = append_cancel_left (told names (codes "  # defines") (defs_of other))
-          (told names (codes "  # uses") (uses_of other) ++ (10 ∷ u)) (told names (codes "  # uses") (uses_of other) ++ (10 ∷ v)) same in
+      (told names (codes "  # uses") (uses_of other) ++ (10 ∷ u)) (told names (codes "  # uses") (uses_of other) ++ (10 ∷ v)) same in
       let uses = append_cancel_left (told names (codes "  # uses") (uses_of other)) (10 ∷ u) (10 ∷ v) defines in
       let b = told_list rest others f.1 g.1 (ap (drop 1) uses) in
       (λ i. a.0 i ∷ b i)

@@ -44,9 +44,10 @@ pub number_told : (m n : ℕ) (u v : List ℕ) → IsWord m → IsWord n → end
 number_told m n u v p q e f h =
     let a = (decimal_is_IsNumeral m (omega (arith, p))).0.1 in
     let b = (decimal_is_IsNumeral n (omega (arith, q))).0.1 in
-    let same : decimal m ≡ decimal n = sym (front_of (decimal m) u a e) ∙ ap digits_front h ∙ front_of (decimal n) v b f in
-    (decimal_injective m n (omega (arith, p)) (omega (arith, q)) same,
-    append_cancel_left (decimal n) u v (ap (λ x. x ++ u) (sym same) ∙ h))
+    let same : decimal m ≡ decimal n = sym (front_of (decimal m) u a e) ∙ ap digits_front h ∙ front_of (decimal n) v b f in (
+      decimal_injective m n (omega (arith, p)) (omega (arith, q)) same,
+      append_cancel_left (decimal n) u v (ap (λ x. x ++ u) (sym same) ∙ h),
+    )
 
 pub no_sign : (m : ℕ) (u rest : List ℕ) → IsWord m → ends u ≡ true → decimal m ++ u ≡ 45 ∷ rest → ⊥
 no_sign m u rest p e h =

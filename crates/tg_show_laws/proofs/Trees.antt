@@ -128,7 +128,7 @@ module _ (names : List (List ℕ)) where
         let a = told_tx x x' (41 ∷ u) (41 ∷ v) f g refl refl (ap (drop 4) h) in (ap Do a.0, ap (drop 1) a.1)
     told_ts (If c s t) (If c' s' t') u v f g e k h =
         let o = told_cond c c' (44 ∷ ts_then names s (44 ∷ ts_then names t (41 ∷ u))) (44 ∷ ts_then names s' (44 ∷ ts_then names t' (41 ∷ v)))
-            f.0 g.0 refl refl (ap (drop 3) h) in
+        f.0 g.0 refl refl (ap (drop 3) h) in
         let a = told_ts s s' (44 ∷ ts_then names t (41 ∷ u)) (44 ∷ ts_then names t' (41 ∷ v)) f.1 g.1 refl refl (ap (drop 1) o.1) in
         let b = told_ts t t' (41 ∷ u) (41 ∷ v) f.2 g.2 refl refl (ap (drop 1) a.1) in
         (λ i. If (o.0 i) (a.0 i) (b.0 i), ap (drop 1) b.1)

@@ -87,135 +87,470 @@ module _ (names : List (List ℕ)) where
 
   view : (one : Instr) → FieldsFit one → Viewed one
   view (Sll x y n) f = record {
-    word = 10; parts = AndNumber x y n; formed = refl; said = λ u. ap (λ r. codes "sll " ++ r) (three_then (o x) (o y) (decimal n) u);
-    read = λ u. refl; stripped = λ u. refl; some = λ u. refl; is = refl; fits = f }
+    word = 10;
+    parts = AndNumber x y n;
+    formed = refl;
+    said = λ u. ap (λ r. codes "sll " ++ r) (three_then (o x) (o y) (decimal n) u);
+    read = λ u. refl;
+    stripped = λ u. refl;
+    some = λ u. refl;
+    is = refl;
+    fits = f;
+  }
   view (Srl x y n) f = record {
-    word = 11; parts = AndNumber x y n; formed = refl; said = λ u. ap (λ r. codes "srl " ++ r) (three_then (o x) (o y) (decimal n) u);
-    read = λ u. refl; stripped = λ u. refl; some = λ u. refl; is = refl; fits = f }
+    word = 11;
+    parts = AndNumber x y n;
+    formed = refl;
+    said = λ u. ap (λ r. codes "srl " ++ r) (three_then (o x) (o y) (decimal n) u);
+    read = λ u. refl;
+    stripped = λ u. refl;
+    some = λ u. refl;
+    is = refl;
+    fits = f;
+  }
   view (Sra x y n) f = record {
-    word = 12; parts = AndNumber x y n; formed = refl; said = λ u. ap (λ r. codes "sra " ++ r) (three_then (o x) (o y) (decimal n) u);
-    read = λ u. refl; stripped = λ u. refl; some = λ u. refl; is = refl; fits = f }
+    word = 12;
+    parts = AndNumber x y n;
+    formed = refl;
+    said = λ u. ap (λ r. codes "sra " ++ r) (three_then (o x) (o y) (decimal n) u);
+    read = λ u. refl;
+    stripped = λ u. refl;
+    some = λ u. refl;
+    is = refl;
+    fits = f;
+  }
   view (Mfhi x) f = record {
-    word = 28; parts = One x; formed = refl; said = λ u. refl;
-    read = λ u. refl; stripped = λ u. refl; some = λ u. refl; is = refl; fits = f }
+    word = 28;
+    parts = One x;
+    formed = refl;
+    said = λ u. refl;
+    read = λ u. refl;
+    stripped = λ u. refl;
+    some = λ u. refl;
+    is = refl;
+    fits = f;
+  }
   view (Mflo x) f = record {
-    word = 29; parts = One x; formed = refl; said = λ u. refl;
-    read = λ u. refl; stripped = λ u. refl; some = λ u. refl; is = refl; fits = f }
+    word = 29;
+    parts = One x;
+    formed = refl;
+    said = λ u. refl;
+    read = λ u. refl;
+    stripped = λ u. refl;
+    some = λ u. refl;
+    is = refl;
+    fits = f;
+  }
   view (Mult x y) f = record {
-    word = 25; parts = Two x y; formed = refl; said = λ u. ap (λ r. codes "mult " ++ r) (two_then (o x) (o y) u);
-    read = λ u. refl; stripped = λ u. refl; some = λ u. refl; is = refl; fits = f }
+    word = 25;
+    parts = Two x y;
+    formed = refl;
+    said = λ u. ap (λ r. codes "mult " ++ r) (two_then (o x) (o y) u);
+    read = λ u. refl;
+    stripped = λ u. refl;
+    some = λ u. refl;
+    is = refl;
+    fits = f;
+  }
   view (Div x y) f = record {
-    word = 26; parts = Two x y; formed = refl; said = λ u. ap (λ r. codes "div " ++ r) (two_then (o x) (o y) u);
-    read = λ u. refl; stripped = λ u. refl; some = λ u. refl; is = refl; fits = f }
+    word = 26;
+    parts = Two x y;
+    formed = refl;
+    said = λ u. ap (λ r. codes "div " ++ r) (two_then (o x) (o y) u);
+    read = λ u. refl;
+    stripped = λ u. refl;
+    some = λ u. refl;
+    is = refl;
+    fits = f;
+  }
   view (Add x y z) f = record {
-    word = 0; parts = Three x y z; formed = refl; said = λ u. ap (λ r. codes "add " ++ r) (three_then (o x) (o y) (o z) u);
-    read = λ u. refl; stripped = λ u. refl; some = λ u. refl; is = refl; fits = f }
+    word = 0;
+    parts = Three x y z;
+    formed = refl;
+    said = λ u. ap (λ r. codes "add " ++ r) (three_then (o x) (o y) (o z) u);
+    read = λ u. refl;
+    stripped = λ u. refl;
+    some = λ u. refl;
+    is = refl;
+    fits = f;
+  }
   view (Sub x y z) f = record {
-    word = 1; parts = Three x y z; formed = refl; said = λ u. ap (λ r. codes "sub " ++ r) (three_then (o x) (o y) (o z) u);
-    read = λ u. refl; stripped = λ u. refl; some = λ u. refl; is = refl; fits = f }
+    word = 1;
+    parts = Three x y z;
+    formed = refl;
+    said = λ u. ap (λ r. codes "sub " ++ r) (three_then (o x) (o y) (o z) u);
+    read = λ u. refl;
+    stripped = λ u. refl;
+    some = λ u. refl;
+    is = refl;
+    fits = f;
+  }
   view (Addu x y z) f = record {
-    word = 2; parts = Three x y z; formed = refl; said = λ u. ap (λ r. codes "addu " ++ r) (three_then (o x) (o y) (o z) u);
-    read = λ u. refl; stripped = λ u. refl; some = λ u. refl; is = refl; fits = f }
+    word = 2;
+    parts = Three x y z;
+    formed = refl;
+    said = λ u. ap (λ r. codes "addu " ++ r) (three_then (o x) (o y) (o z) u);
+    read = λ u. refl;
+    stripped = λ u. refl;
+    some = λ u. refl;
+    is = refl;
+    fits = f;
+  }
   view (Subu x y z) f = record {
-    word = 3; parts = Three x y z; formed = refl; said = λ u. ap (λ r. codes "subu " ++ r) (three_then (o x) (o y) (o z) u);
-    read = λ u. refl; stripped = λ u. refl; some = λ u. refl; is = refl; fits = f }
+    word = 3;
+    parts = Three x y z;
+    formed = refl;
+    said = λ u. ap (λ r. codes "subu " ++ r) (three_then (o x) (o y) (o z) u);
+    read = λ u. refl;
+    stripped = λ u. refl;
+    some = λ u. refl;
+    is = refl;
+    fits = f;
+  }
   view (And x y z) f = record {
-    word = 4; parts = Three x y z; formed = refl; said = λ u. ap (λ r. codes "and " ++ r) (three_then (o x) (o y) (o z) u);
-    read = λ u. refl; stripped = λ u. refl; some = λ u. refl; is = refl; fits = f }
+    word = 4;
+    parts = Three x y z;
+    formed = refl;
+    said = λ u. ap (λ r. codes "and " ++ r) (three_then (o x) (o y) (o z) u);
+    read = λ u. refl;
+    stripped = λ u. refl;
+    some = λ u. refl;
+    is = refl;
+    fits = f;
+  }
   view (Or x y z) f = record {
-    word = 5; parts = Three x y z; formed = refl; said = λ u. ap (λ r. codes "or " ++ r) (three_then (o x) (o y) (o z) u);
-    read = λ u. refl; stripped = λ u. refl; some = λ u. refl; is = refl; fits = f }
+    word = 5;
+    parts = Three x y z;
+    formed = refl;
+    said = λ u. ap (λ r. codes "or " ++ r) (three_then (o x) (o y) (o z) u);
+    read = λ u. refl;
+    stripped = λ u. refl;
+    some = λ u. refl;
+    is = refl;
+    fits = f;
+  }
   view (Xor x y z) f = record {
-    word = 6; parts = Three x y z; formed = refl; said = λ u. ap (λ r. codes "xor " ++ r) (three_then (o x) (o y) (o z) u);
-    read = λ u. refl; stripped = λ u. refl; some = λ u. refl; is = refl; fits = f }
+    word = 6;
+    parts = Three x y z;
+    formed = refl;
+    said = λ u. ap (λ r. codes "xor " ++ r) (three_then (o x) (o y) (o z) u);
+    read = λ u. refl;
+    stripped = λ u. refl;
+    some = λ u. refl;
+    is = refl;
+    fits = f;
+  }
   view (Nor x y z) f = record {
-    word = 7; parts = Three x y z; formed = refl; said = λ u. ap (λ r. codes "nor " ++ r) (three_then (o x) (o y) (o z) u);
-    read = λ u. refl; stripped = λ u. refl; some = λ u. refl; is = refl; fits = f }
+    word = 7;
+    parts = Three x y z;
+    formed = refl;
+    said = λ u. ap (λ r. codes "nor " ++ r) (three_then (o x) (o y) (o z) u);
+    read = λ u. refl;
+    stripped = λ u. refl;
+    some = λ u. refl;
+    is = refl;
+    fits = f;
+  }
   view (Slt x y z) f = record {
-    word = 8; parts = Three x y z; formed = refl; said = λ u. ap (λ r. codes "slt " ++ r) (three_then (o x) (o y) (o z) u);
-    read = λ u. refl; stripped = λ u. refl; some = λ u. refl; is = refl; fits = f }
+    word = 8;
+    parts = Three x y z;
+    formed = refl;
+    said = λ u. ap (λ r. codes "slt " ++ r) (three_then (o x) (o y) (o z) u);
+    read = λ u. refl;
+    stripped = λ u. refl;
+    some = λ u. refl;
+    is = refl;
+    fits = f;
+  }
   view (Sltu x y z) f = record {
-    word = 9; parts = Three x y z; formed = refl; said = λ u. ap (λ r. codes "sltu " ++ r) (three_then (o x) (o y) (o z) u);
-    read = λ u. refl; stripped = λ u. refl; some = λ u. refl; is = refl; fits = f }
+    word = 9;
+    parts = Three x y z;
+    formed = refl;
+    said = λ u. ap (λ r. codes "sltu " ++ r) (three_then (o x) (o y) (o z) u);
+    read = λ u. refl;
+    stripped = λ u. refl;
+    some = λ u. refl;
+    is = refl;
+    fits = f;
+  }
   view (Addi x y n) f = record {
-    word = 16; parts = AndSigned x y n; formed = refl; said = λ u. ap (λ r. codes "addi " ++ r) (three_then (o x) (o y) (signed_text n) u);
-    read = λ u. refl; stripped = λ u. refl; some = λ u. refl; is = refl; fits = f }
+    word = 16;
+    parts = AndSigned x y n;
+    formed = refl;
+    said = λ u. ap (λ r. codes "addi " ++ r) (three_then (o x) (o y) (signed_text n) u);
+    read = λ u. refl;
+    stripped = λ u. refl;
+    some = λ u. refl;
+    is = refl;
+    fits = f;
+  }
   view (Addiu x y n) f = record {
-    word = 17; parts = AndSigned x y n; formed = refl; said = λ u. ap (λ r. codes "addiu " ++ r) (three_then (o x) (o y) (signed_text n) u);
-    read = λ u. refl; stripped = λ u. refl; some = λ u. refl; is = refl; fits = f }
+    word = 17;
+    parts = AndSigned x y n;
+    formed = refl;
+    said = λ u. ap (λ r. codes "addiu " ++ r) (three_then (o x) (o y) (signed_text n) u);
+    read = λ u. refl;
+    stripped = λ u. refl;
+    some = λ u. refl;
+    is = refl;
+    fits = f;
+  }
   view (Slti x y n) f = record {
-    word = 18; parts = AndSigned x y n; formed = refl; said = λ u. ap (λ r. codes "slti " ++ r) (three_then (o x) (o y) (signed_text n) u);
-    read = λ u. refl; stripped = λ u. refl; some = λ u. refl; is = refl; fits = f }
+    word = 18;
+    parts = AndSigned x y n;
+    formed = refl;
+    said = λ u. ap (λ r. codes "slti " ++ r) (three_then (o x) (o y) (signed_text n) u);
+    read = λ u. refl;
+    stripped = λ u. refl;
+    some = λ u. refl;
+    is = refl;
+    fits = f;
+  }
   view (Sltiu x y n) f = record {
-    word = 19; parts = AndSigned x y n; formed = refl; said = λ u. ap (λ r. codes "sltiu " ++ r) (three_then (o x) (o y) (signed_text n) u);
-    read = λ u. refl; stripped = λ u. refl; some = λ u. refl; is = refl; fits = f }
+    word = 19;
+    parts = AndSigned x y n;
+    formed = refl;
+    said = λ u. ap (λ r. codes "sltiu " ++ r) (three_then (o x) (o y) (signed_text n) u);
+    read = λ u. refl;
+    stripped = λ u. refl;
+    some = λ u. refl;
+    is = refl;
+    fits = f;
+  }
   view (Andi x y n) f = record {
-    word = 13; parts = AndNumber x y n; formed = refl; said = λ u. ap (λ r. codes "andi " ++ r) (three_then (o x) (o y) (decimal n) u);
-    read = λ u. refl; stripped = λ u. refl; some = λ u. refl; is = refl; fits = f }
+    word = 13;
+    parts = AndNumber x y n;
+    formed = refl;
+    said = λ u. ap (λ r. codes "andi " ++ r) (three_then (o x) (o y) (decimal n) u);
+    read = λ u. refl;
+    stripped = λ u. refl;
+    some = λ u. refl;
+    is = refl;
+    fits = f;
+  }
   view (Ori x y n) f = record {
-    word = 14; parts = AndNumber x y n; formed = refl; said = λ u. ap (λ r. codes "ori " ++ r) (three_then (o x) (o y) (decimal n) u);
-    read = λ u. refl; stripped = λ u. refl; some = λ u. refl; is = refl; fits = f }
+    word = 14;
+    parts = AndNumber x y n;
+    formed = refl;
+    said = λ u. ap (λ r. codes "ori " ++ r) (three_then (o x) (o y) (decimal n) u);
+    read = λ u. refl;
+    stripped = λ u. refl;
+    some = λ u. refl;
+    is = refl;
+    fits = f;
+  }
   view (Xori x y n) f = record {
-    word = 15; parts = AndNumber x y n; formed = refl; said = λ u. ap (λ r. codes "xori " ++ r) (three_then (o x) (o y) (decimal n) u);
-    read = λ u. refl; stripped = λ u. refl; some = λ u. refl; is = refl; fits = f }
+    word = 15;
+    parts = AndNumber x y n;
+    formed = refl;
+    said = λ u. ap (λ r. codes "xori " ++ r) (three_then (o x) (o y) (decimal n) u);
+    read = λ u. refl;
+    stripped = λ u. refl;
+    some = λ u. refl;
+    is = refl;
+    fits = f;
+  }
   view (Lui x n) f = record {
-    word = 33; parts = Upper x n; formed = refl; said = λ u. ap (λ r. codes "lui " ++ r) (two_then (o x) (decimal n) u);
-    read = λ u. refl; stripped = λ u. refl; some = λ u. refl; is = refl; fits = f }
+    word = 33;
+    parts = Upper x n;
+    formed = refl;
+    said = λ u. ap (λ r. codes "lui " ++ r) (two_then (o x) (decimal n) u);
+    read = λ u. refl;
+    stripped = λ u. refl;
+    some = λ u. refl;
+    is = refl;
+    fits = f;
+  }
   view (Lb x n y) f = record {
-    word = 20; parts = WithMemory x n y; formed = refl; said = λ u. ap (λ r. codes "lb " ++ r) (memory_then (o x) (signed_text n) (o y) u);
-    read = λ u. refl; stripped = λ u. refl; some = λ u. refl; is = refl; fits = f }
+    word = 20;
+    parts = WithMemory x n y;
+    formed = refl;
+    said = λ u. ap (λ r. codes "lb " ++ r) (memory_then (o x) (signed_text n) (o y) u);
+    read = λ u. refl;
+    stripped = λ u. refl;
+    some = λ u. refl;
+    is = refl;
+    fits = f;
+  }
   view (Lbu x n y) f = record {
-    word = 21; parts = WithMemory x n y; formed = refl; said = λ u. ap (λ r. codes "lbu " ++ r) (memory_then (o x) (signed_text n) (o y) u);
-    read = λ u. refl; stripped = λ u. refl; some = λ u. refl; is = refl; fits = f }
+    word = 21;
+    parts = WithMemory x n y;
+    formed = refl;
+    said = λ u. ap (λ r. codes "lbu " ++ r) (memory_then (o x) (signed_text n) (o y) u);
+    read = λ u. refl;
+    stripped = λ u. refl;
+    some = λ u. refl;
+    is = refl;
+    fits = f;
+  }
   view (Lw x n y) f = record {
-    word = 22; parts = WithMemory x n y; formed = refl; said = λ u. ap (λ r. codes "lw " ++ r) (memory_then (o x) (signed_text n) (o y) u);
-    read = λ u. refl; stripped = λ u. refl; some = λ u. refl; is = refl; fits = f }
+    word = 22;
+    parts = WithMemory x n y;
+    formed = refl;
+    said = λ u. ap (λ r. codes "lw " ++ r) (memory_then (o x) (signed_text n) (o y) u);
+    read = λ u. refl;
+    stripped = λ u. refl;
+    some = λ u. refl;
+    is = refl;
+    fits = f;
+  }
   view (Sb x n y) f = record {
-    word = 23; parts = WithMemory x n y; formed = refl; said = λ u. ap (λ r. codes "sb " ++ r) (memory_then (o x) (signed_text n) (o y) u);
-    read = λ u. refl; stripped = λ u. refl; some = λ u. refl; is = refl; fits = f }
+    word = 23;
+    parts = WithMemory x n y;
+    formed = refl;
+    said = λ u. ap (λ r. codes "sb " ++ r) (memory_then (o x) (signed_text n) (o y) u);
+    read = λ u. refl;
+    stripped = λ u. refl;
+    some = λ u. refl;
+    is = refl;
+    fits = f;
+  }
   view (Sw x n y) f = record {
-    word = 24; parts = WithMemory x n y; formed = refl; said = λ u. ap (λ r. codes "sw " ++ r) (memory_then (o x) (signed_text n) (o y) u);
-    read = λ u. refl; stripped = λ u. refl; some = λ u. refl; is = refl; fits = f }
+    word = 24;
+    parts = WithMemory x n y;
+    formed = refl;
+    said = λ u. ap (λ r. codes "sw " ++ r) (memory_then (o x) (signed_text n) (o y) u);
+    read = λ u. refl;
+    stripped = λ u. refl;
+    some = λ u. refl;
+    is = refl;
+    fits = f;
+  }
   view (Move x y) f = record {
-    word = 27; parts = Two x y; formed = refl; said = λ u. ap (λ r. codes "move " ++ r) (two_then (o x) (o y) u);
-    read = λ u. refl; stripped = λ u. refl; some = λ u. refl; is = refl; fits = f }
+    word = 27;
+    parts = Two x y;
+    formed = refl;
+    said = λ u. ap (λ r. codes "move " ++ r) (two_then (o x) (o y) u);
+    read = λ u. refl;
+    stripped = λ u. refl;
+    some = λ u. refl;
+    is = refl;
+    fits = f;
+  }
   view (FrameLoad x n) f = record {
-    word = 31; parts = WithSlot x n; formed = refl; said = λ u. ap (λ r. codes "load " ++ r) (two_then (o x) (codes "slot " ++ decimal n) u);
-    read = λ u. refl; stripped = λ u. refl; some = λ u. refl; is = refl; fits = f }
+    word = 31;
+    parts = WithSlot x n;
+    formed = refl;
+    said = λ u. ap (λ r. codes "load " ++ r) (two_then (o x) (codes "slot " ++ decimal n) u);
+    read = λ u. refl;
+    stripped = λ u. refl;
+    some = λ u. refl;
+    is = refl;
+    fits = f;
+  }
   view (FrameStore x n) f = record {
-    word = 32; parts = WithSlot x n; formed = refl; said = λ u. ap (λ r. codes "store " ++ r) (two_then (o x) (codes "slot " ++ decimal n) u);
-    read = λ u. refl; stripped = λ u. refl; some = λ u. refl; is = refl; fits = f }
+    word = 32;
+    parts = WithSlot x n;
+    formed = refl;
+    said = λ u. ap (λ r. codes "store " ++ r) (two_then (o x) (codes "slot " ++ decimal n) u);
+    read = λ u. refl;
+    stripped = λ u. refl;
+    some = λ u. refl;
+    is = refl;
+    fits = f;
+  }
   view (FrameAddress x) f = record {
-    word = 30; parts = One x; formed = refl; said = λ u. refl;
-    read = λ u. refl; stripped = λ u. refl; some = λ u. refl; is = refl; fits = f }
+    word = 30;
+    parts = One x;
+    formed = refl;
+    said = λ u. refl;
+    read = λ u. refl;
+    stripped = λ u. refl;
+    some = λ u. refl;
+    is = refl;
+    fits = f;
+  }
   view (Address x label) f = record {
-    word = 34; parts = Literal x label.0; formed = refl; said = λ u. ap (λ r. codes "la " ++ r) (two_then (o x) (codes "s" ++ decimal label.0) u);
-    read = λ u. refl; stripped = λ u. refl; some = λ u. refl; is = refl; fits = f }
+    word = 34;
+    parts = Literal x label.0;
+    formed = refl;
+    said = λ u. ap (λ r. codes "la " ++ r) (two_then (o x) (codes "s" ++ decimal label.0) u);
+    read = λ u. refl;
+    stripped = λ u. refl;
+    some = λ u. refl;
+    is = refl;
+    fits = f;
+  }
   view (Mark m) f = record {
-    word = 35; parts = Here m; formed = refl; said = λ u. ap (λ r. codes "." ++ r) (append_assoc (decimal m) (codes ":") u);
-    read = λ u. refl; stripped = λ u. refl; some = λ u. refl; is = refl; fits = f }
+    word = 35;
+    parts = Here m;
+    formed = refl;
+    said = λ u. ap (λ r. codes "." ++ r) (append_assoc (decimal m) (codes ":") u);
+    read = λ u. refl;
+    stripped = λ u. refl;
+    some = λ u. refl;
+    is = refl;
+    fits = f;
+  }
   view (Jump m) f = record {
-    word = 36; parts = Goes m; formed = refl; said = λ u. refl;
-    read = λ u. refl; stripped = λ u. refl; some = λ u. refl; is = refl; fits = f }
+    word = 36;
+    parts = Goes m;
+    formed = refl;
+    said = λ u. refl;
+    read = λ u. refl;
+    stripped = λ u. refl;
+    some = λ u. refl;
+    is = refl;
+    fits = f;
+  }
   view (Branch test m) f = record {
-    word = 37; parts = Tests test m; formed = refl;
+    word = 37;
+    parts = Tests test m;
+    formed = refl;
     said = λ u.
         ap (λ r. codes "branch " ++ r)
         (append_assoc (rel_word test.rel) (codes " " ++ three (o test.left) (o test.right) (mark_text m)) u
         ∙ ap (λ r. rel_word test.rel ++ (32 ∷ r)) (three_then (o test.left) (o test.right) (mark_text m) u));
-    read = λ u. refl; stripped = λ u. refl; some = λ u. refl; is = refl; fits = f }
+    read = λ u. refl;
+    stripped = λ u. refl;
+    some = λ u. refl;
+    is = refl;
+    fits = f;
+  }
   view (Call label) f = record {
-    word = 38; parts = Number label.0; formed = refl; said = λ u. refl;
-    read = λ u. refl; stripped = λ u. refl; some = λ u. refl; is = refl; fits = f }
+    word = 38;
+    parts = Number label.0;
+    formed = refl;
+    said = λ u. refl;
+    read = λ u. refl;
+    stripped = λ u. refl;
+    some = λ u. refl;
+    is = refl;
+    fits = f;
+  }
   view Service f = record {
-    word = 40; parts = Nothing; formed = refl; said = λ u. refl;
-    read = λ u. refl; stripped = λ u. refl; some = λ u. refl; is = refl; fits = f }
+    word = 40;
+    parts = Nothing;
+    formed = refl;
+    said = λ u. refl;
+    read = λ u. refl;
+    stripped = λ u. refl;
+    some = λ u. refl;
+    is = refl;
+    fits = f;
+  }
   view (Fault n) f = record {
-    word = 39; parts = Number n; formed = refl; said = λ u. refl;
-    read = λ u. refl; stripped = λ u. refl; some = λ u. refl; is = refl; fits = f }
+    word = 39;
+    parts = Number n;
+    formed = refl;
+    said = λ u. refl;
+    read = λ u. refl;
+    stripped = λ u. refl;
+    some = λ u. refl;
+    is = refl;
+    fits = f;
+  }
   view Return f = record {
-    word = 41; parts = Nothing; formed = refl; said = λ u. refl;
-    read = λ u. refl; stripped = λ u. refl; some = λ u. refl; is = refl; fits = f }
+    word = 41;
+    parts = Nothing;
+    formed = refl;
+    said = λ u. refl;
+    read = λ u. refl;
+    stripped = λ u. refl;
+    some = λ u. refl;
+    is = refl;
+    fits = f;
+  }
 
   -- Where instructions have one text, with their margins, they are the same, and so is what stands behind them.
   pub told_one : (one other : Instr) (u v : List ℕ) → FieldsFit one → FieldsFit other → ends u ≡ true → ends v ≡ true →
@@ -227,8 +562,8 @@ module _ (names : List (List ℕ)) where
       let bare : instruction_text names one ++ u ≡ instruction_text names other ++ v = sym (a.stripped u) ∙ ap strip h ∙ b.stripped v in
       let word : a.word ≡ b.word = sym (a.read u) ∙ ap (place words) bare ∙ b.read v in
       let behind : written_then names a.parts u ≡ written_then names b.parts v =
-          append_cancel_left (get_or words b.word []) (written_then names a.parts u) (written_then names b.parts v)
-          (ap (λ j. get_or words j [] ++ written_then names a.parts u) (sym word) ∙ sym (a.said u) ∙ bare ∙ b.said v) in
+      append_cancel_left (get_or words b.word []) (written_then names a.parts u) (written_then names b.parts v)
+      (ap (λ j. get_or words j [] ++ written_then names a.parts u) (sym word) ∙ sym (a.said u) ∙ bare ∙ b.said v) in
       let formed : form a.parts ≡ form b.parts = a.formed ∙ ap (λ j. get_or forms j 0) word ∙ sym b.formed in
       let parts = told_written names a.parts b.parts u v formed a.fits b.fits e k behind in
       (sym a.is ∙ (λ i. made (word i) (parts.0 i)) ∙ b.is, parts.1)

@@ -161,7 +161,7 @@ module _ (names : List (List ℕ)) where
   told_operand (Temp s) (Temp t) u v f g e k h =
       let name = λ (j : ℕ). name_text (slice_index_or names j []) in
       let n = temp_told name (λ j w. name_ends (slice_index_or names j []) w) s.0 t.0 u v f g e k
-          (sym (append_assoc (decimal s.0) (name s.0) u) ∙ ap (drop 1) h ∙ append_assoc (decimal t.0) (name t.0) v) in
+      (sym (append_assoc (decimal s.0) (name s.0) u) ∙ ap (drop 1) h ∙ append_assoc (decimal t.0) (name t.0) v) in
       (ap (λ j. Temp (record { 0 = j })) n.0, n.1)
   told_operand (Temp s) (Reg r) u v f g e k h = absurd (differ 116 36 refl (ap (byte 0) h ∙ register_dollar r v g))
   told_operand (Reg r) (Temp t) u v f g e k h = absurd (differ 36 116 refl (sym (register_dollar r u f) ∙ ap (byte 0) h))
