@@ -85,472 +85,137 @@ module _ (names : List (List ℕ)) where
     is : made word parts ≡ one
     fits : WrittenFits parts
 
+  viewed : (one : Instr) (word : ℕ) (parts : Written) → form parts ≡ get_or forms word 0 →
+      ((u : List ℕ) → instruction_text names one ++ u ≡ get_or words word [] ++ written_then names parts u) →
+      ((u : List ℕ) → place words (instruction_text names one ++ u) ≡ word) →
+      ((u : List ℕ) → strip (blanks (instruction_margin one) ++ (instruction_text names one ++ u)) ≡ instruction_text names one ++ u) →
+      ((u : List ℕ) → (byte 0 (blanks (instruction_margin one) ++ u) == 0) ≡ false) → made word parts ≡ one → WrittenFits parts → Viewed one
+  viewed one word parts formed said read stripped some is fits = record {
+    word = word;
+    parts = parts;
+    formed = formed;
+    said = said;
+    read = read;
+    stripped = stripped;
+    some = some;
+    is = is;
+    fits = fits;
+  }
+
   view : (one : Instr) → FieldsFit one → Viewed one
-  view (Sll x y n) f = record {
-    word = 10;
-    parts = AndNumber x y n;
-    formed = refl;
-    said = λ u. ap (λ r. codes "sll " ++ r) (three_then (o x) (o y) (decimal n) u);
-    read = λ u. refl;
-    stripped = λ u. refl;
-    some = λ u. refl;
-    is = refl;
-    fits = f;
-  }
-  view (Srl x y n) f = record {
-    word = 11;
-    parts = AndNumber x y n;
-    formed = refl;
-    said = λ u. ap (λ r. codes "srl " ++ r) (three_then (o x) (o y) (decimal n) u);
-    read = λ u. refl;
-    stripped = λ u. refl;
-    some = λ u. refl;
-    is = refl;
-    fits = f;
-  }
-  view (Sra x y n) f = record {
-    word = 12;
-    parts = AndNumber x y n;
-    formed = refl;
-    said = λ u. ap (λ r. codes "sra " ++ r) (three_then (o x) (o y) (decimal n) u);
-    read = λ u. refl;
-    stripped = λ u. refl;
-    some = λ u. refl;
-    is = refl;
-    fits = f;
-  }
-  view (Mfhi x) f = record {
-    word = 28;
-    parts = One x;
-    formed = refl;
-    said = λ u. refl;
-    read = λ u. refl;
-    stripped = λ u. refl;
-    some = λ u. refl;
-    is = refl;
-    fits = f;
-  }
-  view (Mflo x) f = record {
-    word = 29;
-    parts = One x;
-    formed = refl;
-    said = λ u. refl;
-    read = λ u. refl;
-    stripped = λ u. refl;
-    some = λ u. refl;
-    is = refl;
-    fits = f;
-  }
-  view (Mult x y) f = record {
-    word = 25;
-    parts = Two x y;
-    formed = refl;
-    said = λ u. ap (λ r. codes "mult " ++ r) (two_then (o x) (o y) u);
-    read = λ u. refl;
-    stripped = λ u. refl;
-    some = λ u. refl;
-    is = refl;
-    fits = f;
-  }
-  view (Div x y) f = record {
-    word = 26;
-    parts = Two x y;
-    formed = refl;
-    said = λ u. ap (λ r. codes "div " ++ r) (two_then (o x) (o y) u);
-    read = λ u. refl;
-    stripped = λ u. refl;
-    some = λ u. refl;
-    is = refl;
-    fits = f;
-  }
-  view (Add x y z) f = record {
-    word = 0;
-    parts = Three x y z;
-    formed = refl;
-    said = λ u. ap (λ r. codes "add " ++ r) (three_then (o x) (o y) (o z) u);
-    read = λ u. refl;
-    stripped = λ u. refl;
-    some = λ u. refl;
-    is = refl;
-    fits = f;
-  }
-  view (Sub x y z) f = record {
-    word = 1;
-    parts = Three x y z;
-    formed = refl;
-    said = λ u. ap (λ r. codes "sub " ++ r) (three_then (o x) (o y) (o z) u);
-    read = λ u. refl;
-    stripped = λ u. refl;
-    some = λ u. refl;
-    is = refl;
-    fits = f;
-  }
-  view (Addu x y z) f = record {
-    word = 2;
-    parts = Three x y z;
-    formed = refl;
-    said = λ u. ap (λ r. codes "addu " ++ r) (three_then (o x) (o y) (o z) u);
-    read = λ u. refl;
-    stripped = λ u. refl;
-    some = λ u. refl;
-    is = refl;
-    fits = f;
-  }
-  view (Subu x y z) f = record {
-    word = 3;
-    parts = Three x y z;
-    formed = refl;
-    said = λ u. ap (λ r. codes "subu " ++ r) (three_then (o x) (o y) (o z) u);
-    read = λ u. refl;
-    stripped = λ u. refl;
-    some = λ u. refl;
-    is = refl;
-    fits = f;
-  }
-  view (And x y z) f = record {
-    word = 4;
-    parts = Three x y z;
-    formed = refl;
-    said = λ u. ap (λ r. codes "and " ++ r) (three_then (o x) (o y) (o z) u);
-    read = λ u. refl;
-    stripped = λ u. refl;
-    some = λ u. refl;
-    is = refl;
-    fits = f;
-  }
-  view (Or x y z) f = record {
-    word = 5;
-    parts = Three x y z;
-    formed = refl;
-    said = λ u. ap (λ r. codes "or " ++ r) (three_then (o x) (o y) (o z) u);
-    read = λ u. refl;
-    stripped = λ u. refl;
-    some = λ u. refl;
-    is = refl;
-    fits = f;
-  }
-  view (Xor x y z) f = record {
-    word = 6;
-    parts = Three x y z;
-    formed = refl;
-    said = λ u. ap (λ r. codes "xor " ++ r) (three_then (o x) (o y) (o z) u);
-    read = λ u. refl;
-    stripped = λ u. refl;
-    some = λ u. refl;
-    is = refl;
-    fits = f;
-  }
-  view (Nor x y z) f = record {
-    word = 7;
-    parts = Three x y z;
-    formed = refl;
-    said = λ u. ap (λ r. codes "nor " ++ r) (three_then (o x) (o y) (o z) u);
-    read = λ u. refl;
-    stripped = λ u. refl;
-    some = λ u. refl;
-    is = refl;
-    fits = f;
-  }
-  view (Slt x y z) f = record {
-    word = 8;
-    parts = Three x y z;
-    formed = refl;
-    said = λ u. ap (λ r. codes "slt " ++ r) (three_then (o x) (o y) (o z) u);
-    read = λ u. refl;
-    stripped = λ u. refl;
-    some = λ u. refl;
-    is = refl;
-    fits = f;
-  }
-  view (Sltu x y z) f = record {
-    word = 9;
-    parts = Three x y z;
-    formed = refl;
-    said = λ u. ap (λ r. codes "sltu " ++ r) (three_then (o x) (o y) (o z) u);
-    read = λ u. refl;
-    stripped = λ u. refl;
-    some = λ u. refl;
-    is = refl;
-    fits = f;
-  }
-  view (Addi x y n) f = record {
-    word = 16;
-    parts = AndSigned x y n;
-    formed = refl;
-    said = λ u. ap (λ r. codes "addi " ++ r) (three_then (o x) (o y) (signed_text n) u);
-    read = λ u. refl;
-    stripped = λ u. refl;
-    some = λ u. refl;
-    is = refl;
-    fits = f;
-  }
-  view (Addiu x y n) f = record {
-    word = 17;
-    parts = AndSigned x y n;
-    formed = refl;
-    said = λ u. ap (λ r. codes "addiu " ++ r) (three_then (o x) (o y) (signed_text n) u);
-    read = λ u. refl;
-    stripped = λ u. refl;
-    some = λ u. refl;
-    is = refl;
-    fits = f;
-  }
-  view (Slti x y n) f = record {
-    word = 18;
-    parts = AndSigned x y n;
-    formed = refl;
-    said = λ u. ap (λ r. codes "slti " ++ r) (three_then (o x) (o y) (signed_text n) u);
-    read = λ u. refl;
-    stripped = λ u. refl;
-    some = λ u. refl;
-    is = refl;
-    fits = f;
-  }
-  view (Sltiu x y n) f = record {
-    word = 19;
-    parts = AndSigned x y n;
-    formed = refl;
-    said = λ u. ap (λ r. codes "sltiu " ++ r) (three_then (o x) (o y) (signed_text n) u);
-    read = λ u. refl;
-    stripped = λ u. refl;
-    some = λ u. refl;
-    is = refl;
-    fits = f;
-  }
-  view (Andi x y n) f = record {
-    word = 13;
-    parts = AndNumber x y n;
-    formed = refl;
-    said = λ u. ap (λ r. codes "andi " ++ r) (three_then (o x) (o y) (decimal n) u);
-    read = λ u. refl;
-    stripped = λ u. refl;
-    some = λ u. refl;
-    is = refl;
-    fits = f;
-  }
-  view (Ori x y n) f = record {
-    word = 14;
-    parts = AndNumber x y n;
-    formed = refl;
-    said = λ u. ap (λ r. codes "ori " ++ r) (three_then (o x) (o y) (decimal n) u);
-    read = λ u. refl;
-    stripped = λ u. refl;
-    some = λ u. refl;
-    is = refl;
-    fits = f;
-  }
-  view (Xori x y n) f = record {
-    word = 15;
-    parts = AndNumber x y n;
-    formed = refl;
-    said = λ u. ap (λ r. codes "xori " ++ r) (three_then (o x) (o y) (decimal n) u);
-    read = λ u. refl;
-    stripped = λ u. refl;
-    some = λ u. refl;
-    is = refl;
-    fits = f;
-  }
-  view (Lui x n) f = record {
-    word = 33;
-    parts = Upper x n;
-    formed = refl;
-    said = λ u. ap (λ r. codes "lui " ++ r) (two_then (o x) (decimal n) u);
-    read = λ u. refl;
-    stripped = λ u. refl;
-    some = λ u. refl;
-    is = refl;
-    fits = f;
-  }
-  view (Lb x n y) f = record {
-    word = 20;
-    parts = WithMemory x n y;
-    formed = refl;
-    said = λ u. ap (λ r. codes "lb " ++ r) (memory_then (o x) (signed_text n) (o y) u);
-    read = λ u. refl;
-    stripped = λ u. refl;
-    some = λ u. refl;
-    is = refl;
-    fits = f;
-  }
-  view (Lbu x n y) f = record {
-    word = 21;
-    parts = WithMemory x n y;
-    formed = refl;
-    said = λ u. ap (λ r. codes "lbu " ++ r) (memory_then (o x) (signed_text n) (o y) u);
-    read = λ u. refl;
-    stripped = λ u. refl;
-    some = λ u. refl;
-    is = refl;
-    fits = f;
-  }
-  view (Lw x n y) f = record {
-    word = 22;
-    parts = WithMemory x n y;
-    formed = refl;
-    said = λ u. ap (λ r. codes "lw " ++ r) (memory_then (o x) (signed_text n) (o y) u);
-    read = λ u. refl;
-    stripped = λ u. refl;
-    some = λ u. refl;
-    is = refl;
-    fits = f;
-  }
-  view (Sb x n y) f = record {
-    word = 23;
-    parts = WithMemory x n y;
-    formed = refl;
-    said = λ u. ap (λ r. codes "sb " ++ r) (memory_then (o x) (signed_text n) (o y) u);
-    read = λ u. refl;
-    stripped = λ u. refl;
-    some = λ u. refl;
-    is = refl;
-    fits = f;
-  }
-  view (Sw x n y) f = record {
-    word = 24;
-    parts = WithMemory x n y;
-    formed = refl;
-    said = λ u. ap (λ r. codes "sw " ++ r) (memory_then (o x) (signed_text n) (o y) u);
-    read = λ u. refl;
-    stripped = λ u. refl;
-    some = λ u. refl;
-    is = refl;
-    fits = f;
-  }
-  view (Move x y) f = record {
-    word = 27;
-    parts = Two x y;
-    formed = refl;
-    said = λ u. ap (λ r. codes "move " ++ r) (two_then (o x) (o y) u);
-    read = λ u. refl;
-    stripped = λ u. refl;
-    some = λ u. refl;
-    is = refl;
-    fits = f;
-  }
-  view (FrameLoad x n) f = record {
-    word = 31;
-    parts = WithSlot x n;
-    formed = refl;
-    said = λ u. ap (λ r. codes "load " ++ r) (two_then (o x) (codes "slot " ++ decimal n) u);
-    read = λ u. refl;
-    stripped = λ u. refl;
-    some = λ u. refl;
-    is = refl;
-    fits = f;
-  }
-  view (FrameStore x n) f = record {
-    word = 32;
-    parts = WithSlot x n;
-    formed = refl;
-    said = λ u. ap (λ r. codes "store " ++ r) (two_then (o x) (codes "slot " ++ decimal n) u);
-    read = λ u. refl;
-    stripped = λ u. refl;
-    some = λ u. refl;
-    is = refl;
-    fits = f;
-  }
-  view (FrameAddress x) f = record {
-    word = 30;
-    parts = One x;
-    formed = refl;
-    said = λ u. refl;
-    read = λ u. refl;
-    stripped = λ u. refl;
-    some = λ u. refl;
-    is = refl;
-    fits = f;
-  }
-  view (Address x label) f = record {
-    word = 34;
-    parts = Literal x label.0;
-    formed = refl;
-    said = λ u. ap (λ r. codes "la " ++ r) (two_then (o x) (codes "s" ++ decimal label.0) u);
-    read = λ u. refl;
-    stripped = λ u. refl;
-    some = λ u. refl;
-    is = refl;
-    fits = f;
-  }
-  view (Mark m) f = record {
-    word = 35;
-    parts = Here m;
-    formed = refl;
-    said = λ u. ap (λ r. codes "." ++ r) (append_assoc (decimal m) (codes ":") u);
-    read = λ u. refl;
-    stripped = λ u. refl;
-    some = λ u. refl;
-    is = refl;
-    fits = f;
-  }
-  view (Jump m) f = record {
-    word = 36;
-    parts = Goes m;
-    formed = refl;
-    said = λ u. refl;
-    read = λ u. refl;
-    stripped = λ u. refl;
-    some = λ u. refl;
-    is = refl;
-    fits = f;
-  }
-  view (Branch test m) f = record {
-    word = 37;
-    parts = Tests test m;
-    formed = refl;
-    said = λ u.
-        ap (λ r. codes "branch " ++ r)
-        (append_assoc (rel_word test.rel) (codes " " ++ three (o test.left) (o test.right) (mark_text m)) u
-        ∙ ap (λ r. rel_word test.rel ++ (32 ∷ r)) (three_then (o test.left) (o test.right) (mark_text m) u));
-    read = λ u. refl;
-    stripped = λ u. refl;
-    some = λ u. refl;
-    is = refl;
-    fits = f;
-  }
-  view (Call label) f = record {
-    word = 38;
-    parts = Number label.0;
-    formed = refl;
-    said = λ u. refl;
-    read = λ u. refl;
-    stripped = λ u. refl;
-    some = λ u. refl;
-    is = refl;
-    fits = f;
-  }
-  view Service f = record {
-    word = 40;
-    parts = Nothing;
-    formed = refl;
-    said = λ u. refl;
-    read = λ u. refl;
-    stripped = λ u. refl;
-    some = λ u. refl;
-    is = refl;
-    fits = f;
-  }
-  view (Fault n) f = record {
-    word = 39;
-    parts = Number n;
-    formed = refl;
-    said = λ u. refl;
-    read = λ u. refl;
-    stripped = λ u. refl;
-    some = λ u. refl;
-    is = refl;
-    fits = f;
-  }
-  view Return f = record {
-    word = 41;
-    parts = Nothing;
-    formed = refl;
-    said = λ u. refl;
-    read = λ u. refl;
-    stripped = λ u. refl;
-    some = λ u. refl;
-    is = refl;
-    fits = f;
-  }
+  view (Sll x y n) f =
+      viewed (Sll x y n) 10 (AndNumber x y n) refl
+      (λ u. ap (λ r. codes "sll " ++ r) (three_then (o x) (o y) (decimal n) u)) (λ u. refl) (λ u. refl) (λ u. refl) refl f
+  view (Srl x y n) f =
+      viewed (Srl x y n) 11 (AndNumber x y n) refl
+      (λ u. ap (λ r. codes "srl " ++ r) (three_then (o x) (o y) (decimal n) u)) (λ u. refl) (λ u. refl) (λ u. refl) refl f
+  view (Sra x y n) f =
+      viewed (Sra x y n) 12 (AndNumber x y n) refl
+      (λ u. ap (λ r. codes "sra " ++ r) (three_then (o x) (o y) (decimal n) u)) (λ u. refl) (λ u. refl) (λ u. refl) refl f
+  view (Mfhi x) f = viewed (Mfhi x) 28 (One x) refl (λ u. refl) (λ u. refl) (λ u. refl) (λ u. refl) refl f
+  view (Mflo x) f = viewed (Mflo x) 29 (One x) refl (λ u. refl) (λ u. refl) (λ u. refl) (λ u. refl) refl f
+  view (Mult x y) f =
+      viewed (Mult x y) 25 (Two x y) refl
+      (λ u. ap (λ r. codes "mult " ++ r) (two_then (o x) (o y) u)) (λ u. refl) (λ u. refl) (λ u. refl) refl f
+  view (Div x y) f =
+      viewed (Div x y) 26 (Two x y) refl
+      (λ u. ap (λ r. codes "div " ++ r) (two_then (o x) (o y) u)) (λ u. refl) (λ u. refl) (λ u. refl) refl f
+  view (Add x y z) f =
+      viewed (Add x y z) 0 (Three x y z) refl
+      (λ u. ap (λ r. codes "add " ++ r) (three_then (o x) (o y) (o z) u)) (λ u. refl) (λ u. refl) (λ u. refl) refl f
+  view (Sub x y z) f =
+      viewed (Sub x y z) 1 (Three x y z) refl
+      (λ u. ap (λ r. codes "sub " ++ r) (three_then (o x) (o y) (o z) u)) (λ u. refl) (λ u. refl) (λ u. refl) refl f
+  view (Addu x y z) f =
+      viewed (Addu x y z) 2 (Three x y z) refl
+      (λ u. ap (λ r. codes "addu " ++ r) (three_then (o x) (o y) (o z) u)) (λ u. refl) (λ u. refl) (λ u. refl) refl f
+  view (Subu x y z) f =
+      viewed (Subu x y z) 3 (Three x y z) refl
+      (λ u. ap (λ r. codes "subu " ++ r) (three_then (o x) (o y) (o z) u)) (λ u. refl) (λ u. refl) (λ u. refl) refl f
+  view (And x y z) f =
+      viewed (And x y z) 4 (Three x y z) refl
+      (λ u. ap (λ r. codes "and " ++ r) (three_then (o x) (o y) (o z) u)) (λ u. refl) (λ u. refl) (λ u. refl) refl f
+  view (Or x y z) f =
+      viewed (Or x y z) 5 (Three x y z) refl
+      (λ u. ap (λ r. codes "or " ++ r) (three_then (o x) (o y) (o z) u)) (λ u. refl) (λ u. refl) (λ u. refl) refl f
+  view (Xor x y z) f =
+      viewed (Xor x y z) 6 (Three x y z) refl
+      (λ u. ap (λ r. codes "xor " ++ r) (three_then (o x) (o y) (o z) u)) (λ u. refl) (λ u. refl) (λ u. refl) refl f
+  view (Nor x y z) f =
+      viewed (Nor x y z) 7 (Three x y z) refl
+      (λ u. ap (λ r. codes "nor " ++ r) (three_then (o x) (o y) (o z) u)) (λ u. refl) (λ u. refl) (λ u. refl) refl f
+  view (Slt x y z) f =
+      viewed (Slt x y z) 8 (Three x y z) refl
+      (λ u. ap (λ r. codes "slt " ++ r) (three_then (o x) (o y) (o z) u)) (λ u. refl) (λ u. refl) (λ u. refl) refl f
+  view (Sltu x y z) f =
+      viewed (Sltu x y z) 9 (Three x y z) refl
+      (λ u. ap (λ r. codes "sltu " ++ r) (three_then (o x) (o y) (o z) u)) (λ u. refl) (λ u. refl) (λ u. refl) refl f
+  view (Addi x y n) f =
+      viewed (Addi x y n) 16 (AndSigned x y n) refl
+      (λ u. ap (λ r. codes "addi " ++ r) (three_then (o x) (o y) (signed_text n) u)) (λ u. refl) (λ u. refl) (λ u. refl) refl f
+  view (Addiu x y n) f =
+      viewed (Addiu x y n) 17 (AndSigned x y n) refl
+      (λ u. ap (λ r. codes "addiu " ++ r) (three_then (o x) (o y) (signed_text n) u)) (λ u. refl) (λ u. refl) (λ u. refl) refl f
+  view (Slti x y n) f =
+      viewed (Slti x y n) 18 (AndSigned x y n) refl
+      (λ u. ap (λ r. codes "slti " ++ r) (three_then (o x) (o y) (signed_text n) u)) (λ u. refl) (λ u. refl) (λ u. refl) refl f
+  view (Sltiu x y n) f =
+      viewed (Sltiu x y n) 19 (AndSigned x y n) refl
+      (λ u. ap (λ r. codes "sltiu " ++ r) (three_then (o x) (o y) (signed_text n) u)) (λ u. refl) (λ u. refl) (λ u. refl) refl f
+  view (Andi x y n) f =
+      viewed (Andi x y n) 13 (AndNumber x y n) refl
+      (λ u. ap (λ r. codes "andi " ++ r) (three_then (o x) (o y) (decimal n) u)) (λ u. refl) (λ u. refl) (λ u. refl) refl f
+  view (Ori x y n) f =
+      viewed (Ori x y n) 14 (AndNumber x y n) refl
+      (λ u. ap (λ r. codes "ori " ++ r) (three_then (o x) (o y) (decimal n) u)) (λ u. refl) (λ u. refl) (λ u. refl) refl f
+  view (Xori x y n) f =
+      viewed (Xori x y n) 15 (AndNumber x y n) refl
+      (λ u. ap (λ r. codes "xori " ++ r) (three_then (o x) (o y) (decimal n) u)) (λ u. refl) (λ u. refl) (λ u. refl) refl f
+  view (Lui x n) f =
+      viewed (Lui x n) 33 (Upper x n) refl
+      (λ u. ap (λ r. codes "lui " ++ r) (two_then (o x) (decimal n) u)) (λ u. refl) (λ u. refl) (λ u. refl) refl f
+  view (Lb x n y) f =
+      viewed (Lb x n y) 20 (WithMemory x n y) refl
+      (λ u. ap (λ r. codes "lb " ++ r) (memory_then (o x) (signed_text n) (o y) u)) (λ u. refl) (λ u. refl) (λ u. refl) refl f
+  view (Lbu x n y) f =
+      viewed (Lbu x n y) 21 (WithMemory x n y) refl
+      (λ u. ap (λ r. codes "lbu " ++ r) (memory_then (o x) (signed_text n) (o y) u)) (λ u. refl) (λ u. refl) (λ u. refl) refl f
+  view (Lw x n y) f =
+      viewed (Lw x n y) 22 (WithMemory x n y) refl
+      (λ u. ap (λ r. codes "lw " ++ r) (memory_then (o x) (signed_text n) (o y) u)) (λ u. refl) (λ u. refl) (λ u. refl) refl f
+  view (Sb x n y) f =
+      viewed (Sb x n y) 23 (WithMemory x n y) refl
+      (λ u. ap (λ r. codes "sb " ++ r) (memory_then (o x) (signed_text n) (o y) u)) (λ u. refl) (λ u. refl) (λ u. refl) refl f
+  view (Sw x n y) f =
+      viewed (Sw x n y) 24 (WithMemory x n y) refl
+      (λ u. ap (λ r. codes "sw " ++ r) (memory_then (o x) (signed_text n) (o y) u)) (λ u. refl) (λ u. refl) (λ u. refl) refl f
+  view (Move x y) f =
+      viewed (Move x y) 27 (Two x y) refl
+      (λ u. ap (λ r. codes "move " ++ r) (two_then (o x) (o y) u)) (λ u. refl) (λ u. refl) (λ u. refl) refl f
+  view (FrameLoad x n) f =
+      viewed (FrameLoad x n) 31 (WithSlot x n) refl
+      (λ u. ap (λ r. codes "load " ++ r) (two_then (o x) (codes "slot " ++ decimal n) u)) (λ u. refl) (λ u. refl) (λ u. refl) refl f
+  view (FrameStore x n) f =
+      viewed (FrameStore x n) 32 (WithSlot x n) refl
+      (λ u. ap (λ r. codes "store " ++ r) (two_then (o x) (codes "slot " ++ decimal n) u)) (λ u. refl) (λ u. refl) (λ u. refl) refl f
+  view (FrameAddress x) f = viewed (FrameAddress x) 30 (One x) refl (λ u. refl) (λ u. refl) (λ u. refl) (λ u. refl) refl f
+  view (Address x label) f =
+      viewed (Address x label) 34 (Literal x label.0) refl
+      (λ u. ap (λ r. codes "la " ++ r) (two_then (o x) (codes "s" ++ decimal label.0) u)) (λ u. refl) (λ u. refl) (λ u. refl) refl f
+  view (Mark m) f =
+      viewed (Mark m) 35 (Here m) refl
+      (λ u. ap (λ r. codes "." ++ r) (append_assoc (decimal m) (codes ":") u)) (λ u. refl) (λ u. refl) (λ u. refl) refl f
+  view (Jump m) f = viewed (Jump m) 36 (Goes m) refl (λ u. refl) (λ u. refl) (λ u. refl) (λ u. refl) refl f
+  view (Branch test m) f =
+      viewed (Branch test m) 37 (Tests test m) refl
+      (λ u. ap (λ r. codes "branch " ++ r)
+      (append_assoc (rel_word test.rel) (codes " " ++ three (o test.left) (o test.right) (mark_text m)) u
+      ∙ ap (λ r. rel_word test.rel ++ (32 ∷ r)) (three_then (o test.left) (o test.right) (mark_text m) u)))
+      (λ u. refl) (λ u. refl) (λ u. refl) refl f
+  view (Call label) f = viewed (Call label) 38 (Number label.0) refl (λ u. refl) (λ u. refl) (λ u. refl) (λ u. refl) refl f
+  view Service f = viewed Service 40 Nothing refl (λ u. refl) (λ u. refl) (λ u. refl) (λ u. refl) refl f
+  view (Fault n) f = viewed (Fault n) 39 (Number n) refl (λ u. refl) (λ u. refl) (λ u. refl) (λ u. refl) refl f
+  view Return f = viewed Return 41 Nothing refl (λ u. refl) (λ u. refl) (λ u. refl) (λ u. refl) refl f
 
   -- Where instructions have one text, with their margins, they are the same, and so is what stands behind them.
   pub told_one : (one other : Instr) (u v : List ℕ) → FieldsFit one → FieldsFit other → ends u ≡ true → ends v ≡ true →
