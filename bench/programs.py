@@ -1,4 +1,4 @@
-"""The program that the benchmarks run, and the time that it takes."""
+"""The program that the benchmarks run, the time that it takes, and the source of the generator's program."""
 import collections
 import os
 import re
@@ -12,6 +12,18 @@ def tiger():
     """The program that TIGER names, or the one that the launcher runs, so that the launcher's start isn't timed."""
     program = os.environ.get("TIGER")
     return program or subprocess.run(["./tiger", "--program"], stdout=subprocess.PIPE, text=True, check=True).stdout.strip()
+
+
+def generated(count):
+    """The source that `tiger gen` compiles."""
+    head = 'let var s := 0\nfunction d(i: int) = print(chr(i + ord("0")))\n'
+    head += "function p(i: int) = if i > 9 then (p(i / 10); d(i - i / 10 * 10)) else d(i)\nfunction f1(a: int): int = a\n"
+    body = "".join(
+        f"function f{i}(a: int): int = let var b := a + {i} function g(c: int): int = (s := s + c; b + c)"
+        f" in g(f{i - 1}(b)) - a end\n"
+        for i in range(2, count + 1)
+    )
+    return head + body + f'in p(f{count}(0)); print("\\n"); p(s); print("\\n") end\n'
 
 
 def timed(command, output=subprocess.PIPE):

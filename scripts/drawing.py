@@ -1,10 +1,12 @@
-"""Pictures of a function by the text of `show`, as Graphviz's text. Each edge is one that the text tells."""
+"""Pictures of a function by the text of `show`, as Graphviz's text. Each edge is one that the text tells, but for those of
+the tree of dominators, which are computed from these."""
 import re
 
 from stages import one_named, show
 
 MARK = re.compile(r"\.(\d+)")
 BARS = "the bars beside the code: what is live, a column for each temporary"
+TREE = "each block under the last that dominates it; dashed: what leads back to a dominator, as a loop does"
 PALETTE = ("#fbb4ae #b3cde3 #ccebc5 #decbe4 #fed9a6 #ffffcc #e5d8bd #fddaec #b3e2cd #fdcdac #cbd5e8 #f4cae4 #e6f5c9 "
            "#fff2ae #f1e2cc #cccccc #8dd3c7 #ffffb3 #bebada #fb8072 #80b1d3 #fdb462 #b3de69 #fccde5 #bc80bd").split()
 COLOURS = "$v0 $v1 $a0 $a1 $a2 $a3 $t0 $t1 $t2 $t3 $t4 $t5 $t6 $t7 $t8 $t9 $s0 $s1 $s2 $s3 $s4 $s5 $s6 $s7 $ra".split()
@@ -88,6 +90,49 @@ def flow(function):
     yield "}"
 
 
+# The tree of dominators, by the definition: a block dominates those to which no path comes from the first block without it.
+
+def reached(leads, without=None):
+    """The blocks to which paths come from the first block, by the edges that the text tells."""
+    found, left = set(), [min(leads)]
+    while left:
+        place = left.pop()
+        if place != without and place not in found:
+            found.add(place)
+            left += leads[place]
+    return found
+
+
+def dominators(leads):
+    """The blocks that dominate each block that is reached, and itself among them."""
+    every = reached(leads)
+    found = {place: {place} for place in every}
+    for one in every:
+        for place in every - reached(leads, one):
+            found[place].add(one)
+    return found
+
+
+def parents(found):
+    """The last block to dominate each block but the first, which all its other dominators dominate."""
+    return {place: max(of_it - {place}, key=lambda one: len(found[one])) for place, of_it in found.items() if len(of_it) > 1}
+
+
+def dominator_tree(function):
+    leads = ends(function)
+    found = dominators(leads)
+    yield f'digraph "{quoted(function.head)}" {{'
+    yield f'  label="{quoted(function.head)}\\n{TREE}"; node [shape=box, fontname=monospace];'
+    for place in leads:
+        yield f'  b{place} [label=".{place}"' + ("];" if place in found else ', style=dotted];')
+    for place, parent in sorted(parents(found).items()):
+        yield f"  b{parent} -> b{place};"
+    for place in sorted(found):
+        for to in sorted(set(leads[place]) & found[place]):
+            yield f"  b{place} -> b{to} [style=dashed, constraint=false];"
+    yield "}"
+
+
 # Interference: the first round's graph, with the registers of the last round.
 
 def homes(function):
@@ -123,7 +168,7 @@ def interference(function):
     yield "}"
 
 
-PICTURES = {"flow": flow, "interference": interference}
+PICTURES = {"flow": flow, "dominators": dominator_tree, "interference": interference}
 
 
 def draw(path, name, picture):

@@ -1,0 +1,13 @@
+mod Solid
+mod Numbers
+mod OperatorWords
+mod Dense
+mod DenseNumbers
+mod Spacing
+mod Trees
+mod Codes
+mod BlockTexts
+mod Written
+mod Views
+mod InstructionTexts
+mod Examples

@@ -1,0 +1,4 @@
+pub mod Fitting
+pub mod Blocks
+pub mod Fields
+pub mod laws
