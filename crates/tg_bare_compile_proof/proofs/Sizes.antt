@@ -22,16 +22,17 @@ use Rattle.tg_canon_trace_proof.specs.Flattened.{MayBeFlattened}
 use Rattle.tg_irc_definition.specs.Policies.{Rule}
 use Rattle.tg_regalloc.specs.declared.allocations.Allocation.{Allocation}
 use Rattle.tg_regalloc.specs.Allocations.{codes_of}
+use Rattle.tg_isa.specs.declared.mips.Mips.TheVariants as row
 use Rattle.tg_emit.specs.declared.assembly.Line.{Line}
+use Rattle.tg_emit.specs.declared.assembly.Line.TheVariants.{Label, One, La, Statics}
 use Rattle.tg_emit.specs.mirror.Lines.{is_long, function_lines, functions_lines, words}
 use Rattle.tg_emit_laws.proofs.CodeLines.{words_append}
 use Rattle.tg_emit_proof.specs.laws.Emission.{lines_of}
 use Rattle.tg_code_bounds.specs.Allocating.{IsAllocationOf}
 use Rattle.tg_code_bounds.specs.Reduced.{ReducesTo}
 use Rattle.tg_code_bounds.specs.laws.Laws.{param_count, CodeIsShort, FunctionsArePaid, FunctionsAreFew}
-use Rattle.tg_delay.specs.Filling.{filled, near, delayed, turned_round}
+use Rattle.tg_delay.specs.Filling.{filled, near, delayed, opposite, branches, branches_in, around_name, turned_round}
 use Rattle.tg_bare_proof.proofs.Images.{filled_words}
-use Rattle.tg_bare_proof.proofs.TurnedImages.{turned_words}
 use Rattle.tg_compile.specs.Compiling.{findings_of, fragments_of}
 use Rattle.tg_compile.specs.laws.Prepared.{PreparedIsReduced}
 use Rattle.tg_bare_compile_proof.specs.laws.Laws.{DelayedIsShort}
@@ -87,6 +88,20 @@ routine_count = refl
 not_near : (n : ℕ) → (nat_le n 16000 || nat_lt 32000 n) ≡ false → n ≤ 32000
 not_near n h = grind (arith, nat_tests)
 
+turned_words : (lines : List Line) → words (turned_round lines) ≤ 2 * words lines
+turned_words [] = omega arith
+turned_words (Label name ∷ rest) = let h = turned_words rest in omega (arith, h)
+turned_words (La r name ∷ rest) = let h = turned_words rest in omega (arith, h)
+turned_words (Statics bytes ∷ rest) = let h = turned_words rest in omega (arith, h)
+turned_words (One one target ∷ rest) = by (branches one) (turned_words rest)
+  where
+    by : (b : Bool) → words (turned_round rest) ≤ 2 * words rest →
+        words (if b then One (opposite one) (around_name (branches_in rest)) ∷ One (row.J 0) target
+        ∷ Label (around_name (branches_in rest)) ∷ turned_round rest else One one target ∷ turned_round rest)
+        ≤ 2 * words (One one target ∷ rest)
+    by true h = omega (arith, h)
+    by false h = omega (arith, h)
+
 delayed_words : (lines : List Line) → 2 * words lines < most_words → words (delayed lines) < most_words
 delayed_words lines few = by (near lines) refl
   where
@@ -94,7 +109,7 @@ delayed_words lines few = by (near lines) refl
     by true e = let f = (filled_words lines).0 in omega (arith, f, few)
     by false e =
         let short = not_near (words lines) e in
-        let t = (turned_words lines).0 in
+        let t = turned_words lines in
         let f = (filled_words (turned_round lines)).0 in
         omega (arith, short, t, f)
 
