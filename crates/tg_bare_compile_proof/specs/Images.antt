@@ -65,8 +65,8 @@ abbrev pub slot_times : ℕ
 slot_times = 4
 
 -- Whatever the input and the sizes, the image does what the program means on this machine.
-abbrev pub DoesWhatIsMeantDelayed : (names : List (List ℕ)) → Exp → Assembled → Type 0
-DoesWhatIsMeantDelayed names program image =
+abbrev pub BareDoesWhatIsMeant : (names : List (List ℕ)) → Exp → Assembled → Type 0
+BareDoesWhatIsMeant names program image =
     (input : List ℕ) (heap stack : ℕ) → AreBytes input → AreSizes heap stack →
     RunsAsMeantWithin slot_times stack
     (λ turns. evaluate names program input heap stack turns)

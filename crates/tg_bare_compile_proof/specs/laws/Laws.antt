@@ -29,7 +29,7 @@ use Rattle.tg_compile.specs.Compiling.{Compiles}
 use Rattle.tg_correctness.specs.laws.Laws.{tree_work, tree_besides, most_work, most_besides}
 use Rattle.tg_compile_proof.specs.Forms.{Compilation, IsCompiled, registers, tree_form}
 use Rattle.tg_compile_proof.specs.laws.Laws.{compilation_of}
-use Rattle.tg_bare_compile_proof.specs.Images.{slot_times, DoesWhatIsMeantDelayed}
+use Rattle.tg_bare_compile_proof.specs.Images.{slot_times, BareDoesWhatIsMeant}
 use Rattle.tg_bare_compile_proof.specs.Builds.{MayBeDelayed, delayed_text}
 
 module _ (p : Compilation) where
@@ -93,4 +93,4 @@ BareCompileIsCorrect =
     IsAccepted program → MayBeDelayed program.body → OfWords program.body →
     (compiles : Compiles passes rule program.notes program.body allocations text) →
     (image : Assembled) × (assembled (delayed_text allocations compiles.literals) ≡ Ok image)
-    × DoesWhatIsMeantDelayed program.names program.body image
+    × BareDoesWhatIsMeant program.names program.body image

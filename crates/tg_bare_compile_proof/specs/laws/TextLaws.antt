@@ -10,7 +10,7 @@ use Rattle.tg_irc_definition.specs.Policies.{Rule as SpillRule}
 use Rattle.tg_correctness.specs.Images.{AreSizes}
 use Rattle.tg_compile.specs.declared.passes.Passes.{Passes}
 use Rattle.tg_bare_compile_proof.specs.Images.{slot_times, bare_runs_to}
-use Rattle.tg_bare_compile_proof.specs.Assemblies.{IsBareAsMeant}
+use Rattle.tg_bare_compile_proof.specs.Assemblies.{BareIsAsMeant}
 use Rattle.tg_bare_compile_proof.specs.Ends.{EndIsMeantWithin}
 use Rattle.tg_bare_compile_proof.specs.Builds.{BuildsDelayed}
 
@@ -20,13 +20,13 @@ use Rattle.tg_bare_compile_proof.specs.Builds.{BuildsDelayed}
 abbrev pub BareBuildIsCorrect : Type 0
 BareBuildIsCorrect =
     (passes : Passes) (rule : SpillRule) (text assembly : List ℕ) →
-    BuildsDelayed passes rule text assembly → IsBareAsMeant text assembly
+    BuildsDelayed passes rule text assembly → BareIsAsMeant text assembly
 
 -- So the end of a run of it, on any input and with any sizes and steps, is as the source means: of
 -- one that ended, and of one that was running when its steps were used up.
 abbrev pub BareEndedIsMeant : Type 0
 BareEndedIsMeant =
-    (text assembly : List ℕ) (m : IsBareAsMeant text assembly) (input : List ℕ)
+    (text assembly : List ℕ) (m : BareIsAsMeant text assembly) (input : List ℕ)
     (heap stack steps : ℕ) (end : RunEnd) (last : Execution) →
     AreBytes input → AreSizes heap stack →
     bare_runs_to m.image input heap stack steps ≡ Ended end last →
@@ -35,7 +35,7 @@ BareEndedIsMeant =
 
 abbrev pub BareRunningIsMeant : Type 0
 BareRunningIsMeant =
-    (text assembly : List ℕ) (m : IsBareAsMeant text assembly) (input : List ℕ)
+    (text assembly : List ℕ) (m : BareIsAsMeant text assembly) (input : List ℕ)
     (heap stack steps : ℕ) (last : Execution) →
     AreBytes input → AreSizes heap stack →
     bare_runs_to m.image input heap stack steps ≡ Running last →
