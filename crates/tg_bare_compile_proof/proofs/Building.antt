@@ -1,5 +1,5 @@
 -- What is built of a source with delay slots does what the source means: its program is accepted, and of words.
-use Rattle.std.proofs.Common.{ℕ, List, ap, ◌∙◌}
+use Rattle.std.proofs.Common.{ap, ◌∙◌}
 use Rattle.tg_asm_text.specs.Assembly.{assembled}
 use Rattle.tg_literal_bounds.specs.laws.Laws.{TreesAreOfWords}
 use Rattle.tg_compile_proof.proofs.Building.{names_within, begins_apart}

@@ -1,5 +1,5 @@
 -- The passes one after the other, over a compiled program, and its slots behind them.
-use Rattle.std.proofs.Common.{ℕ, ◌-◌, List, ap, ◌∙◌, subst}
+use Rattle.std.proofs.Common.{ℕ, ◌-◌, ap, ◌∙◌, subst}
 use Rattle.std.specs.Prelude.{All}
 use Rattle.std.proofs.lemmas.List.Elements.{All-contains}
 use Rattle.tg_machine_state.specs.State.{stack_top}
@@ -15,7 +15,6 @@ use Rattle.tg_canon_trace_proof.specs.laws.Laws.{FlattenIsCorrect}
 use Rattle.tg_canon_trace_proof.specs.Flattened.{MayBeFlattened}
 use Rattle.tg_emit.specs.mirror.Lines.{is_long}
 use Rattle.tg_emit_laws.specs.Images.{ProgramIsCode, ProgramIsSound}
-use Rattle.tg_emit_proof.specs.LinesRun.{calls}
 use Rattle.tg_emit_proof.specs.laws.Laws.{AreReturns, HasImage}
 use Rattle.tg_emit_proof.specs.laws.Emission.{FitRegions, EmissionKeepsRuns, lines_of}
 use Rattle.tg_delay_proof.specs.laws.Laws.{returns_behind_slots, DelayingKeepsCalls, SlotsAreReturns, LinesStayOver}

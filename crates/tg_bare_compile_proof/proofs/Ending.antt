@@ -15,7 +15,7 @@ use Rattle.tg_bare.specs.BareRuns as bare
 use Rattle.tg_bare.specs.BareRuns.{BareExecution, BareProgress, run_bare, proceed_bare}
 use Rattle.tg_correctness.specs.Images.{EndsAs, IsCutShort, most_steps}
 use Rattle.tg_correctness.specs.Ends.{EndsSo}
-use Rattle.tg_bare_compile_proof.specs.Images.{as_progress, bare_runs_to, RunsAsMeantWithin}
+use Rattle.tg_bare_compile_proof.specs.Images.{as_progress, RunsAsMeantWithin}
 use Rattle.tg_bare_compile_proof.specs.Ends.{EndIsMeantWithin}
 use Rattle.tg_bare_compile_proof.specs.laws.TextLaws.{BareEndedIsMeant, BareRunningIsMeant}
 

@@ -1,5 +1,5 @@
 -- Agreement by fuel is what is said of an image with delay slots.
-use Rattle.std.proofs.Common.{◌≡◌, ◌≤◌, ◌<◌, ◌+◌, ◌*◌, ℕ, List, ◌⊎◌, inl, inr, arith}
+use Rattle.std.proofs.Common.{◌≡◌, ◌≤◌, ◌<◌, ◌+◌, ◌*◌, ℕ, ◌⊎◌, inl, inr, arith}
 use Rattle.std.proofs.Common.{refl, sym, ap, ◌∙◌, subst}
 use Rattle.tg_machine_state.specs.declared.ends.RunEnd.{RunEnd}
 use Rattle.tg_machine_state.specs.declared.ends.RunEnd.TheVariants.{StackFull}
@@ -21,7 +21,7 @@ use Rattle.tg_isa.specs.ImageRuns.{IsRunOf}
 use Rattle.tg_bare.specs.Delayed.{initial_bare}
 use Rattle.tg_bare.specs.BareRuns as bare
 use Rattle.tg_bare.specs.BareRuns.{BareProgress, IsBareRunOf, BareRunsByFuel, BareEndsByItsWork, bare_run, bare_begun, run_bare}
-use Rattle.tg_correctness.specs.Images.{DoesAll, EndsAs, IsRunning, IsCutShort, most_steps, RunsAsMeant}
+use Rattle.tg_correctness.specs.Images.{DoesAll, EndsAs, IsRunning, IsCutShort, most_steps}
 use Rattle.tg_bare_compile_proof.specs.Images.{as_progress, bare_runs_to, RunsAsMeantWithin}
 use Rattle.tg_bare_compile_proof.specs.laws.Meaning.{BareAgreementIsMeant, OnceIsAsMeant}
 

@@ -12,7 +12,6 @@ use Rattle.tg_typecheck.specs.declared.faults.TypeRule.TheVariants.{T20, T21, T2
 use Rattle.tg_typecheck.specs.laws.Laws.{CheckedHasType}
 use Rattle.tg_typecheck.specs.Limits.{above, first_above}
 use Rattle.tg_tree.specs.Tree.{Ts, Function}
-use Rattle.tg_tree.specs.Sizes.{tree_length}
 use Rattle.tg_runtime.specs.mirror.Routines.{runtime}
 use Rattle.tg_runtime.specs.laws.Laws.{AreRoutines, AllAreRoutines}
 use Rattle.tg_translate.specs.mirror.Translate.{translated}

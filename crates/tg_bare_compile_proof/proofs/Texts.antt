@@ -1,8 +1,8 @@
 -- The text of lines with slots is the text of lines in the assembler's words, and so it has their image.
-use Rattle.std.proofs.Common.{ℕ, ◌≡◌, List, [], ◌∷◌, ◌++◌, map, Bool, true, false, refl, sym, ap, ◌∙◌, append_assoc, append-nil}
+use Rattle.std.proofs.Common.{ℕ, ◌≡◌, List, [], ◌∷◌, ◌++◌, map, false, refl, sym, ap, ◌∙◌, append_assoc, append-nil}
 use Rattle.std.proofs.lemmas.List.{append_cancel_left}
 use Rattle.std.proofs.lemmas.List.Elements.{recursion_from_All}
-use Rattle.std.specs.Prelude.{codes, Ok}
+use Rattle.std.specs.Prelude.{codes}
 use Rattle.tg_isa.specs.Names.{register_name}
 use Rattle.tg_asm_text.specs.declared.keywords.Segment.TheVariants.{Code}
 use Rattle.tg_asm_text.specs.Assembly.{assembled}
@@ -11,7 +11,7 @@ use Rattle.tg_asm_text.proofs.TextLines.{lines_have_image}
 use Rattle.tg_tree.specs.declared.fragments.Literal.{Literal}
 use Rattle.tg_emit.specs.declared.assembly.Line.{Line}
 use Rattle.tg_emit.specs.declared.assembly.Line.TheVariants.{Label, One, La, Statics}
-use Rattle.tg_emit.specs.mirror.Lines.{literals_lines, functions_lines, assembly_of, is_long}
+use Rattle.tg_emit.specs.mirror.Lines.{literals_lines}
 use Rattle.tg_emit.specs.mirror.Text.{line_text, is_in_statics, switched, lines_text, text_of}
 use Rattle.tg_emit.specs.Ranges.{LiteralFits}
 use Rattle.tg_emit_laws.specs.Images.{written_line, statics_written, IsCode, AreCode}

@@ -1,5 +1,5 @@
 -- Agreement by fuel of the machine with delayed branches, in steps.
-use Rattle.std.specs.Prelude.{ℕ, ◌+◌, ◌*◌, List}
+use Rattle.std.specs.Prelude.{ℕ, ◌*◌, List}
 use Rattle.tg_simulation.specs.Agreement as by_fuel
 use Rattle.tg_simulation.specs.Agreement.{FillsStack}
 use Rattle.tg_simulation.specs.Outcomes.{Outcome}
