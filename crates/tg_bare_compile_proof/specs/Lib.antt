@@ -1,0 +1,5 @@
+pub mod Images
+pub mod Assemblies
+pub mod Ends
+pub mod Builds
+pub mod laws
