@@ -159,11 +159,11 @@ type_facts d seen before =
         ++ fact.Element d.name.span.from x ∷ []
     ]
 
-unfoldable pub types_facts : List TypeDec → (seen : Span) → (before : List Fact) → List Fact
+abbrev pub types_facts : List TypeDec → (seen : Span) → (before : List Fact) → List Fact
 types_facts [] seen before = before
 types_facts (d ∷ ds) seen before = types_facts ds seen (type_facts d seen before)
 
-unfoldable pub params_facts :
+abbrev pub params_facts :
     (text : List ℕ) → Ident → (index : ℕ) → List Param → (seen : Span) → (before : List Fact) →
     List Fact
 params_facts text f index [] seen before = before
@@ -182,13 +182,13 @@ header_facts text f ps result seen before =
     params_facts text f 0 ps seen
     (before ++ fact.Function f (kind_type text before result) seen ∷ [])
 
-unfoldable pub headers_facts :
+abbrev pub headers_facts :
     (text : List ℕ) → FunDecs → (seen : Span) → (before : List Fact) → List Fact
 headers_facts text no_functions seen before = before
 headers_facts text (function f ps result _ rest) seen before =
     headers_facts text rest seen (header_facts text f ps result seen before)
 
-unfoldable pub variables_facts :
+abbrev pub variables_facts :
     (text : List ℕ) → List Param → (seen : Span) → (before : List Fact) → List Fact
 variables_facts text [] seen before = before
 variables_facts text (p ∷ ps) seen before =

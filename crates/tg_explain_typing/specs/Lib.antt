@@ -3,4 +3,5 @@ pub mod Standards
 pub mod Lookups
 pub mod Synthesis
 pub mod Facts
+pub mod Finding
 pub mod glue

@@ -10,6 +10,7 @@
 mod asking;
 mod declaring;
 mod facts;
+mod finding;
 mod lookups;
 mod standards;
 mod synthesis;
@@ -17,6 +18,10 @@ mod types;
 mod walk;
 
 pub use facts::{Demand, Fact, Meaning};
+pub use finding::{
+    Breach, Declared, Difference, Judgement, breaks, field_names, first_broken, first_declared,
+    first_difference, function_around, given_names, judged_record, loop_around,
+};
 pub use lookups::{covers, named_type, spelled};
 pub use synthesis::exp_type;
 pub use types::{Ty, are_alike, fits, has_order, is_same};
