@@ -325,4 +325,3 @@ has_a_field_twice :
     ≡ codes "tiger:   'a' of 1:15 is declared before\n"
 unfolding weighed compared made filled repeated assigned chosen selected indexed passed given outcome ended declared type_facts header_facts opened_facts
 has_a_field_twice = refl
-

@@ -77,7 +77,8 @@ before_text text x = name_text text (Declared x) ++ codes " is declared before"
 
 abbrev pub loop_text : (text : List ℕ) → Option ℕ → List ℕ
 loop_text text None = codes "no loop is open"
-loop_text text (Some at) = codes "the loop of " ++ place_text (place_of text at) ++ codes " is not open"
+loop_text text (Some at) =
+    codes "the loop of " ++ place_text (place_of text at) ++ codes " is not open"
 
 abbrev pub function_text : (text : List ℕ) → Option Ident → List ℕ
 function_text text None = []

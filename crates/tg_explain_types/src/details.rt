@@ -52,8 +52,8 @@ pub enum TypeDetail {
 /// What the fault of a rule at a byte of a program is about: of an unknown name those spelled
 /// nearly so, of a name of another kind or one that is declared again its declaration, of wrong
 /// arguments both counts, of a wrong type what was asked for and what stands there, of wrong fields
-/// those that are wanted, of a `break` what stands around it. A cycle of types has nothing. The only
-/// error is out of memory.
+/// those that are wanted, of a `break` what stands around it. A cycle of types has nothing. The
+/// only error is out of memory.
 pub fn explain_types(
     alloc: Global,
     text: &[u8],

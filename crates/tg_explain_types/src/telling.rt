@@ -56,10 +56,10 @@ fn before(ident: Option<Ident>) -> TypeDetail
 }
 
 /// The fields of a record's type.
-fn fields(alloc: Global, facts: &[Fact], record: Option<Ty>) -> Result<TypeDetail, Memory>
-    ensures { IfOk result (λ d. d ≡ telling.fields facts.now record) }
+fn fields(alloc: Global, facts: &[Fact], of: Option<Ty>) -> Result<TypeDetail, Memory>
+    ensures { IfOk result (λ d. d ≡ telling.fields facts.now of) }
 {
-    match record {
+    match of {
         Some(Ty::Record(owner)) => {
             let names = field_names(alloc, facts, owner)?;
             Ok(TypeDetail::Fields(owner, ListOf::from_vec(names)))
@@ -69,15 +69,10 @@ fn fields(alloc: Global, facts: &[Fact], record: Option<Ty>) -> Result<TypeDetai
 }
 
 /// The first field that is given otherwise than a record's type wants it.
-fn differs(
-    alloc: Global,
-    facts: &[Fact],
-    at: u32,
-    record: Option<Ty>,
-) -> Result<TypeDetail, Memory>
-    ensures { IfOk result (λ d. d ≡ telling.differs facts.now at record) }
+fn differs(alloc: Global, facts: &[Fact], at: u32, of: Option<Ty>) -> Result<TypeDetail, Memory>
+    ensures { IfOk result (λ d. d ≡ telling.differs facts.now at of) }
 {
-    match record {
+    match of {
         Some(Ty::Record(owner)) => {
             let wanted = field_names(alloc, facts, owner)?;
             let given = given_names(alloc, facts, at)?;

@@ -12,7 +12,8 @@ use tg_syntax::Ident;
 /// Puts the name that a type is declared by, with its place.
 fn put_declared(line: &mut Vec<u8>, text: &[u8], at: u32) -> Result<(), Memory>
     requires { length text.now ≤ 262144 }
-    ensures { OnOk result (line.new.items ≡ line.old.items ++ texts.declared_text text.now at) }
+    ensures { OnOk result (line.new.items
+        ≡ line.old.items ++ texts.declared_text text.now at) }
 {
     put(line, word_at(text, at))?;
     put(line, b" of ")?;
@@ -21,7 +22,8 @@ fn put_declared(line: &mut Vec<u8>, text: &[u8], at: u32) -> Result<(), Memory>
 
 fn put_ty(line: &mut Vec<u8>, text: &[u8], ty: Ty) -> Result<(), Memory>
     requires { length text.now ≤ 262144 }
-    ensures { OnOk result (line.new.items ≡ line.old.items ++ texts.ty_text text.now ty) }
+    ensures { OnOk result (line.new.items
+        ≡ line.old.items ++ texts.ty_text text.now ty) }
 {
     match ty {
         Ty::Int => put(line, b"int"),
@@ -34,7 +36,8 @@ fn put_ty(line: &mut Vec<u8>, text: &[u8], ty: Ty) -> Result<(), Memory>
 
 fn put_demand(line: &mut Vec<u8>, text: &[u8], demand: Demand) -> Result<(), Memory>
     requires { length text.now ≤ 262144 }
-    ensures { OnOk result (line.new.items ≡ line.old.items ++ texts.demand_text text.now demand) }
+    ensures { OnOk result (line.new.items
+        ≡ line.old.items ++ texts.demand_text text.now demand) }
 {
     match demand {
         Demand::Fits(ty) | Demand::Like(ty) | Demand::Joins(ty) => put_ty(line, text, ty),
@@ -61,7 +64,8 @@ pub(crate) fn put_judged(
     judgement: Judgement,
 ) -> Result<(), Memory>
     requires { length text.now ≤ 262144 }
-    ensures { OnOk result (line.new.items ≡ line.old.items ++ texts.judged_text text.now judgement) }
+    ensures { OnOk result (line.new.items
+        ≡ line.old.items ++ texts.judged_text text.now judgement) }
 {
     put(line, b"expected ")?;
     put_demand(line, text, judgement.demand)?;
@@ -71,7 +75,8 @@ pub(crate) fn put_judged(
 
 fn put_more_fields(line: &mut Vec<u8>, text: &[u8], fields: &[Ident]) -> Result<(), Memory>
     requires { length text.now ≤ 262144 }
-    ensures { OnOk result (line.new.items ≡ line.old.items ++ texts.more_fields text.now fields.now) }
+    ensures { OnOk result (line.new.items
+        ≡ line.old.items ++ texts.more_fields text.now fields.now) }
 {
     for field in fields {
         put(line, b", ")?;
@@ -82,7 +87,8 @@ fn put_more_fields(line: &mut Vec<u8>, text: &[u8], fields: &[Ident]) -> Result<
 
 fn put_field_list(line: &mut Vec<u8>, text: &[u8], fields: &[Ident]) -> Result<(), Memory>
     requires { length text.now ≤ 262144 }
-    ensures { OnOk result (line.new.items ≡ line.old.items ++ texts.field_list text.now fields.now) }
+    ensures { OnOk result (line.new.items
+        ≡ line.old.items ++ texts.field_list text.now fields.now) }
 {
     match fields {
         [] => put(line, b" none"),
@@ -102,7 +108,8 @@ pub(crate) fn put_fields(
     fields: &[Ident],
 ) -> Result<(), Memory>
     requires { length text.now ≤ 262144 }
-    ensures { OnOk result (line.new.items ≡ line.old.items ++ texts.fields_text text.now owner fields.now) }
+    ensures { OnOk result (line.new.items
+        ≡ line.old.items ++ texts.fields_text text.now owner fields.now) }
 {
     put(line, b"fields of ")?;
     put_declared(line, text, owner)?;
@@ -112,7 +119,8 @@ pub(crate) fn put_fields(
 
 fn put_field(line: &mut Vec<u8>, text: &[u8], field: Option<Ident>) -> Result<(), Memory>
     requires { length text.now ≤ 262144 }
-    ensures { OnOk result (line.new.items ≡ line.old.items ++ texts.field_text text.now field) }
+    ensures { OnOk result (line.new.items
+        ≡ line.old.items ++ texts.field_text text.now field) }
 {
     match field {
         None => put(line, b"no field"),
@@ -130,7 +138,8 @@ pub(crate) fn put_difference(
     difference: Difference,
 ) -> Result<(), Memory>
     requires { length text.now ≤ 262144 }
-    ensures { OnOk result (line.new.items ≡ line.old.items ++ texts.difference_text text.now difference) }
+    ensures { OnOk result (line.new.items
+        ≡ line.old.items ++ texts.difference_text text.now difference) }
 {
     put(line, b"expected ")?;
     put_field(line, text, difference.wanted)?;
@@ -141,17 +150,19 @@ pub(crate) fn put_difference(
 /// Puts the first declaration of a name.
 pub(crate) fn put_before(line: &mut Vec<u8>, text: &[u8], ident: Ident) -> Result<(), Memory>
     requires { length text.now ≤ 262144 }
-    ensures { OnOk result (line.new.items ≡ line.old.items ++ texts.before_text text.now ident) }
+    ensures { OnOk result (line.new.items
+        ≡ line.old.items ++ texts.before_text text.now ident) }
 {
     put_name(line, text, Near::Declared(ident))?;
     put(line, b" is declared before")
 }
 
-fn put_loop(line: &mut Vec<u8>, text: &[u8], open: Option<u32>) -> Result<(), Memory>
+fn put_loop(line: &mut Vec<u8>, text: &[u8], around: Option<u32>) -> Result<(), Memory>
     requires { length text.now ≤ 262144 }
-    ensures { OnOk result (line.new.items ≡ line.old.items ++ texts.loop_text text.now open) }
+    ensures { OnOk result (line.new.items
+        ≡ line.old.items ++ texts.loop_text text.now around) }
 {
-    match open {
+    match around {
         None => put(line, b"no loop is open"),
         Some(at) => {
             put(line, b"the loop of ")?;
@@ -163,7 +174,8 @@ fn put_loop(line: &mut Vec<u8>, text: &[u8], open: Option<u32>) -> Result<(), Me
 
 fn put_function(line: &mut Vec<u8>, text: &[u8], function: Option<Ident>) -> Result<(), Memory>
     requires { length text.now ≤ 262144 }
-    ensures { OnOk result (line.new.items ≡ line.old.items ++ texts.function_text text.now function) }
+    ensures { OnOk result (line.new.items
+        ≡ line.old.items ++ texts.function_text text.now function) }
 {
     match function {
         None => Ok(()),
@@ -179,18 +191,20 @@ pub(crate) fn put_outside(
     line: &mut Vec<u8>,
     text: &[u8],
     function: Option<Ident>,
-    open: Option<u32>,
+    around: Option<u32>,
 ) -> Result<(), Memory>
     requires { length text.now ≤ 262144 }
-    ensures { OnOk result (line.new.items ≡ line.old.items ++ texts.outside_text text.now function open) }
+    ensures { OnOk result (line.new.items
+        ≡ line.old.items ++ texts.outside_text text.now function around) }
 {
-    put_loop(line, text, open)?;
+    put_loop(line, text, around)?;
     put_function(line, text, function)
 }
 
 /// Puts a limit.
 pub(crate) fn put_limit(line: &mut Vec<u8>, limit: Limit) -> Result<(), Memory>
-    ensures { OnOk result (line.new.items ≡ line.old.items ++ texts.limit_text limit) }
+    ensures { OnOk result (line.new.items
+        ≡ line.old.items ++ texts.limit_text limit) }
 {
     match limit {
         Limit::Levels => put(line, b"functions are nested 32 levels deep at most"),

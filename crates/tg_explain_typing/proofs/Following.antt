@@ -9,7 +9,7 @@ use Rattle.tg_explain_typing.specs.Standards.{outermost_type}
 use Rattle.tg_explain_typing.specs.Lookups.{spelled, meaning_of, followed}
 
 abbrev reached : (text : List ℕ) → List Fact → ℕ → Meaning → Ty
-reached text facts most m = elim m [ | Alias y ↦ followed text facts most y | Known t ↦ t ]
+reached text facts most m = elim m [ Alias y ↦ followed text facts most y | Known t ↦ t ]
 
 on : (text : List ℕ) (facts : List Fact) (n : ℕ) (x : Ident) (word : List ℕ) (outer : Ty) (m : Meaning) → word ≡ spelled text x.span →
     outer ≡ outermost_type word → m ≡ meaning_of x facts (Known outer) → reached text facts n m ≡ followed text facts (suc n) x

@@ -40,7 +40,8 @@ abbrev pub judged : (at start : ℕ) → Demand → Ty → (before : List Fact) 
 judged at start demand got before =
     if start == at then before ++ fact.Judged demand got ∷ [] else before
 
-unfoldable pub weighed : (text : List ℕ) → (at : ℕ) → Exp → Demand → (before : List Fact) → List Fact
+unfoldable pub weighed :
+    (text : List ℕ) → (at : ℕ) → Exp → Demand → (before : List Fact) → List Fact
 weighed text at e demand before =
     judged at (span_of e).from demand (exp_type text before e) before
 
@@ -93,7 +94,8 @@ unfoldable pub assigned :
     (text : List ℕ) → (at : ℕ) → LValue → Exp → (before : List Fact) → List Fact
 assigned text at v e before = weighed text at e (Fits (place_type text before v)) before
 
-unfoldable pub chosen : (text : List ℕ) → (at : ℕ) → (this other : Exp) → (before : List Fact) → List Fact
+unfoldable pub chosen :
+    (text : List ℕ) → (at : ℕ) → (this other : Exp) → (before : List Fact) → List Fact
 chosen text at this other before =
     weighed text at other (Joins (exp_type text before this)) before
 
@@ -152,11 +154,11 @@ type_facts d seen before =
     elim d.form [
       | Alias x ↦ before ++ fact.TypeName d.name (meaning.Alias x) seen ∷ []
       | Fields ps ↦
-        before ++ fact.TypeName d.name (meaning.Known (type.Record d.name.span.from)) seen ∷ []
-        ++ map (λ p. fact.Field d.name.span.from p) ps
+          before ++ fact.TypeName d.name (meaning.Known (type.Record d.name.span.from)) seen ∷ []
+          ++ map (λ p. fact.Field d.name.span.from p) ps
       | Array x ↦
-        before ++ fact.TypeName d.name (meaning.Known (type.Array d.name.span.from)) seen ∷ []
-        ++ fact.Element d.name.span.from x ∷ []
+          before ++ fact.TypeName d.name (meaning.Known (type.Array d.name.span.from)) seen ∷ []
+          ++ fact.Element d.name.span.from x ∷ []
     ]
 
 abbrev pub types_facts : List TypeDec → (seen : Span) → (before : List Fact) → List Fact

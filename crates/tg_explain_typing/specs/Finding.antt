@@ -115,7 +115,7 @@ declared_by _ = None
 -- the first that a test holds for
 abbrev pub first_of : {A B : Type 0} → (A → Option B) → List A → Option B
 first_of test [] = None
-first_of test (a ∷ rest) = elim (test a) [ | None ↦ first_of test rest | Some b ↦ Some b ]
+first_of test (a ∷ rest) = elim (test a) [ None ↦ first_of test rest | Some b ↦ Some b ]
 
 abbrev pub placed_at : (at : ℕ) → Option Declared → Option Declared
 placed_at at None = None

@@ -11,13 +11,7 @@ use tg_base::Memory;
 use tg_syntax::{Exp, Ident, Op, Var};
 
 /// Puts what is asked where a part of a type begins, if it is asked about.
-fn judge(
-    all: &mut Vec<Fact>,
-    at: u32,
-    start: u32,
-    demand: Demand,
-    got: Ty,
-) -> Result<(), Memory>
+fn judge(all: &mut Vec<Fact>, at: u32, start: u32, demand: Demand, got: Ty) -> Result<(), Memory>
     ensures { OnOk result (all.new.items ≡ facts.judged at start demand got all.old.items) }
 {
     if start == at {

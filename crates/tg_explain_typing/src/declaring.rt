@@ -130,12 +130,7 @@ fn start_of(functions: &[FunDec]) -> u32
 }
 
 #[tactic(auto, unfolding(crate::specs::Facts::header_facts))]
-fn put_header(
-    all: &mut Vec<Fact>,
-    text: &[u8],
-    function: &FunDec,
-    seen: Span,
-) -> Result<(), Memory>
+fn put_header(all: &mut Vec<Fact>, text: &[u8], function: &FunDec, seen: Span) -> Result<(), Memory>
     ensures { OnOk result (all.new.items ≡ header_of text.now function.now seen all.old.items) }
 {
     let ty = kind_type(text, all, function.result);

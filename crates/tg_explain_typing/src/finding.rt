@@ -143,14 +143,26 @@ pub fn first_difference(wanted: &[Ident], given: &[Ident]) -> Difference
     ensures { result ≡ finding.first_difference wanted.now given.now }
 {
     match (wanted, given) {
-        ([], []) => Difference { wanted: None, given: None },
-        ([], [more, ..]) => Difference { wanted: None, given: Some(*more) },
-        ([missing, ..], []) => Difference { wanted: Some(*missing), given: None },
+        ([], []) => Difference {
+            wanted: None,
+            given: None,
+        },
+        ([], [more, ..]) => Difference {
+            wanted: None,
+            given: Some(*more),
+        },
+        ([missing, ..], []) => Difference {
+            wanted: Some(*missing),
+            given: None,
+        },
         ([one, wanted @ ..], [other, given @ ..]) => {
             if one.name.0 == other.name.0 {
                 first_difference(wanted, given)
             } else {
-                Difference { wanted: Some(*one), given: Some(*other) }
+                Difference {
+                    wanted: Some(*one),
+                    given: Some(*other),
+                }
             }
         }
     }
@@ -195,7 +207,10 @@ fn declared_by(fact: Fact) -> Option<Declared>
         Fact::TypeName(ident, _, seen) => Some(Declared { ident, seen }),
         Fact::Field(owner, field) => Some(Declared {
             ident: field.name,
-            seen: Span { from: owner, to: owner },
+            seen: Span {
+                from: owner,
+                to: owner,
+            },
         }),
         _ => None,
     }

@@ -25,12 +25,7 @@ use tg_syntax::{Dec, Decs, Exp, Exps, FunDec, FunDecs, Ident, Inits, Kind, Progr
 /// The facts of a program, in the order in which it is checked, and what is asked where a part
 /// begins at a byte. Each name is looked for among all facts before it. The only error is out of
 /// memory.
-pub fn facts_of(
-    alloc: Global,
-    text: &[u8],
-    program: &Program,
-    at: u32,
-) -> Result<Vec<Fact>, Memory>
+pub fn facts_of(alloc: Global, text: &[u8], program: &Program, at: u32) -> Result<Vec<Fact>, Memory>
     ensures { IfOk result (λ all. all.items
         ≡ facts.exp_facts text.now at (plain program.now.body) []) }
 {

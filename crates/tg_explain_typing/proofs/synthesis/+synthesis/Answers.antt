@@ -17,9 +17,9 @@ pub last_type-loop-e-preserved : goal.last_type-loop-e-preserved
 last_type-loop-e-preserved t c = record {
   count = omega (arith, c.loop-e.invariant.count, c.saturating_sub-left.ensures);
   last =
-    last_step c.args.text.now c.args.facts.now c.deref-e-items.result.now c.loop-e.e-index
-    (omega (arith, c.loop-e.invariant.count, c.if-left-eq1.false, c.loop-e-test.true, c.loop-e.auto.e-index-end))
-    ∙ c.loop-e.invariant.last;
+      last_step c.args.text.now c.args.facts.now c.deref-e-items.result.now c.loop-e.e-index
+      (omega (arith, c.loop-e.invariant.count, c.if-left-eq1.false, c.loop-e-test.true, c.loop-e.auto.e-index-end))
+      ∙ c.loop-e.invariant.last;
 }
 
 pub last_type-returns : goal.last_type-returns
