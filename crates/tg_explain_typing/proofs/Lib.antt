@@ -1,2 +1,3 @@
 mod Following
 mod Lists
+mod Arguments

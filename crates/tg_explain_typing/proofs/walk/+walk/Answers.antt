@@ -5,6 +5,7 @@ use Rattle.tg_explain_typing.specs.glue.Bodies.{body_facts}
 use Rattle.tg_explain_typing.specs.declared.facts.Fact.{Fact}
 use Rattle.tg_explain_typing.proofs.Lists.{with_exp, with_init, with_dec, exps_fold, inits_fold, bodies_fold, decs_fold, fold_end}
 use Rattle.tg_explain_typing.proofs.Lists.{let_facts}
+use Rattle.tg_explain_typing.proofs.Arguments.{args_end}
 use Rattle.tg_explain_typing.proofs.walk.+walk.Goals as goal
 
 pub put_list-returns : goal.put_list-returns
@@ -45,3 +46,9 @@ put_exp-returns-in_ok-put_decs-in-Let t c =
     subst P
     (let_facts c.args.text.now c.args.at c.args.e.now.kind c.in-Let.decs c.in-Let.body c.args.e.now.span c.args.all.now.items c.put_decs.new.all.items c.in-Let.is
     c.in_ok-put_decs-in-Let.ensures) c.put_list.ensures
+
+pub put_arguments-returns : goal.put_arguments-returns
+put_arguments-returns t c =
+    args_end c.args.text.now c.args.at c.args.f c.deref-e-items.result.now c.args.arguments.now c.loop-e.e-index c.args.all.now.items c.loop-e.all.items
+    c.deref-e-items.ensures.value
+    (omega (arith, c.loop-e.auto.e-index-end, c.loop-e-test.false)) c.loop-e.invariant.onward
