@@ -2,3 +2,5 @@ mod Lists
 mod Distances
 pub mod Alike
 mod Telling
+mod Examples
+mod Agreement

@@ -1,0 +1,3 @@
+mod Following
+mod Lists
+mod Arguments

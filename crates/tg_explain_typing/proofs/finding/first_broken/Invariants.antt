@@ -1,0 +1,6 @@
+use Rattle.std.proofs.Common.{◌≡◌, drop, []}
+use Rattle.tg_explain_typing.specs.Finding as finding
+use Rattle.tg_explain_typing.proofs.finding.first_broken.Given as goal
+
+abbrev pub invariant-loop-fact : goal.invariant-loop-fact
+invariant-loop-fact l = finding.first_broken l.breach (drop l.fact-index l.facts) ≡ finding.first_broken l.breach l.facts
