@@ -23,8 +23,8 @@ abbrev pub flag_rule : Text → Rule
 flag_rule name = record (new_rule name) { long = Some name; action = Some SetTrue }
 
 abbrev pub simple_command : App
-simple_command = with_rule (with_rule (with_rule (with_rule (with_rule (with_rule (with_rule (with_rule (with_rule
-    (without_flags (new_app (codes "tiger")))
+simple_command = with_rule (with_rule (with_rule (with_rule (with_rule (with_rule (with_rule
+    (with_rule (with_rule (without_flags (new_app (codes "tiger")))
     (positional (codes "mode"))) (positional (codes "file")))
     (option (codes "heap"))) (option (codes "stack"))) (option (codes "steps")))
     (flag_rule (codes "watch"))) (flag_rule (codes "fold"))) (flag_rule (codes "bare")))

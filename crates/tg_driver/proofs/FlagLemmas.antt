@@ -1,10 +1,10 @@
 -- What the flag `--bare` says of a mode, and of the other flags.
-use Rattle.std.specs.Prelude.{◌&&◌, not}
+use Rattle.std.specs.Prelude.{◌&&◌, ◌||◌, not}
 use Rattle.std.proofs.Common.{◌≡◌, Bool, true, false, refl, subst}
 use Rattle.tg_command.specs.declared.flags.Flags.{Flags}
 use Rattle.tg_command.specs.declared.modes.Mode.{Mode}
 use Rattle.tg_command.specs.declared.modes.Mode.TheVariants.{Run}
-use Rattle.tg_command.specs.Flagged.{flags_fit}
+use Rattle.tg_command.specs.Flagged.{flags_fit, takes_bare, takes_fold, takes_watch}
 
 no_truth : false ≡ true → ⊥
 no_truth h = cc
@@ -19,7 +19,8 @@ plain_in_run flags h = by flags.watch flags.bare h
 
 -- no run of the machine with delayed branches is watched
 pub bare_unwatched : (mode : Mode) (flags : Flags) → flags_fit mode flags ≡ true → flags.bare ≡ true → flags.watch ≡ false
-bare_unwatched mode flags h is = by _ _ _ flags.watch flags.bare h is
+bare_unwatched mode flags h is =
+    by (takes_watch mode || not flags.watch) (takes_fold mode || not flags.fold) (takes_bare mode || not flags.bare) flags.watch flags.bare h is
   where
     by : (x y z w b : Bool) → (x && y && z && not (w && b)) ≡ true → b ≡ true → w ≡ false
     by x y z false b h is = refl

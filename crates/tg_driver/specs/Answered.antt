@@ -44,8 +44,8 @@ abbrev pub NoneUnasked : (words : List (List ℕ)) → (reports : List ℕ) → 
 NoneUnasked words reports =
     (a : Asked) → Ask words a → a.flags.watch ≡ false → reports ≡ []
 
--- what is said of the runs of a call whose reports are these: they are of the machine that is asked
--- for
+-- what is said of the runs of a call whose reports are these: they are of the machine that the flag
+-- asks for
 abbrev pub told_runs : {H I O E : Type 0} → Call H I O E → (reports : List ℕ) → Asked → RunRelation
 told_runs c reports a =
     HasToldRunBy c.streams a.flags.bare (if_watched a.flags c.reporters) reports

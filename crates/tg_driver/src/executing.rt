@@ -141,11 +141,7 @@ fn execute_bare<I: Source, O: Sink>(
 }
 
 /// Runs a machine with delayed branches that was loaded.
-fn run_bare<I: Source, O: Sink>(
-    machine: BareMachine,
-    streams: Streams<I, O>,
-    steps: u64,
-) -> RunEnd
+fn run_bare<I: Source, O: Sink>(machine: BareMachine, streams: Streams<I, O>, steps: u64) -> RunEnd
     requires { 0 < steps }
     ensures { (image : ImageOf) (heap stack : ℕ) → machine ≡ loaded_bare image heap stack
         → HasBareRun (streams_of

@@ -58,10 +58,10 @@ pub fn expected_are_told()
     expected_is_all();
 }
 
-/// The law that a run of either machine ends exactly as the definition's run does on the same bytes,
-/// where the input tells them and no read or write ended it: it writes what that one writes, and
-/// leaves what it leaves, whatever the counts of faults did. So no failed read or write is passed
-/// over. It does nothing.
+/// The law that a run of either machine ends exactly as the definition's run does on the same
+/// bytes, where the input tells them and no read or write ended it: it writes what that one writes,
+/// and leaves what it leaves, whatever the counts of faults did. So no failed read or write is
+/// passed over. It does nothing.
 pub fn runs_are_exact<I, O>()
     ensures { (s : Streams I O) (bare : Bool) (image : Image) (heap stack steps : ℕ) (end : RunEnd)
         (bytes : List ℕ)

@@ -54,8 +54,8 @@ abbrev pub IsImageOf : Mode → (text : List ℕ) → Image → Type 0
 IsImageOf Exec text image = assembled text ≡ Ok (image_of image)
 IsImageOf mode text image = IsMeantImage text image
 
--- what the image writes within its steps on one of the machines, its reads answered by an input that
--- tells these bytes, or by some bytes where it tells none
+-- what the image writes within its steps on one of the machines, its reads answered by an input
+-- that tells these bytes, or by some bytes where it tells none
 pub record IsOutput (told : Option (List ℕ)) (bare : Bool) (mode : Mode) (asked : Asked)
     (text written : List ℕ) : Type 0 where
   pub image : Image

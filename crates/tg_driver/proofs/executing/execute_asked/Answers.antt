@@ -11,8 +11,8 @@ returns-then-bare-clause-runs g c =
     c.args.command.now.flags.bare c.args.watchers.now.items streams c.args.image.now c.args.command.now.heap c.args.command.now.stack
     c.args.command.now.steps c.execute_bare.result c.if-bare.true c.execute_bare.ensures.runs
 
-pub returns-clause-runs : goal.returns-clause-runs
-returns-clause-runs g c =
+pub returns-else-bare-clause-runs : goal.returns-else-bare-clause-runs
+returns-else-bare-clause-runs g c =
     let streams = streams_of
     (stream_of g.I.Source.left g.I.Source.faults c.args.streams.input.now c.execute.new.streams.0)
     (stream_of g.O.Sink.taken g.O.Sink.faults c.args.streams.out.now c.execute.new.streams.1.0) in
