@@ -1,24 +1,23 @@
 -- The text of blocks tells them.
-use Rattle.std.proofs.Common.{ℕ, suc, ◌≡◌, List, [], ◌∷◌, ◌++◌, drop, Bool, true, false, refl, sym, ap, ◌∙◌, append_assoc}
+use Rattle.std.proofs.Common.{ℕ, suc, ◌≡◌, List, [], ◌∷◌, ◌++◌, drop, true, false, refl, sym, ap, ◌∙◌, append_assoc}
 use Rattle.std.specs.Prelude.{◌==◌, codes}
 use Rattle.std.specs.Fmt.{decimal}
-use Rattle.std.specs.List.{AllByRecursion}
 use Rattle.tg_tree.specs.declared.operators.Rel.{Rel}
-use Rattle.tg_tree.specs.Tree.{Tx, Ts, Stms, no_stms, stm}
+use Rattle.tg_tree.specs.Tree.{Tx, Stms, no_stms, stm}
 use Rattle.tg_trace_schedule.specs.Block.{BlockEnd, Jump, Branch, Fault, Return, Block}
 use Rattle.tg_trace_schedule.specs.Shapes.{AreFlatStatements, AreFlatBlocks}
 use Rattle.tg_show.specs.Words.{rel_word}
 use Rattle.tg_show.specs.Layout.{laid}
 use Rattle.tg_show.specs.Trees.{two, tx_text}
 use Rattle.tg_show.specs.Flat.{statement_lines, mark_text, branch_front}
-use Rattle.tg_show.specs.Blocks.{end_text, block_lines, blocks_lines}
+use Rattle.tg_show.specs.Blocks.{end_text, blocks_lines}
 use Rattle.tg_show_laws.specs.Fitting.{HaveNoCommas, NumbersFitStms}
 use Rattle.tg_show_laws.specs.Blocks.{NumbersFitEnd, NumbersFitBlocks}
 use Rattle.tg_show_laws.specs.laws.Laws.{BlocksAreTold}
 use Rattle.tg_show_laws.proofs.Solid.{solid, solid_append, solid_laid, spaced, spaced_append}
 use Rattle.tg_show_laws.proofs.Numbers.{ends}
 use Rattle.tg_show_laws.proofs.OperatorWords.{rel_told}
-use Rattle.tg_show_laws.proofs.Dense.{tx_then, ts_then, solid_tx, solid_rel}
+use Rattle.tg_show_laws.proofs.Dense.{tx_then, solid_tx, solid_rel}
 use Rattle.tg_show_laws.proofs.DenseNumbers.{dense_number}
 use Rattle.tg_show_laws.proofs.Spacing.{spaced_decimal, spaced_tx, spaced_two, spaced_parens}
 use Rattle.tg_show_laws.proofs.Trees.{byte, differ, begins, told_tx, told_ts}

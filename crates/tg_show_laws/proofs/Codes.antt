@@ -1,5 +1,5 @@
 -- The texts of trees, canonical statements and flat code tell them.
-use Rattle.std.proofs.Common.{ℕ, ◌≡◌, List, [], ◌∷◌, ◌++◌, drop, Bool, true, false, refl, sym, ap, ◌∙◌, append_assoc}
+use Rattle.std.proofs.Common.{ℕ, ◌≡◌, List, [], ◌∷◌, ◌++◌, drop, true, false, refl, sym, ap, ◌∙◌, append_assoc}
 use Rattle.std.specs.Prelude.{◌==◌, ◌||◌, if◌then◌else◌, codes}
 use Rattle.std.specs.Fmt.{decimal}
 use Rattle.tg_tree.specs.declared.operators.Rel.{Rel}
@@ -8,8 +8,8 @@ use Rattle.tg_tree.specs.Tree.{Linear, Mark, Do', Jump, Branch, Fault', Return'}
 use Rattle.tg_tree.specs.Shapes.{IsFlatStatement, IsFlatCode}
 use Rattle.tg_show.specs.Words.{rel_word}
 use Rattle.tg_show.specs.Layout.{laid}
-use Rattle.tg_show.specs.Trees.{form, two, three, tx_text, ts_text}
-use Rattle.tg_show.specs.Flat.{statement_lines, mark_text, branch_front, branch_text, element_text, element_margin, element_lines}
+use Rattle.tg_show.specs.Trees.{two, tx_text, ts_text}
+use Rattle.tg_show.specs.Flat.{statement_lines, mark_text, branch_front, element_text, element_margin, element_lines}
 use Rattle.tg_show_laws.specs.Fitting.{IsWord, HaveNoCommas, NumbersFit, NumbersFitStms, NumbersFitTx, NumbersFitFlat}
 use Rattle.tg_show_laws.specs.laws.Laws.{TreesAreTold, FoldedAreTold, CanonicalAreTold, TracesAreTold}
 use Rattle.tg_show_laws.proofs.Solid.{solid, solid_append, solid_laid, spaced, spaced_append}

@@ -1,5 +1,5 @@
 -- Texts of trees without their blanks, in front of what stands behind them.
-use Rattle.std.proofs.Common.{ℕ, ◌≡◌, List, [], ◌∷◌, ◌++◌, Bool, true, false, refl, sym, ap, ◌∙◌, append_assoc}
+use Rattle.std.proofs.Common.{ℕ, ◌≡◌, List, [], ◌∷◌, ◌++◌, Bool, true, false, refl, ap, ◌∙◌, append_assoc}
 use Rattle.std.specs.Prelude.{codes, slice_index_or}
 use Rattle.std.specs.Fmt.{decimal}
 use Rattle.tg_tree.specs.declared.operators.Bin.{Bin}
@@ -9,8 +9,8 @@ use Rattle.tg_tree.specs.declared.operators.Rel.{Rel}
 use Rattle.tg_tree.specs.declared.operators.Rel.TheVariants.{Equal, NotEqual, Less, LessEqual, Greater, GreaterEqual, Below, NotBelow}
 use Rattle.tg_tree.specs.Tree.{Tx, Const, Address, Temp, FrameAddress, Binary, Load, LoadByte, Call, Service, After, Txs, no_txs, tx, Cond, Compare}
 use Rattle.tg_tree.specs.Tree.{Not, Both, Either, Ts, Move, Store, StoreByte, Do, If, Loop, Break, Fault, Seq, Return, Stms, no_stms, stm}
-use Rattle.tg_show.specs.Words.{int_text, name_text, temp_text, bin_word, rel_word}
-use Rattle.tg_show.specs.Trees.{form, two, three, before, tx_text, txs_text, cond_text, ts_text, stms_text}
+use Rattle.tg_show.specs.Words.{int_text, name_text, bin_word, rel_word}
+use Rattle.tg_show.specs.Trees.{tx_text, txs_text, cond_text, ts_text, stms_text}
 use Rattle.tg_show_laws.proofs.Solid.{solid, solid_append}
 
 solid_bin : (op : Bin) → solid (bin_word op) ≡ bin_word op

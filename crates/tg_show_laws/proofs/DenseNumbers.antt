@@ -1,6 +1,6 @@
 -- Numbers and temporaries without blanks end where no digit follows.
-use Rattle.std.proofs.Common.{ℕ, ◌≡◌, ◌^◌, ◌<◌, List, [], ◌∷◌, ◌++◌, length, Bool, true, false, refl, sym, ap, ◌∙◌, arith, ℤ, pos, negsuc, suc, w32}
-use Rattle.std.specs.Prelude.{◌==◌, ◌||◌, if◌then◌else◌, slice_index_or}
+use Rattle.std.proofs.Common.{ℕ, ◌≡◌, List, [], ◌∷◌, ◌++◌, length, Bool, true, false, refl, sym, ap, ◌∙◌, arith, ℤ, pos, negsuc, suc, w32}
+use Rattle.std.specs.Prelude.{◌==◌, if◌then◌else◌, slice_index_or}
 use Rattle.std.specs.Fmt.{decimal, signed_decimal}
 use Rattle.std.specs.Int.RustNames.{FitsSigned}
 use Rattle.std.specs.Str.Parse.{AllDigits}
@@ -9,7 +9,7 @@ use Rattle.std.proofs.lemmas.Fmt.{decimal_is_IsNumeral}
 use Rattle.std.proofs.lemmas.Bool.{ne_eqb}
 use Rattle.std.proofs.Math.Facts.{sfits_to_z}
 use Rattle.tg_base.specs.Words.{signed}
-use Rattle.tg_show.specs.Words.{int_text, name_text}
+use Rattle.tg_show.specs.Words.{int_text}
 use Rattle.tg_show_laws.specs.Fitting.{IsWord}
 use Rattle.tg_show_laws.proofs.Solid.{solid}
 use Rattle.tg_show_laws.proofs.Numbers.{ends, number_told, int_told, temp_told}

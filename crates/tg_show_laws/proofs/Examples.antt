@@ -1,5 +1,5 @@
 -- Two values have one text where a law would ask for less, or where the texts would have no parentheses.
-use Rattle.std.proofs.Common.{◌≡◌, ℕ, List, [], ◌∷◌, ◌++◌, refl}
+use Rattle.std.proofs.Common.{◌≡◌, ℕ, List, [], ◌∷◌, refl}
 use Rattle.std.specs.Prelude.{◌==◌, ◌||◌, if◌then◌else◌}
 use Rattle.std.specs.Fmt.{digits}
 use Rattle.tg_tree.specs.Tree.{Const, Ts, Fault, Break, Return, Seq, no_stms, stm, Do', Fault', Return'}

@@ -1,5 +1,5 @@
 -- The text of instructions tells them.
-use Rattle.std.proofs.Common.{ℕ, ◌≡◌, List, [], ◌∷◌, ◌++◌, drop, Bool, true, false, refl, sym, ap, ◌∙◌, append_assoc}
+use Rattle.std.proofs.Common.{ℕ, ◌≡◌, List, [], ◌∷◌, ◌++◌, drop, true, refl, sym, ap, ◌∙◌, append_assoc}
 use Rattle.std.specs.Prelude.{codes}
 use Rattle.std.proofs.lemmas.List.{append_cancel_left}
 use Rattle.tg_instr.specs.declared.operands.Opnd.{Opnd}
@@ -7,7 +7,7 @@ use Rattle.tg_instr.specs.declared.instr.Instr.{Instr}
 use Rattle.tg_instr.specs.Uses.{uses_of, defs_of}
 use Rattle.tg_show.specs.Layout.{blanks}
 use Rattle.tg_show.specs.Instructions.{instruction_margin, instruction_text, told, instruction_line, instruction_lines}
-use Rattle.tg_show_laws.specs.Fields.{FieldsFit, AllFit}
+use Rattle.tg_show_laws.specs.Fields.{AllFit}
 use Rattle.tg_show_laws.specs.laws.Laws.{InstructionsAreTold}
 use Rattle.tg_show_laws.proofs.Numbers.{ends}
 use Rattle.tg_show_laws.proofs.Trees.{byte, differ}

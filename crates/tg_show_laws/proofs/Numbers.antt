@@ -1,7 +1,7 @@
 -- A number, and a temporary with its name, end where no digit follows.
-use Rattle.std.proofs.Common.{ℕ, zero, suc, ◌+◌, ◌-◌, ◌<◌, ◌≤◌, ◌^◌, ◌≡◌, ◌≢◌, ◌⊎◌, inl, inr, List, [], ◌∷◌}
-use Rattle.std.proofs.Common.{◌++◌, length, drop, Bool, true, false, refl, sym, ap, subst, ◌∙◌, arith, w32, ℤ, pos, negsuc}
-use Rattle.std.specs.Prelude.{◌==◌, ◌&&◌, ◌||◌, nat_lt, nat_le, not, if◌then◌else◌, slice_index_or, codes, IfSome}
+use Rattle.std.proofs.Common.{ℕ, suc, ◌≡◌, List, [], ◌∷◌}
+use Rattle.std.proofs.Common.{◌++◌, length, drop, Bool, true, false, refl, sym, ap, ◌∙◌, arith, w32, ℤ, pos, negsuc}
+use Rattle.std.specs.Prelude.{◌==◌, ◌&&◌, nat_le, not, if◌then◌else◌}
 use Rattle.std.specs.Fmt.{decimal, signed_decimal}
 use Rattle.std.specs.Str.Parse.{AllDigits}
 use Rattle.std.specs.Int.RustNames.{FitsSigned}
@@ -11,7 +11,7 @@ use Rattle.std.proofs.lemmas.List.{append_cancel_left}
 use Rattle.std.proofs.lemmas.Bool.{le-leb}
 use Rattle.std.proofs.Math.Facts.{to_z_inj, sfits_to_z}
 use Rattle.tg_base.specs.Words.{signed}
-use Rattle.tg_show.specs.Words.{int_text, name_text, temp_text}
+use Rattle.tg_show.specs.Words.{int_text, name_text}
 use Rattle.tg_show_laws.specs.Fitting.{IsWord}
 use Rattle.tg_show_laws.proofs.Solid.{both_true}
 

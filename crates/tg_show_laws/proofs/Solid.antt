@@ -1,12 +1,12 @@
 -- A text without its blanks and ends of lines: laying a text on lines changes nothing in it.
-use Rattle.std.proofs.Common.{ℕ, zero, suc, ◌+◌, ◌-◌, ◌≡◌, ◌≢◌, ◌⊎◌, inl, inr, List, [], ◌∷◌, ◌++◌, Bool, true, false, refl, sym, ap, subst, ◌∙◌}
+use Rattle.std.proofs.Common.{ℕ, zero, suc, ◌+◌, ◌-◌, ◌≡◌, List, [], ◌∷◌, ◌++◌, Bool, true, false, refl, sym, ap, subst, ◌∙◌}
 use Rattle.std.specs.Prelude.{◌==◌, ◌&&◌, ◌||◌, if◌then◌else◌}
 use Rattle.std.proofs.lemmas.Bool.{eqb-true}
 use Rattle.std.proofs.lemmas.List.{append-nil}
 use Rattle.tg_show.specs.declared.modes.Mode.{Mode}
 use Rattle.tg_show.specs.declared.modes.Mode.TheVariants.{Kept, Broken, Between}
 use Rattle.tg_show.specs.Layout.{deeper, ends_at, kept, measured, mode_of, blanks, new_line}
-use Rattle.tg_show.specs.Layout.{written, next_depth, after_broken, next_mode, laid_from, laid}
+use Rattle.tg_show.specs.Layout.{after_broken, laid_from, laid}
 
 abbrev pub is_blank : ℕ → Bool
 is_blank c = c == 32 || c == 10

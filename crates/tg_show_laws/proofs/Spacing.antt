@@ -1,7 +1,7 @@
 -- In the text of a tree each comma has a blank behind it, where the names have no comma.
-use Rattle.std.proofs.Common.{ℕ, zero, suc, ◌+◌, ◌<◌, ◌≡◌, ◌≢◌, ◌⊎◌, inl, inr, List, [], ◌∷◌, ◌++◌}
-use Rattle.std.proofs.Common.{length, Bool, true, false, refl, sym, ap, ◌∙◌, arith, ℤ, pos, negsuc, w32}
-use Rattle.std.specs.Prelude.{◌==◌, ◌&&◌, if◌then◌else◌, codes, slice_index_or}
+use Rattle.std.proofs.Common.{ℕ, zero, suc, ◌≡◌, ◌≢◌, List, [], ◌∷◌, ◌++◌}
+use Rattle.std.proofs.Common.{length, Bool, true, false, refl, arith, ℤ, pos, negsuc, w32}
+use Rattle.std.specs.Prelude.{◌==◌, if◌then◌else◌, codes, slice_index_or}
 use Rattle.std.specs.Fmt.{decimal, signed_decimal}
 use Rattle.std.specs.List.{All}
 use Rattle.std.specs.Int.RustNames.{FitsSigned}
@@ -19,7 +19,7 @@ use Rattle.tg_tree.specs.declared.operators.Rel.TheVariants.{Equal, NotEqual, Le
 use Rattle.tg_tree.specs.Tree.{Tx, Const, Address, Temp, FrameAddress, Binary, Load, LoadByte, Call, Service, After, Txs, no_txs, tx, Cond, Compare}
 use Rattle.tg_tree.specs.Tree.{Not, Both, Either, Ts, Move, Store, StoreByte, Do, If, Loop, Break, Fault, Seq, Return, Stms, no_stms, stm}
 use Rattle.tg_show.specs.Words.{int_text, name_text, temp_text, bin_word, rel_word}
-use Rattle.tg_show.specs.Trees.{form, two, three, before, tx_text, txs_text, cond_text, ts_text, stms_text}
+use Rattle.tg_show.specs.Trees.{form, two, three, tx_text, txs_text, cond_text, ts_text, stms_text}
 use Rattle.tg_show_laws.specs.Fitting.{IsWord, HaveNoCommas, NumbersFit, NumbersFitStms, NumbersFitTx, NumbersFitTxs, NumbersFitCond}
 use Rattle.tg_show_laws.proofs.Solid.{spaced, spaced_append}
 

@@ -1,11 +1,10 @@
 -- Each instruction's text is a word, and operands and numbers behind it in one form; both tell the instruction.
-use Rattle.std.proofs.Common.{ℕ, ◌≡◌, List, [], ◌∷◌, ◌++◌, drop, get_or, Bool, true, false, refl, sym, ap, ◌∙◌, append_assoc}
+use Rattle.std.proofs.Common.{ℕ, ◌≡◌, List, [], ◌∷◌, ◌++◌, get_or, true, false, refl, sym, ap, ◌∙◌, append_assoc}
 use Rattle.std.specs.Prelude.{◌==◌, ◌-◌, if◌then◌else◌, codes}
 use Rattle.std.specs.Fmt.{decimal}
 use Rattle.std.proofs.lemmas.List.{append_cancel_left}
 use Rattle.tg_show.specs.Words.{rel_word}
 use Rattle.tg_instr.specs.declared.operands.Opnd.{Opnd}
-use Rattle.tg_instr.specs.declared.instr.Test.{Test}
 use Rattle.tg_instr.specs.declared.instr.Instr.{Instr}
 use Rattle.tg_instr.specs.declared.instr.Instr.TheVariants.{Sll, Srl, Sra, Mfhi, Mflo, Mult, Div, Add, Sub, Addu, Subu}
 use Rattle.tg_instr.specs.declared.instr.Instr.TheVariants.{And, Or, Xor, Nor, Slt, Sltu, Addi, Addiu, Slti, Sltiu}
@@ -18,7 +17,7 @@ use Rattle.tg_show.specs.Flat.{mark_text}
 use Rattle.tg_show.specs.Instructions.{operand_text, signed_text, instruction_margin, instruction_text}
 use Rattle.tg_show_laws.specs.Fields.{FieldsFit}
 use Rattle.tg_show_laws.proofs.Numbers.{ends}
-use Rattle.tg_show_laws.proofs.Trees.{byte, differ}
+use Rattle.tg_show_laws.proofs.Trees.{byte}
 use Rattle.tg_show_laws.proofs.Written.{place, Written, Three, AndNumber, AndSigned, WithMemory, Two, One}
 use Rattle.tg_show_laws.proofs.Written.{WithSlot, Upper, Literal, Here, Goes, Tests, Number, Nothing}
 use Rattle.tg_show_laws.proofs.Written.{WrittenFits, form, written_then, told_written}

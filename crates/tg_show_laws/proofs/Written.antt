@@ -1,18 +1,18 @@
 -- What stands behind an instruction's word: operands and numbers in one of a few forms, which tells them.
-use Rattle.std.proofs.Common.{ℕ, zero, suc, ◌-◌, ◌<◌, ◌^◌, ◌≡◌, List, [], ◌∷◌, ◌++◌}
+use Rattle.std.proofs.Common.{ℕ, zero, suc, ◌-◌, ◌<◌, ◌≡◌, List, [], ◌∷◌, ◌++◌}
 use Rattle.std.proofs.Common.{drop, Bool, true, false, refl, sym, ap, subst, ◌∙◌, arith, append_assoc}
 use Rattle.std.specs.Prelude.{◌==◌, ◌&&◌, nat_lt, if◌then◌else◌, codes, slice_index_or}
 use Rattle.std.specs.Fmt.{decimal}
 use Rattle.std.proofs.Math.Bool.{Bool-set}
 use Rattle.std.proofs.lemmas.List.{append_cancel_left}
-use Rattle.std.proofs.lemmas.Bool.{eqb-true, ltb-true, ltb-false}
+use Rattle.std.proofs.lemmas.Bool.{eqb-true}
 use Rattle.tg_isa.specs.Names.{names as register_names, register_name}
 use Rattle.tg_tree.specs.declared.operators.Rel.{Rel}
 use Rattle.tg_instr.specs.declared.operands.Opnd.{Opnd}
 use Rattle.tg_instr.specs.declared.operands.Opnd.TheVariants.{Temp, Reg}
 use Rattle.tg_instr.specs.declared.instr.Test.{Test}
 use Rattle.tg_instr.specs.Operands.{is_one_row}
-use Rattle.tg_show.specs.Words.{name_text, temp_text, rel_word}
+use Rattle.tg_show.specs.Words.{name_text, rel_word}
 use Rattle.tg_show.specs.Instructions.{operand_text, signed_text}
 use Rattle.tg_show_laws.specs.Fitting.{IsWord}
 use Rattle.tg_show_laws.specs.Fields.{IsField, OperandFits}
