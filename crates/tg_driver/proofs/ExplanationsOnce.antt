@@ -138,7 +138,7 @@ data AreOf (text lines : List ℕ) : Type 0 where
 are_of : (text lines : List ℕ) → Explains text lines → AreOf text lines
 unfolding AreLines
 are_of text lines (explains.lexical {rule = rule} {at = at} f e) = fault (Lexical rule) at (lexical f) e
-are_of text lines (explains.syntactic {names = names} {tokens = tokens} {rule = rule} {at = at} has f detail is e) =
+are_of text lines (explains.syntactic {names = names} {tokens = tokens} {at = at} rule has f detail is e) =
     fault (Syntactic rule) at (syntactic has f) (record {
       names = names;
       tokens = tokens;

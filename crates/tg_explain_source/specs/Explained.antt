@@ -25,7 +25,8 @@ pub data Explains (text lines : List ℕ) : Type 0 where
       lines ≡ lexical_lines text rule at →
       Explains text lines
   syntactic :
-      {names : List (List ℕ)} {tokens : List Spanned} {rule : SyntaxRule} {at : ℕ} →
+      {names : List (List ℕ)} {tokens : List Spanned} {at : ℕ} →
+      (rule : SyntaxRule) →
       HasTokens text names tokens →
       HasSyntaxFault tokens rule at →
       (detail : SyntaxDetail) →

@@ -2,5 +2,3 @@ mod Lists
 mod Distances
 pub mod Alike
 mod Telling
-mod Examples
-mod Agreement

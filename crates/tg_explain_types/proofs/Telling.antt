@@ -3,8 +3,7 @@ use Rattle.std.proofs.Common.{ℕ, ◌+◌, ◌≡◌, ◌<◌, ◌≤◌, List,
 use Rattle.std.specs.Prelude.{codes}
 use Rattle.std.proofs.lemmas.List.{at_drop_more, at_drop_all}
 use Rattle.tg_explain_types.specs.declared.names.Near.{Near}
-use Rattle.tg_explain_types.specs.NameTexts.{name_text}
-use Rattle.tg_explain_types.specs.Lines.{more_names}
+use Rattle.tg_explain_types.specs.Lines.{name_text, more_names}
 
 pub names_more : (text : List ℕ) (xs : List Near) (i : ℕ) (d : Near) (a b e whole : List ℕ) → i < length xs → a ++ more_names text (drop i xs) ≡ whole →
     b ≡ a ++ codes ", " → e ≡ b ++ name_text text (get_or xs i d) → e ++ more_names text (drop (i + 1) xs) ≡ whole
