@@ -1,12 +1,12 @@
 -- The tests of spelling are exact.
-use Rattle.std.proofs.Common.{ℕ, zero, suc, ◌+◌, ◌≡◌, ◌≤◌, List, [], ◌∷◌, Bool, true, false, drop, refl, sym, ap, subst, ◌∙◌, arith}
+use Rattle.std.proofs.Common.{ℕ, suc, ◌+◌, ◌≡◌, ◌≤◌, List, [], ◌∷◌, Bool, true, false, drop, refl, sym, ap, subst, ◌∙◌, arith}
 use Rattle.std.specs.Prelude.{◌==◌, ◌||◌, if◌then◌else◌}
 use Rattle.std.specs.List.{common_prefix_len}
 use Rattle.std.specs.Str.{bytes_eq}
 use Rattle.std.proofs.lemmas.Bool.Decides.{nat_tests}
 use Rattle.std.proofs.lemmas.Slice.Eq.{bytes_eq-Decides}
 use Rattle.tg_explain_types.specs.Edits.{Edits, done, kept, left_out, put_in, replaced, AreWithin}
-use Rattle.tg_explain_types.specs.Spelling.{edited, is_one_edit, is_two_edits}
+use Rattle.tg_explain_types.specs.Spelling.{edited, is_one_edit}
 use Rattle.tg_explain_types.specs.laws.Distances.{TestsOneEdit, TestsTwoEdits}
 
 more : {k : ℕ} {one other : List ℕ} → AreWithin k one other → AreWithin (suc k) one other

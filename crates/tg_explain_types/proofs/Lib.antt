@@ -1,4 +1,6 @@
 mod Lists
 mod Distances
 pub mod Alike
-mod Telling
+mod TextsTold
+mod Examples
+mod Agreement

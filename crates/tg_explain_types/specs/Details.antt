@@ -1,13 +1,14 @@
--- What a fault of types is about, as far as names and counts tell it.
+-- What a fault of types is about.
 use Rattle.std.specs.Prelude.{ℕ, ◌==◌, ◌&&◌, List, [], ◌∷◌, Option, Some, None, if◌then◌else◌, find}
 use Rattle.std.specs.Str.{bytes_eq}
 use Rattle.tg_semantics.specs.declared.standards.Standard.{Standard}
-use Rattle.tg_semantics.specs.declared.standards.Standard.TheVariants.{Print, Flush, Getchar, Ord}
-use Rattle.tg_semantics.specs.declared.standards.Standard.TheVariants.{Chr, Size, Substring, Concat}
-use Rattle.tg_semantics.specs.declared.standards.Standard.TheVariants.{Not, Exit}
+use Rattle.tg_semantics.specs.declared.standards.Standard.TheVariants.{Flush, Getchar}
+use Rattle.tg_semantics.specs.declared.standards.Standard.TheVariants.{Substring, Concat}
 use Rattle.tg_syntax.specs.Tree.{Exp}
 use Rattle.tg_typecheck.specs.declared.faults.TypeRule.{TypeRule}
 use Rattle.tg_typecheck.specs.declared.faults.TypeRule.TheVariants.{T1, T2, T3, T4, T5, T10, T15}
+use Rattle.tg_typecheck.specs.declared.faults.TypeRule.TheVariants.{T20, T21, T22}
+use Rattle.tg_explain_typing.specs.Facts.{exp_facts}
 use Rattle.tg_explain_types.specs.declared.declarations.Sort.{Sort}
 use Rattle.tg_explain_types.specs.declared.declarations.Sort.TheVariants as sort
 use Rattle.tg_explain_types.specs.declared.declarations.Declaration.{Declaration}
@@ -17,14 +18,16 @@ use Rattle.tg_explain_types.specs.declared.names.Wanted.{Wanted}
 use Rattle.tg_explain_types.specs.declared.names.Wanted.TheVariants.{Variable, Function, TypeName}
 use Rattle.tg_explain_types.specs.declared.names.Near.{Near}
 use Rattle.tg_explain_types.specs.declared.names.Near.TheVariants.{Declared, Standard as Given}
-use Rattle.tg_explain_types.specs.declared.names.Near.TheVariants.{IntType, StringType}
 use Rattle.tg_explain_types.specs.declared.details.TypeDetail.{TypeDetail}
 use Rattle.tg_explain_types.specs.declared.details.TypeDetail.TheVariants.{Unknown, Otherwise}
-use Rattle.tg_explain_types.specs.declared.details.TypeDetail.TheVariants.{Counts, Nothing}
+use Rattle.tg_explain_types.specs.declared.details.TypeDetail.TheVariants.{Counts, Limit, Nothing}
+use Rattle.tg_explain_types.specs.declared.details.Limit.TheVariants.{Levels, FunctionNodes}
+use Rattle.tg_explain_types.specs.declared.details.Limit.TheVariants.{ProgramNodes}
 use Rattle.tg_explain_types.specs.Parts.{exp_parts}
 use Rattle.tg_explain_types.specs.Scopes.{seen_at}
 use Rattle.tg_explain_types.specs.Names.{spelled, name_at, is_in_space, candidates, nearest}
 use Rattle.tg_explain_types.specs.Names.{near_text, outermost}
+use Rattle.tg_explain_types.specs.Telling.{told}
 
 -- the innermost declaration of a word
 abbrev pub declaration_of :
@@ -81,9 +84,23 @@ explained_by text word given seen T10 =
     declared_counts text word given (declaration_of text word Function seen)
 explained_by text word given seen _ = Nothing
 
--- what the fault at a byte of a program is about
-abbrev pub explained : (text : List ℕ) → (program : Exp) → TypeRule → (at : ℕ) → TypeDetail
-explained text program rule at =
+-- what the fault of a name at a byte of a program is about
+abbrev pub named : (text : List ℕ) → (program : Exp) → TypeRule → (at : ℕ) → TypeDetail
+named text program rule at =
     let parts = exp_parts program [] in
     let word = spelled text (name_at text at) in
     explained_by text word (arguments_at at parts) (seen_at at parts) rule
+
+-- what the fault at a byte of a program is about
+abbrev pub explained : (text : List ℕ) → (program : Exp) → TypeRule → (at : ℕ) → TypeDetail
+explained text program T1 at = named text program T1 at
+explained text program T2 at = named text program T2 at
+explained text program T3 at = named text program T3 at
+explained text program T4 at = named text program T4 at
+explained text program T5 at = named text program T5 at
+explained text program T10 at = named text program T10 at
+explained text program T15 at = named text program T15 at
+explained text program T20 at = Limit Levels
+explained text program T21 at = Limit FunctionNodes
+explained text program T22 at = Limit ProgramNodes
+explained text program rule at = told (exp_facts text at program []) rule at

@@ -3,7 +3,10 @@ pub mod Scopes
 pub mod Edits
 pub mod Spelling
 pub mod Names
+pub mod Telling
 pub mod Details
 pub mod laws
 pub mod glue
+pub mod NameTexts
+pub mod TypeTexts
 pub mod Lines

@@ -1,9 +1,8 @@
 -- The lines that explain a fault of types.
 use Rattle.std.specs.Prelude.{ℕ, ◌==◌, List, [], ◌∷◌, ◌++◌, codes, if◌then◌else◌}
 use Rattle.std.specs.Fmt.{decimal}
-use Rattle.tg_base.specs.Lines.{place_of}
 use Rattle.tg_explain.specs.Words.{quoted}
-use Rattle.tg_explain.specs.Lines.{line_of, place_text}
+use Rattle.tg_explain.specs.Lines.{line_of}
 use Rattle.tg_explain_types.specs.declared.declarations.Sort.{Sort}
 use Rattle.tg_explain_types.specs.declared.declarations.Sort.TheVariants as sort
 use Rattle.tg_explain_types.specs.declared.declarations.Declaration.{Declaration}
@@ -13,8 +12,13 @@ use Rattle.tg_explain_types.specs.declared.names.Near.{Near}
 use Rattle.tg_explain_types.specs.declared.names.Near.TheVariants.{Declared}
 use Rattle.tg_explain_types.specs.declared.details.TypeDetail.{TypeDetail}
 use Rattle.tg_explain_types.specs.declared.details.TypeDetail.TheVariants.{Unknown, Otherwise}
-use Rattle.tg_explain_types.specs.declared.details.TypeDetail.TheVariants.{Counts, Nothing}
-use Rattle.tg_explain_types.specs.Names.{spelled, name_at, near_text}
+use Rattle.tg_explain_types.specs.declared.details.TypeDetail.TheVariants.{Counts, Judged, Fields}
+use Rattle.tg_explain_types.specs.declared.details.TypeDetail.TheVariants.{Differs, Before, Outside}
+use Rattle.tg_explain_types.specs.declared.details.TypeDetail.TheVariants.{Limit, Nothing}
+use Rattle.tg_explain_types.specs.Names.{spelled, name_at}
+use Rattle.tg_explain_types.specs.NameTexts.{name_text}
+use Rattle.tg_explain_types.specs.TypeTexts.{judged_text, fields_text, difference_text, before_text}
+use Rattle.tg_explain_types.specs.TypeTexts.{outside_text, limit_text}
 
 abbrev pub wanted_text : Wanted → List ℕ
 wanted_text Variable = codes "variable"
@@ -26,12 +30,6 @@ sort_text sort.Variable = codes "a variable"
 sort_text sort.LoopVariable = codes "a loop variable"
 sort_text (sort.Function _) = codes "a function"
 sort_text sort.TypeName = codes "a type"
-
--- a name, with its place where it is declared in the text
-abbrev pub name_text : (text : List ℕ) → Near → List ℕ
-name_text text (Declared x) =
-    quoted (spelled text x.span) ++ codes " of " ++ place_text (place_of text x.span.from)
-name_text text near = quoted (near_text text near)
 
 -- each behind a comma
 abbrev pub more_names : (text : List ℕ) → List Near → List ℕ
@@ -68,4 +66,10 @@ type_lines text at (Unknown wanted near) =
     line_of (unknown_text text (spelled text (name_at text at)) wanted near)
 type_lines text at (Otherwise d) = line_of (otherwise_text text d)
 type_lines text at (Counts given wanted near) = line_of (counts_text text given wanted near)
+type_lines text at (Judged j) = line_of (judged_text text j)
+type_lines text at (Fields owner fields) = line_of (fields_text text owner fields)
+type_lines text at (Differs d) = line_of (difference_text text d)
+type_lines text at (Before x) = line_of (before_text text x)
+type_lines text at (Outside f loop) = line_of (outside_text text f loop)
+type_lines text at (Limit l) = line_of (limit_text l)
 type_lines text at Nothing = []

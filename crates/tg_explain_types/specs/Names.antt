@@ -1,5 +1,5 @@
 -- Names that are spelled nearly as a wrong one, and can be seen where it stands.
-use Rattle.std.specs.Prelude.{ℕ, ◌+◌, ◌-◌, ◌&&◌, not, List, [], ◌∷◌, ◌++◌, length, take, drop, map}
+use Rattle.std.specs.Prelude.{ℕ, ◌+◌, ◌-◌, ◌&&◌, not, List, [], ◌∷◌, ◌++◌, take, drop, map}
 use Rattle.std.specs.Prelude.{filter, Bool, true, false, codes}
 use Rattle.std.specs.List.{prefix_len, list_any}
 use Rattle.std.specs.Str.{bytes_eq}

@@ -3,8 +3,7 @@ use Rattle.std.specs.Prelude.{ℕ, ◌==◌, ◌&&◌, not, List, [], ◌∷◌,
 use Rattle.std.specs.Prelude.{nat_lt, if◌then◌else◌}
 use Rattle.std.specs.List.{list_any}
 use Rattle.tg_explain_types.specs.declared.declarations.Sort.{Sort}
-use Rattle.tg_explain_types.specs.declared.declarations.Sort.TheVariants.{Variable, LoopVariable}
-use Rattle.tg_explain_types.specs.declared.declarations.Sort.TheVariants.{Function, TypeName}
+use Rattle.tg_explain_types.specs.declared.declarations.Sort.TheVariants.{TypeName}
 use Rattle.tg_explain_types.specs.declared.declarations.Declaration.{Declaration}
 use Rattle.tg_explain_types.specs.declared.declarations.Part.{Part}
 use Rattle.tg_explain_types.specs.declared.declarations.Part.TheVariants.{Declared, Called}

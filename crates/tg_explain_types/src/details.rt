@@ -10,11 +10,21 @@ use crate::names::{FUNCTIONS, Near, Wanted, hides, name_length, near_text, neare
 use crate::parts::parts_of;
 use crate::scopes::seen_at;
 use crate::spelling::rest_from;
+use crate::telling::tell;
 use std::alloc::Global;
 use tg_base::{ListOf, Memory};
+use tg_explain_typing::{Difference, Judgement, facts_of};
 use tg_semantics::Standard;
-use tg_syntax::Program;
+use tg_syntax::{Ident, Program};
 use tg_typecheck::TypeRule;
+
+/// A limit of size or depth.
+#[derive(Clone, Copy)]
+pub enum Limit {
+    Levels,
+    FunctionNodes,
+    ProgramNodes,
+}
 
 /// What a fault of types is about.
 #[derive(Drop)]
@@ -25,12 +35,25 @@ pub enum TypeDetail {
     Otherwise(Declaration),
     /// So many arguments for so many parameters of a function.
     Counts(usize, usize, Near),
+    /// What was asked of a place, and the type that stands there.
+    Judged(Judgement),
+    /// The record that is declared at a byte has these fields.
+    Fields(u32, ListOf<Ident>),
+    /// The field that a record wants, and the one that is given in its place.
+    Differs(Difference),
+    /// The first declaration of a name that is declared again.
+    Before(Ident),
+    /// The function that a `break` stands in, and where the loop outside of it begins.
+    Outside(Option<Ident>, Option<u32>),
+    Limit(Limit),
     Nothing,
 }
 
 /// What the fault of a rule at a byte of a program is about: of an unknown name those spelled
-/// nearly so, of a name of another kind its declaration, of wrong arguments both counts. Other
-/// rules have nothing. The only error is out of memory.
+/// nearly so, of a name of another kind or one that is declared again its declaration, of wrong
+/// arguments both counts, of a wrong type what was asked for and what stands there, of wrong fields
+/// those that are wanted, of a `break` what stands around it. A cycle of types has nothing. The
+/// only error is out of memory.
 pub fn explain_types(
     alloc: Global,
     text: &[u8],
@@ -40,6 +63,35 @@ pub fn explain_types(
 ) -> Result<TypeDetail, Memory>
     requires { length text.now ≤ 262144 }
     ensures { IfOk result (λ d. d ≡ details.explained text.now (plain program.now.body) rule at) }
+{
+    match rule {
+        TypeRule::T1
+        | TypeRule::T2
+        | TypeRule::T3
+        | TypeRule::T4
+        | TypeRule::T5
+        | TypeRule::T10
+        | TypeRule::T15 => explain_name(alloc, text, program, rule, at),
+        TypeRule::T20 => Ok(TypeDetail::Limit(Limit::Levels)),
+        TypeRule::T21 => Ok(TypeDetail::Limit(Limit::FunctionNodes)),
+        TypeRule::T22 => Ok(TypeDetail::Limit(Limit::ProgramNodes)),
+        _ => {
+            let facts = facts_of(alloc, text, program, at)?;
+            tell(alloc, &facts, rule, at)
+        }
+    }
+}
+
+fn explain_name(
+    alloc: Global,
+    text: &[u8],
+    program: &Program,
+    rule: TypeRule,
+    at: u32,
+) -> Result<TypeDetail, Memory>
+    requires { length text.now ≤ 262144 }
+    ensures { IfOk result
+        (λ d. d ≡ details.named text.now (plain program.now.body) rule at) }
 {
     let parts = parts_of(alloc, program)?;
     let seen = seen_at(alloc, &parts, at)?;

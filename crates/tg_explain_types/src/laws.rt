@@ -1,4 +1,5 @@
 ghost use Rattle.tg_explain_types.specs.laws.Distances.{TestsOneEdit, TestsTwoEdits};
+ghost use Rattle.tg_explain_types.specs.laws.Types.{TypesAreTold};
 
 /// A law: the test of one edit holds exactly where one edit at most lies between two texts. It does
 /// nothing.
@@ -10,4 +11,10 @@ pub fn one_edit_is_exact()
 /// does nothing.
 pub fn two_edits_are_exact()
     ensures { TestsTwoEdits }
+{}
+
+/// A law: the types that explanations tell, the tests on them and the types of the standard
+/// functions are those of typing. It does nothing.
+pub fn types_are_told()
+    ensures { TypesAreTold }
 {}

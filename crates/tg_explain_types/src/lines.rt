@@ -1,9 +1,13 @@
 ghost use Rattle.std.specs.Prelude.{◌≡◌, ◌≤◌, ◌++◌, IfOk, OnOk, length};
 ghost use Rattle.tg_explain_types.specs.Lines as lines;
+ghost use Rattle.tg_explain_types.specs.NameTexts as name_texts;
 
 use crate::declarations::{Declaration, Sort};
 use crate::details::{TypeDetail, word_at};
 use crate::names::{Near, Wanted, near_text, spelled};
+use crate::type_texts::{
+    put_before, put_difference, put_fields, put_judged, put_limit, put_outside,
+};
 use std::alloc::Global;
 use tg_base::Memory;
 use tg_explain::{place_in, put, put_count, put_line, put_place, put_quoted};
@@ -29,6 +33,14 @@ pub fn type_lines(
         TypeDetail::Counts(given, wanted, near) => {
             put_counts(&mut line, text, *given, *wanted, *near)?;
         }
+        TypeDetail::Judged(judgement) => put_judged(&mut line, text, *judgement)?,
+        TypeDetail::Fields(owner, fields) => {
+            put_fields(&mut line, text, *owner, fields.as_slice())?;
+        }
+        TypeDetail::Differs(difference) => put_difference(&mut line, text, *difference)?,
+        TypeDetail::Before(ident) => put_before(&mut line, text, *ident)?,
+        TypeDetail::Outside(function, open) => put_outside(&mut line, text, *function, *open)?,
+        TypeDetail::Limit(limit) => put_limit(&mut line, *limit)?,
         TypeDetail::Nothing => return Ok(all),
     }
     put_line(&mut all, &line)?;
@@ -79,9 +91,9 @@ fn put_more_names(line: &mut Vec<u8>, text: &[u8], near: &[Near]) -> Result<(), 
 }
 
 /// Puts a name at the end, with its place where it is declared in the text.
-fn put_name(line: &mut Vec<u8>, text: &[u8], near: Near) -> Result<(), Memory>
+pub(crate) fn put_name(line: &mut Vec<u8>, text: &[u8], near: Near) -> Result<(), Memory>
     requires { length text.now ≤ 262144 }
-    ensures { OnOk result (line.new.items ≡ line.old.items ++ lines.name_text text.now near) }
+    ensures { OnOk result (line.new.items ≡ line.old.items ++ name_texts.name_text text.now near) }
 {
     match near {
         Near::Declared(ident) => {

@@ -1,4 +1,4 @@
-use Rattle.std.proofs.Common.{◌≡◌, ◌++◌, filter, map, take}
+use Rattle.std.proofs.Common.{◌≡◌, filter, map, take}
 use Rattle.tg_explain_types.specs.declared.names.Near.TheVariants.{Declared}
 use Rattle.tg_explain_types.specs.Names.{is_wanted}
 use Rattle.tg_explain_types.proofs.names.candidates.Given as goal
