@@ -1,5 +1,5 @@
 -- The parts and the functions of a declaration before others.
-use Rattle.std.proofs.Common.{◌≡◌, ◌++◌, ◌∷◌, ℕ, List, [], refl, sym, ap}
+use Rattle.std.proofs.Common.{◌≡◌, ◌++◌, ◌∷◌, ℕ, List, refl, sym, ap}
 use Rattle.std.proofs.lemmas.List.{append-nil}
 use Rattle.tg_syntax.specs.declared.trees.Dec.{Dec, Types, Variable', Functions}
 use Rattle.tg_syntax.specs.Tree.{Decs, no_decs}

@@ -1,1 +1,2 @@
 mod Declaring
+mod Translated

@@ -1,5 +1,5 @@
 use Rattle.std.proofs.Common.{arith}
-use Rattle.tg_base.proofs.LineLemmas.{line_fits, column_fits, line_more_yes, line_more_no, column_more_yes, column_more_no}
+use Rattle.tg_base.proofs.LineLemmas.{line_fits, column_fits}
 use Rattle.tg_variables.proofs.placing.places_of.Goals as goal
 
 pub overflow_add-line : goal.overflow_add-line
