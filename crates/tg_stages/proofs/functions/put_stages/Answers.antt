@@ -29,6 +29,6 @@ returns c =
     function_told c.args.passes c.args.long c.args.heading.now (slice_get c.args.own.now c.args.at) c.as_slice-names.result.now
     (plain_fragment c.args.one) (plain_fragment c.in_ok-prepared.prepared)
     (plain_function c.put_flat.new.frame (code_of c.in_ok-flat.flat.items)) c.args.allocation.now _ _ _ _ _ _ _
-    (c.as_slice-names.ensures ∙ c.in_ok-names.ensures.names) c.in_ok-prepared.ensures.prepared c.in_ok-flat.ensures.flat
+    (c.as_slice-names.ensures.value ∙ c.in_ok-names.ensures.names) c.in_ok-prepared.ensures.prepared c.in_ok-flat.ensures.flat
     c.in_ok-put_heading.ensures c.in_ok-names.ensures.text c.in_ok-prepared.ensures.text
     c.in_ok-flat.ensures.text (rw c.deref.ensures.value at c.in_ok-put_instructions.ensures) c.in_ok-put_allocated.ensures

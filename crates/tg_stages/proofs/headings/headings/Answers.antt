@@ -19,4 +19,4 @@ put_source-requires-clause-within c =
 
 pub put_source-requires-clause-places : goal.put_source-requires-clause-places
 put_source-requires-clause-places c =
-    subst (λ (ps : List Place). ArePlaces c.args.text.now ps) (sym c.as_slice.ensures) c.in_ok-places.ensures
+    subst (λ (ps : List Place). ArePlaces c.args.text.now ps) (sym c.as_slice.ensures.value) c.in_ok-places.ensures

@@ -90,4 +90,4 @@ returns c =
     (headings c.args.text.now checked.names body) c.as_slice-own.result.now (variables c.args.text.now checked.notes body) c.loop-one.yielded all.functions.items all.literals.items (fragments_of checked.notes body)
     c.args.allocations.now c.loop-one.at c.loop-one.shown.items c.loop-one.invariant.at (every ∙ c.into_iter-one-iterator.ensures.into_iter_gives.0)
     c.in_ok-functions.ensures.fragments c.requires.each c.in_ok-all.ensures
-    (c.as_slice-own.ensures ∙ c.in_ok-own.ensures) c.in_ok-long.ensures c.loop-one.invariant.tell
+    (c.as_slice-own.ensures.value ∙ c.in_ok-own.ensures) c.in_ok-long.ensures c.loop-one.invariant.tell
