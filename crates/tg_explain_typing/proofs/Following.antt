@@ -1,5 +1,5 @@
 -- One step from a name to the next.
-use Rattle.std.proofs.Common.{◌≡◌, ℕ, zero, suc, ◌-◌, ◌<◌, List, refl, ap, ◌∙◌, arith}
+use Rattle.std.proofs.Common.{◌≡◌, ℕ, zero, suc, ◌-◌, ◌<◌, List, ap, ◌∙◌, arith}
 use Rattle.tg_syntax.specs.declared.tokens.Ident.{Ident}
 use Rattle.tg_explain_typing.specs.declared.types.Ty.{Ty}
 use Rattle.tg_explain_typing.specs.declared.facts.Meaning.{Meaning}

@@ -1,5 +1,5 @@
 -- Types as explanations tell them, and when they go together (Appel, appendix A.1).
-use Rattle.std.specs.Prelude.{ℕ, ◌==◌, ◌||◌, Bool, true, false}
+use Rattle.std.specs.Prelude.{◌==◌, ◌||◌, Bool, true, false}
 use Rattle.tg_explain_typing.specs.declared.types.Ty.{Ty}
 use Rattle.tg_explain_typing.specs.declared.types.Ty.TheVariants.{Int, Text, Nil, Nothing}
 use Rattle.tg_explain_typing.specs.declared.types.Ty.TheVariants.{Record, Array}

@@ -1,4 +1,4 @@
-use Rattle.std.proofs.Common.{◌≡◌, drop, []}
+use Rattle.std.proofs.Common.{◌≡◌, drop}
 use Rattle.tg_explain_typing.specs.Finding as finding
 use Rattle.tg_explain_typing.proofs.finding.judged_record.Given as goal
 

@@ -1,4 +1,4 @@
-use Rattle.std.proofs.Common.{◌∙◌, ◌≡◌, ◌+◌, ◌<◌, length, ap, arith}
+use Rattle.std.proofs.Common.{◌∙◌, ap, arith}
 use Rattle.tg_syntax.specs.glue.Plain.{plain}
 use Rattle.tg_explain_typing.specs.Synthesis.{exp_type}
 use Rattle.tg_explain_typing.proofs.Lists.{last_one, last_step, last_end, last_of_items}
