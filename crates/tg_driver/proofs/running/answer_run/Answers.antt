@@ -1,15 +1,18 @@
+use Rattle.tg_command.specs.Commands.{asked_of}
+use Rattle.tg_driver.specs.Calls.{shelf_of}
 use Rattle.tg_driver.proofs.AnswerLemmas.{of_text, of_unread}
 use Rattle.tg_driver.proofs.GivenTexts.{gives_run, gives_unread}
 use Rattle.tg_driver.proofs.running.answer_run.Goals as goal
 
 pub returns-in-Ok-clause-due : goal.returns-in-Ok-clause-due
-returns-in-Ok-clause-due g c = of_text _ _ _ _ _ _ (rw c.as_str.ensures.value at c.in-Ok.ensures.front) (rw c.deref.ensures.value at c.run_text.ensures.due)
+returns-in-Ok-clause-due g c = of_text _ _ _ _ _ _ (rw c.as_str.ensures.value at c.in-Ok.ensures.front) (rw c.deref.ensures.value at c.run_text-answer.ensures.due)
 
 pub returns-in-Err-clause-due : goal.returns-in-Err-clause-due
 returns-in-Err-clause-due g c = rw c.unread.ensures (of_unread _ _ _ _ _ (rw c.as_str.ensures.value at c.in-Err.ensures.cause))
 
 pub returns-in-Ok-clause-source : goal.returns-in-Ok-clause-source
-returns-in-Ok-clause-source g c = gives_run _ _ _ _ _ _ _ (rw c.as_str.ensures.value at c.in-Ok.ensures.front) (rw c.deref.ensures.value at c.run_text.ensures.due)
+returns-in-Ok-clause-source g c = gives_run _ _ _ _ _ _ _ (rw c.as_str.ensures.value at c.in-Ok.ensures.front) (rw c.deref.ensures.value at c.run_text-answer.ensures.due)
 
 pub returns-in-Err-clause-source : goal.returns-in-Err-clause-source
-returns-in-Err-clause-source g c = rw c.unread.ensures (gives_unread _ _ _ _)
+returns-in-Err-clause-source g c =
+    rw c.unread.ensures (gives_unread (shelf_of g.H.Shelf.files g.H.Shelf.faults c.args.shelf.now c.read_file.new.self) (asked_of c.args.command.now).file _ _)
