@@ -20,7 +20,11 @@ use Rattle.tg_driver.specs.GenMode.{IsGeneratedBy}
 use Rattle.tg_driver.specs.RunMode.{IsRunBy}
 use Rattle.tg_driver.specs.Runs.{RunRelation}
 use Rattle.tg_driver.specs.Writing.{TextRelation, IsWritten}
-use Rattle.tg_driver.specs.glue.PrivateCalls.{OrMemory, GivesText, unread_answer}
+use Rattle.tg_driver.specs.Telling.{IsTold}
+use Rattle.tg_driver.specs.glue.PrivateCalls.{OrMemory, GivesText, unread_answer, IsReported, itself}
+use Rattle.tg_driver.specs.glue.Watched.{TellAfter}
+use Rattle.tg_machine.specs.declared.fetches.Seen.{Seen}
+use Rattle.tg_profiler.specs.Watching.{Report}
 use Rattle.tg_driver.specs.glue.Explanations.{IsExplainedText}
 use Rattle.tg_driver.proofs.Complete.{Summed, cut, summed, summed_by}
 
@@ -104,3 +108,15 @@ asked_text flags text f explanation on why = record { asked = λ _. why; unasked
 pub other_text : (flags : Flags) (text : List ℕ) (answer : Answer) → ((f : Fault) → answer ≡ Faulty f → ⊥) → IsExplainedText flags text answer []
 other_text flags text (Faulty f) other = absurd (other f refl)
 other_text flags text _ other = refl
+
+-- of an answer that is no end of a run watchers tell nothing, and its line is told alone
+pub untold : {W : Type 0} (stands : W → List Seen → ℕ → Type 0) (report : W → Report) (watchers : List W) (answer : Answer) (reports : List ℕ) →
+    ((e : RunEnd) → answer ≡ Finished e → ⊥) → TellAfter stands report watchers answer reports → reports ≡ []
+untold stands report watchers (Finished e) reports other h = absurd (other e refl)
+untold stands report watchers _ reports other h = h
+
+pub reported_alone : {E : Type 0} (err : Stream E) (reports : List ℕ) (answer : Answer) (explanation : List ℕ) (status : ℕ) → reports ≡ [] →
+    IsTold err [] answer explanation status → IsReported err reports answer explanation status
+reported_alone err reports answer explanation status none told =
+    let P : List ℕ → Type 0 = λ r. IsTold err r answer explanation status in
+    itself (subst P (sym none) told)

@@ -29,9 +29,13 @@ last_of : (a b : Bool) → a && b ≡ true → b ≡ true
 last_of true b h = h
 last_of false b h = absurd (cc)
 
-no_explanation : (f : Flags) (a : Bool) → a && not f.explain ≡ true → f.explain ≡ true → ⊥
-no_explanation f a fit on =
-    let off : not f.explain ≡ true = last_of a (not f.explain) fit in
+first_of : (a b : Bool) → a && b ≡ true → a ≡ true
+first_of true b h = refl
+first_of false b h = absurd (cc)
+
+no_explanation : (f : Flags) (a b : Bool) → a && not f.explain && b ≡ true → f.explain ≡ true → ⊥
+no_explanation f a b fit on =
+    let off : not f.explain ≡ true = last_of a (not f.explain) (first_of (a && not f.explain) b fit) in
     let on_too : not f.explain ≡ false = ap not on in
     let same : false ≡ true = sym on_too ∙ off in
     absurd (cc)
@@ -64,6 +68,6 @@ settled_explanation c a file (Faulty f) explanation good h =
     in_mode Alloc is on e = read_in Alloc is tt e
     in_mode Show is on e = read_in Show is tt e
     in_mode Format is on e = read_in Format is tt e
-    in_mode Exec is on e = absurd (no_explanation a.flags _ (fits Exec is) on)
-    in_mode Gen is on e = absurd (no_explanation a.flags _ (fits Gen is) on)
+    in_mode Exec is on e = absurd (no_explanation a.flags _ _ (fits Exec is) on)
+    in_mode Gen is on e = absurd (no_explanation a.flags _ _ (fits Gen is) on)
 settled_explanation c a file _ explanation good h = h

@@ -34,6 +34,7 @@ pub(crate) fn told(explanation: &Explanation) -> &[u8]
 
 /// What is told behind the line of an answer to a text: of a fault, where the flags ask for it, what
 /// explains it.
+#[tactic(auto, using(crate::proofs::GivenTexts::unasked_text, crate::proofs::GivenTexts::asked_text, crate::proofs::GivenTexts::other_text))]
 pub(crate) fn explain(alloc: Global, flags: Flags, text: &[u8], answer: Answer) -> Explanation
     ensures { IsExplainedText flags text.now answer (text_of result) }
 {

@@ -5,11 +5,11 @@ use Rattle.tg_driver.proofs.GivenTexts.{explained_as}
 use Rattle.tg_driver.proofs.top.answer_words.Goals as goal
 
 pub returns-in-Ok-clause-due : goal.returns-in-Ok-clause-due
-returns-in-Ok-clause-due g c = due_of_mode _ _ _ _ _ _ _ c.in-Ok.ensures.ok c.answer_command.ensures.due
+returns-in-Ok-clause-due g c = due_of_mode _ _ _ _ _ _ _ c.in-Ok.ensures.ok c.answer_command-answer.ensures.due
 
 pub returns-in-Ok-clause-explained : goal.returns-in-Ok-clause-explained
 returns-in-Ok-clause-explained g c =
-    explained_as _ _ _ _ _ _ c.in-Ok.ensures.ok c.answer_command.ensures.source (rw c.deref.ensures.value at c.explain.ensures)
+    explained_as _ _ _ _ _ _ c.in-Ok.ensures.ok c.answer_command-answer.ensures.source (rw c.deref.ensures.value at c.explain.ensures)
 
 pub returns-in-Err-Usage-clause-due : goal.returns-in-Err-Usage-clause-due
 returns-in-Err-Usage-clause-due g c =
