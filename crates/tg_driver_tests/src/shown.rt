@@ -47,7 +47,7 @@ static TOLD: [(&str, &str); 13] = [
         "let type r={x:int} var a:=r{x=7} in exit(a.x) end",
     ),
     (
-        "    addiu t0:n, $zero, 0  # defines t0:n\n",
+        "    addiu t0:n, $zero, 0  # defines t0:n  # uses $zero\n",
         "let var n:=0 in while n<9 do n:=n+1 end",
     ),
     (
