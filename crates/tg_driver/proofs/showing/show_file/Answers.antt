@@ -13,7 +13,9 @@ pub returns-in-Err-clause-due : goal.returns-in-Err-clause-due
 returns-in-Err-clause-due g c = rw c.unread.ensures (of_unread _ _ _ _ _ (rw c.as_str.ensures.value at c.in-Err.ensures.cause))
 
 pub returns-in-Ok-clause-source : goal.returns-in-Ok-clause-source
-returns-in-Ok-clause-source g c = gives_written _ _ _ _ _ _ (rw c.as_str.ensures.value at c.in-Ok.ensures.front) (rw c.deref.ensures.value at c.show_source-answer.ensures.due)
+returns-in-Ok-clause-source g c =
+    gives_written (shelf_of g.H.Shelf.files g.H.Shelf.faults c.args.shelf.now c.read_file.new.self) (asked_of c.args.command.now).file _ _ _ _
+    (rw c.as_str.ensures.value at c.in-Ok.ensures.front) (rw c.deref.ensures.value at c.show_source-answer.ensures.due)
 
 pub returns-in-Err-clause-source : goal.returns-in-Err-clause-source
 returns-in-Err-clause-source g c =
