@@ -12,7 +12,8 @@ returns-in-Err-clause-due g c = rw c.unread.ensures (of_unread _ _ _ _ _ (rw c.a
 
 pub returns-in-Ok-clause-source : goal.returns-in-Ok-clause-source
 returns-in-Ok-clause-source g c =
-    gives_run (shelf_of g.H.Shelf.files g.H.Shelf.faults c.args.shelf.now c.read_file.new.self) (asked_of c.args.command.now).file _ _ _ _ _
+    gives_run (shelf_of g.H.Shelf.files g.H.Shelf.faults c.args.shelf.now c.read_file.new.self) (asked_of c.args.command.now).file _ _
+    (asked_of c.args.command.now) _ _
     (rw c.as_str.ensures.value at c.in-Ok.ensures.front) (rw c.deref.ensures.value at c.run_text-answer.ensures.due)
 
 pub returns-in-Err-clause-source : goal.returns-in-Err-clause-source
