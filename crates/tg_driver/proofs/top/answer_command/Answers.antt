@@ -128,8 +128,12 @@ generate_to-requires-clause-number g c = c.requires.number c.in-Gen.is
 
 pub returns-in-Exec-clause-source : goal.returns-in-Exec-clause-source
 returns-in-Exec-clause-source g c =
-    gives_executed _ _ _ _ c.args.source.now.items c.answer_exec.result c.answer_exec.ensures.due
+    let shelf = shelf_of g.H.Shelf.files g.H.Shelf.faults c.args.shelf.now c.answer_exec.new.shelf in
+    let asked = asked_of c.args.command.now in
+    gives_executed shelf asked.file _ asked c.args.source.now.items c.answer_exec.result c.answer_exec.ensures.due
 
 pub returns-in-Gen-clause-source : goal.returns-in-Gen-clause-source
 returns-in-Gen-clause-source g c =
-    gives_generated _ _ (Builds _ _) _ _ c.args.source.now.items c.generate_to.result c.generate_to.ensures.due
+    let shelf = shelf_of g.H.Shelf.files g.H.Shelf.faults c.args.shelf.now c.args.shelf.now in
+    let asked = asked_of c.args.command.now in
+    gives_generated shelf asked.file (Builds _ _) _ asked c.args.source.now.items c.generate_to.result c.generate_to.ensures.due
