@@ -180,12 +180,28 @@ fn answer_command<H: Shelf, I: Source, O: Sink>(
     match command.mode {
         Mode::Check => answer_check(alloc, command, shelf, source),
         Mode::Build => {
-            answer_written(alloc, command, shelf, streams, policy, Wanted::Assembly, source)
+            answer_written(
+                alloc,
+                command,
+                shelf,
+                streams,
+                policy,
+                Wanted::Assembly,
+                source,
+            )
         }
         Mode::Run => answer_run(alloc, command, shelf, streams, policy, watchers, source),
         Mode::Exec => answer_exec(alloc, command, shelf, streams, watchers),
         Mode::Alloc => {
-            answer_written(alloc, command, shelf, streams, policy, Wanted::Allocations, source)
+            answer_written(
+                alloc,
+                command,
+                shelf,
+                streams,
+                policy,
+                Wanted::Allocations,
+                source,
+            )
         }
         Mode::Show => answer_show(alloc, command, shelf, streams, policy, source),
         Mode::Gen => generate_to(alloc, command, streams, policy),

@@ -162,7 +162,13 @@ fn tells(rt: &impl Abort, alloc: Global, mode: &str, text: &[u8], told: &str) ->
 }
 
 /// Without the flag a mode tells the first of these lines alone.
-fn tells_one(rt: &impl Abort, alloc: Global, mode: &str, text: &[u8], told: &str) -> Result<(), Fail> {
+fn tells_one(
+    rt: &impl Abort,
+    alloc: Global,
+    mode: &str,
+    text: &[u8],
+    told: &str,
+) -> Result<(), Fail> {
     let words = format!(in alloc; "tiger|{mode}|FILE")?;
     let seen = call(alloc, words.as_str(), Outside::of(text))?;
     let (line, _) = told.split_once('\n').ok_or("no line")?;
