@@ -2,7 +2,6 @@
 use Rattle.std.proofs.Common.{ℕ, ◌≡◌, ◌≤◌, ◌⊎◌, inl, inr, Bool, false, List, [], ◌++◌, Option, Some, None, take, append-nil, refl, sym, subst, arith}
 use Rattle.std.specs.Io.KnownBytes.{Appends}
 use Rattle.tg_base.specs.Causes.{Rose}
-use Rattle.tg_base.specs.Files.{Files, IsFilePrefix}
 use Rattle.tg_machine_state.specs.declared.ends.RunEnd.{RunEnd}
 use Rattle.tg_machine_state.specs.declared.ends.RunEnd.TheVariants.{Exit, Break, Overflow, HeapFull, StackFull, StepLimit, BadAddress, Unaligned, BadWord}
 use Rattle.tg_machine_state.specs.declared.ends.RunEnd.TheVariants.{BadService, ReadFault, WriteFault}

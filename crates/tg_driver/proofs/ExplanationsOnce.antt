@@ -1,10 +1,10 @@
 -- A text has at most one explanation, and at S1 it tells exactly what can follow.
-use Rattle.std.proofs.Common.{ℕ, ◌≡◌, ◌≢◌, ◌<◌, ◌≤◌, ◌⊎◌, inl, inr, List, [], ◌∷◌, ◌++◌, Option, Some, None, refl, sym, ap, subst, ◌∙◌, arith}
+use Rattle.std.proofs.Common.{ℕ, ◌≡◌, ◌<◌, ◌≤◌, ◌⊎◌, inl, inr, List, [], ◌∷◌, ◌++◌, Option, Some, None, refl, sym, ap, subst, ◌∙◌, arith}
 use Rattle.std.specs.Prelude.{MatchOption}
 use Rattle.tg_syntax.specs.declared.tokens.Token.TheVariants.{End}
 use Rattle.tg_syntax.specs.declared.tokens.Spanned.{Spanned}
 use Rattle.tg_syntax.specs.Tree.{Exp}
-use Rattle.tg_syntax.specs.SyntaxFaults.{HasNoEnd, EndsOnce, IsAt, HasUnexpected}
+use Rattle.tg_syntax.specs.SyntaxFaults.{HasNoEnd, EndsOnce, IsAt}
 use Rattle.tg_syntax_laws.specs.laws.Places.{StandFrom}
 use Rattle.tg_syntax_laws.proofs.Standing.{tokens_stand}
 use Rattle.tg_lexer.proofs.TokenEnds.{ends_once}

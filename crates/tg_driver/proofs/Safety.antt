@@ -35,7 +35,7 @@ use Rattle.tg_driver.specs.OfFiles.{OfFile, unreadable, read}
 use Rattle.tg_driver.specs.glue.PrivateCalls.{HasStarted}
 use Rattle.tg_driver.specs.Statuses.{status_of}
 use Rattle.tg_driver.specs.Endings.{end_status, break_status}
-use Rattle.tg_driver.specs.Runs.{HasRun, HasBareRun, HasRunBy}
+use Rattle.tg_driver.specs.Runs.{HasRun, HasRunBy}
 use Rattle.tg_driver.specs.laws.Settled.{Tells, outcome_on, world_in, plain_progress}
 use Rattle.tg_driver.specs.Watching.{if_watched}
 use Rattle.tg_driver.specs.CheckMode.{IsChecked}
@@ -58,7 +58,7 @@ use Rattle.tg_driver.specs.laws.Safe.{IsCausedEnd, IsCaused, IsExit, SomeFailed,
 use Rattle.tg_driver.proofs.AnswerLemmas.{left_alone, stays_in_gen}
 use Rattle.tg_driver.proofs.ExactRuns.{read_cause, write_cause, run_of}
 use Rattle.tg_driver.proofs.FlagLemmas.{plain_in_run}
-use Rattle.tg_driver.proofs.ToldInputs.{OnInput, on_input}
+use Rattle.tg_driver.proofs.ToldInputs.{on_input}
 use Rattle.tg_driver.proofs.Watched.{due_more}
 use Rattle.tg_driver.proofs.Complete.{none_taken, rose_later, no_read, Summed, cut, summed, summed_by}
 use Rattle.tg_profiler.proofs.Pieces.{front_later}

@@ -27,7 +27,7 @@ use Rattle.tg_driver.specs.Calls.{Stream, stream_of, Streams, streams_of, Shelve
 use Rattle.tg_driver.specs.OfFiles.{OfFile, unreadable, read}
 use Rattle.tg_driver.specs.glue.PrivateCalls.{HasStarted, IsRunOrMemory, OrMemory}
 use Rattle.tg_driver.specs.Passes.{passes_of}
-use Rattle.tg_driver.specs.Runs.{RunRelation, HasBareRun, HasRunBy}
+use Rattle.tg_driver.specs.Runs.{RunRelation, HasBareRun}
 use Rattle.tg_driver.specs.RunMode.{IsRunBy}
 use Rattle.tg_driver.specs.GenMode.{IsGeneratedBy}
 use Rattle.tg_driver.specs.Writing.{TextRelation, Texts, IsWritten}
