@@ -10,3 +10,6 @@ pub mod CodeStays
 pub mod Lasting
 mod Ending
 mod FetchExamples
+mod FirstRows
+mod TwoRows
+mod Leaping

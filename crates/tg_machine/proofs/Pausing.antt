@@ -2,8 +2,10 @@
 use Rattle.std.proofs.Common.{◌≡◌, ◌<◌, ◌+◌, ℕ, zero, suc, List, Option, Bool, arith, sym, subst}
 use Rattle.tg_machine_state.specs.State.{MachineState}
 use Rattle.tg_machine_state.specs.Services.{Step, Goes}
+use Rattle.tg_machine_state.specs.declared.ends.RunEnd.{RunEnd}
 use Rattle.tg_isa.specs.Effects.{step}
-use Rattle.tg_machine.specs.glue.Pauses.{RunsTo}
+use Rattle.tg_machine.specs.declared.pauses.Pause.TheVariants.{Due, Ended}
+use Rattle.tg_machine.specs.glue.Pauses.{Pauses, RunsTo}
 use Rattle.tg_machine.proofs.Reached.{Reached, reached_goes}
 
 -- one step more
@@ -33,3 +35,23 @@ step_goes old new runs = subst (λ s. step s ≡ Goes new) runs.1 runs.2
 pub step_is : (k : ℕ) (old mid : MachineState) (d : Step) → k < 1 → RunsTo k old mid → step mid ≡ d → step old ≡ d
 step_is zero old mid d lt runs h = subst (λ s. step s ≡ d) runs h
 step_is (suc k) old mid d lt runs h = let none : suc k ≡ zero = omega (arith, lt) in cc none
+
+-- so many steps, and then so many
+pub runs_add : (m k : ℕ) (s mid t : MachineState) → RunsTo m s mid → RunsTo k mid t → RunsTo (m + k) s t
+runs_add m zero s mid t r q =
+    let same : m + zero ≡ m = omega arith in
+    rw (same, q) r
+runs_add m (suc k) s mid t r q =
+    let same : m + suc k ≡ suc (m + k) = omega arith in
+    subst (λ j. RunsTo j s t) (sym same) (q.0, runs_add m k s mid q.0 r q.1, q.2)
+
+-- so many steps, and then how a run pauses
+pub then_due : (m n k : ℕ) (s mid t : MachineState) → RunsTo m s mid → Pauses n mid t (Due k) → Pauses (m + n) s t (Due (m + k))
+then_due m n k s mid t r q =
+    let lt : m + k < m + n = omega (arith, q.1) in
+    (q.0, lt, runs_add m k s mid q.0 r q.2, q.3)
+
+pub then_ended : (m n : ℕ) (e : RunEnd) (s mid t : MachineState) → RunsTo m s mid → Pauses n mid t (Ended e) → Pauses (m + n) s t (Ended e)
+then_ended m n e s mid t r q =
+    let lt : m + q.0 < m + n = omega (arith, q.2) in
+    (m + q.0, q.1, lt, runs_add m q.0 s mid q.1 r q.3, q.4, q.5)

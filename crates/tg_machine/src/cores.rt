@@ -9,13 +9,15 @@ ghost use Rattle.tg_machine.specs.mirror.Rows.{address, row_at};
 ghost use Rattle.tg_machine_state.specs.Services.{take_heap};
 ghost use Rattle.tg_machine_state.specs.State as state;
 
+use crate::pairs::first_of;
 use crate::rows::Row;
+use crate::spots::index_of;
 use crate::stacks::Stack;
 use crate::words::{offset, remainder, set_word, word_at};
 use std::marker::Model;
 use tg_base::{product, quot};
 use tg_isa::Reg;
-use tg_machine_state::{CODE_BASE, HEAP_BASE, RunEnd, STACK_REACH, STACK_TOP, STATICS_BASE};
+use tg_machine_state::{HEAP_BASE, RunEnd, STACK_REACH, STACK_TOP, STATICS_BASE};
 
 /// A program in memory with its registers. Each word of code stands beside its row.
 #[derive(Drop)]
@@ -176,11 +178,9 @@ impl Core {
     pub fn row_at(&self, place: u32) -> Option<Row>
         ensures { result ≡ row_at self.now.code place }
     {
-        // The two lowest bits go to the front: a place between two words is beyond all code.
-        let above = place.wrapping_sub(CODE_BASE);
-        let index = (above / 4 + above % 4 * 1073741824) as usize;
+        let index = index_of(place);
         if index < self.rows.len() {
-            Some(self.rows[index])
+            Some(first_of(self.rows[index]))
         } else {
             None
         }

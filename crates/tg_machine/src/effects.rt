@@ -3,11 +3,13 @@ ghost use Rattle.tg_base.specs.Words as words;
 ghost use Rattle.tg_isa.specs.Effects as effects;
 ghost use Rattle.tg_isa.specs.declared.mips.Mips.TheVariants as mips;
 ghost use Rattle.tg_machine.specs.glue.Moves.{RowIsDone};
+ghost use Rattle.tg_machine.specs.glue.Strides.{OnwardIsDone};
 ghost use Rattle.tg_machine.specs.mirror.Rows as rows;
 ghost use Rattle.tg_machine_state.specs.Services.{Goes};
 ghost use Rattle.tg_machine_state.specs.State as state;
 
 use crate::cores::Core;
+use crate::onward::Onward;
 use crate::rows::Row;
 use crate::words::extend_byte;
 use tg_base::{add, exact_difference, exact_sum, less_signed, less_unsigned, sub};
@@ -19,155 +21,171 @@ use tg_machine_state::RunEnd;
 impl Core {
     /// Puts a value into a register.
     #[inline(always)]
-    fn put(&mut self, number: Reg, value: u32, next: u32) -> Result<u32, RunEnd>
-        ensures { RowIsDone (Goes (state.set_register (state.go self.old next) number value))
+    fn put(&mut self, number: Reg, value: u32, next: u32) -> Onward
+        ensures { OnwardIsDone next
+            (Goes (state.set_register (state.go self.old next) number value))
             result self.new }
     {
         self.set(number, value);
-        Ok(next)
+        Onward::Next
     }
 
     /// Puts an exact result into a register.
     #[inline(always)]
-    fn put_exact(&mut self, number: Reg, value: Option<u32>, next: u32) -> Result<u32, RunEnd>
-        ensures { RowIsDone (effects.put_exact (state.go self.old next) number value)
+    fn put_exact(&mut self, number: Reg, value: Option<u32>, next: u32) -> Onward
+        ensures { OnwardIsDone next (effects.put_exact (state.go self.old next) number value)
             result self.new }
     {
         match value {
             Some(value) => self.put(number, value, next),
-            None => Err(RunEnd::Overflow),
+            None => Onward::Ended(RunEnd::Overflow),
         }
     }
 
     /// Puts the word at an address into a register.
     #[inline(always)]
-    fn put_word(&mut self, number: Reg, address: u32, next: u32) -> Result<u32, RunEnd>
-        ensures { RowIsDone (effects.put (state.go self.old next) number
+    fn put_word(&mut self, number: Reg, address: u32, next: u32) -> Onward
+        ensures { OnwardIsDone next (effects.put (state.go self.old next) number
             (state.load_word (state.go self.old next) address)) result self.new }
     {
         match self.load_word(address) {
             Ok(value) => self.put(number, value, next),
-            Err(end) => Err(end),
+            Err(end) => Onward::Ended(end),
         }
     }
 
     /// Puts the byte at an address into a register.
     #[inline(always)]
-    fn put_byte(&mut self, number: Reg, address: u32, next: u32) -> Result<u32, RunEnd>
-        ensures { RowIsDone (effects.put (state.go self.old next) number
+    fn put_byte(&mut self, number: Reg, address: u32, next: u32) -> Onward
+        ensures { OnwardIsDone next (effects.put (state.go self.old next) number
             (state.load_byte (state.go self.old next) address)) result self.new }
     {
         match self.load_byte(address) {
             Ok(byte) => self.put(number, u32::from(byte), next),
-            Err(end) => Err(end),
+            Err(end) => Onward::Ended(end),
         }
     }
 
     /// Puts the byte at an address into a register, with its sign.
     #[inline(always)]
-    fn put_signed_byte(&mut self, number: Reg, address: u32, next: u32) -> Result<u32, RunEnd>
-        ensures { RowIsDone (effects.put (state.go self.old next) number
+    fn put_signed_byte(&mut self, number: Reg, address: u32, next: u32) -> Onward
+        ensures { OnwardIsDone next (effects.put (state.go self.old next) number
             (effects.extended_load (state.load_byte (state.go self.old next) address)))
             result self.new }
     {
         match self.load_byte(address) {
             Ok(byte) => self.put(number, extend_byte(byte), next),
-            Err(end) => Err(end),
+            Err(end) => Onward::Ended(end),
         }
     }
 
     /// Stores a word.
     #[inline(always)]
-    fn keep_word(&mut self, address: u32, value: u32, next: u32) -> Result<u32, RunEnd>
-        ensures { RowIsDone
+    fn keep_word(&mut self, address: u32, value: u32, next: u32) -> Onward
+        ensures { OnwardIsDone next
             (effects.stored (state.store_word (state.go self.old next) address value))
             result self.new }
     {
         match self.store_word(address, value) {
-            Ok(()) => Ok(next),
-            Err(end) => Err(end),
+            Ok(()) => Onward::Next,
+            Err(end) => Onward::Ended(end),
         }
     }
 
     /// Stores the low byte of a word.
     #[inline(always)]
-    fn keep_byte(&mut self, address: u32, value: u32, next: u32) -> Result<u32, RunEnd>
-        ensures { RowIsDone
+    fn keep_byte(&mut self, address: u32, value: u32, next: u32) -> Onward
+        ensures { OnwardIsDone next
             (effects.stored (state.store_byte (state.go self.old next) address value))
             result self.new }
     {
         match self.store_byte(address, value) {
-            Ok(()) => Ok(next),
-            Err(end) => Err(end),
+            Ok(()) => Onward::Next,
+            Err(end) => Onward::Ended(end),
         }
     }
 
     /// Puts the product of two registers into hi and lo.
     #[inline(always)]
-    fn multiply_to(&mut self, left: Reg, right: Reg, next: u32) -> Result<u32, RunEnd>
-        ensures { RowIsDone (effects.effect (mips.Mult left right) (state.go self.old next))
+    fn multiply_to(&mut self, left: Reg, right: Reg, next: u32) -> Onward
+        ensures { OnwardIsDone next (effects.effect (mips.Mult left right) (state.go self.old next))
             result self.new }
     {
         self.multiply(self.register(left), self.register(right));
-        Ok(next)
+        Onward::Next
     }
 
     /// Puts the quotient and the remainder of two registers into lo and hi.
     #[inline(always)]
-    fn divide_to(&mut self, left: Reg, right: Reg, next: u32) -> Result<u32, RunEnd>
-        ensures { RowIsDone (effects.effect (mips.Div left right) (state.go self.old next))
+    fn divide_to(&mut self, left: Reg, right: Reg, next: u32) -> Onward
+        ensures { OnwardIsDone next (effects.effect (mips.Div left right) (state.go self.old next))
             result self.new }
     {
         self.divide(self.register(left), self.register(right));
-        Ok(next)
+        Onward::Next
     }
 
     /// Goes so many bytes further on, where a test holds. It writes the place into the core too, so
     /// that a compiler leaves the branch, which a processor foresees, and doesn't select a place,
     /// which waits for the test.
     #[inline(always)]
-    fn go_if(&mut self, holds: bool, next: u32, bytes: u32) -> Result<u32, RunEnd>
-        ensures { RowIsDone (rows.further_if holds (state.go self.old next) bytes) result self.new }
+    fn go_if(&mut self, holds: bool, next: u32, bytes: u32) -> Onward
+        ensures { OnwardIsDone next
+            (rows.further_if holds (state.go self.old next) bytes) result self.new }
     {
         if holds {
             let place = add(next, bytes);
             self.place = place;
-            Ok(place)
+            Onward::To(place)
         } else {
-            Ok(next)
+            Onward::Next
         }
     }
 
     /// Puts the next place into a register and goes to another.
     #[inline(always)]
-    fn call(&mut self, link: Reg, place: u32, next: u32) -> Result<u32, RunEnd>
-        ensures { RowIsDone
+    fn call(&mut self, link: Reg, place: u32, next: u32) -> Onward
+        ensures { OnwardIsDone next
             (Goes (state.go (state.set_register (state.go self.old next) link next) place))
             result self.new }
     {
         self.set(link, next);
-        Ok(place)
+        Onward::To(place)
     }
 
     /// Does a row that calls no service, where the step behind it is at `next`, and answers the
-    /// place to go on at. The place in the core isn't read, and may be left as any.
+    /// place to go on at. The place in the core isn't read, and may be left as any. Of a pair the
+    /// first is done.
     #[inline(always)]
     pub fn execute(&mut self, one: Row, next: u32) -> Result<u32, RunEnd>
         requires { one ≢ Row.Syscall }
         ensures { RowIsDone (rows.does one (state.go self.old next)) result self.new }
     {
+        match self.act(one, next) {
+            Onward::Next => Ok(next),
+            Onward::To(place) => Ok(place),
+            Onward::Ended(end) => Err(end),
+        }
+    }
+
+    /// The same, and tells how the run goes on.
+    #[inline(always)]
+    pub(crate) fn act(&mut self, one: Row, next: u32) -> Onward
+        requires { one ≢ Row.Syscall }
+        ensures { OnwardIsDone next (rows.does one (state.go self.old next)) result self.new }
+    {
         match one {
-            Row::Sll(rd, rt, shamt) => self.put(
+            Row::Sll(rd, rt, shamt) | Row::SllAddu(rd, rt, shamt) => self.put(
                 rd,
                 self.register(rt).wrapping_shl(shamt.get()),
                 next,
             ),
             Row::Srl(rd, rt, shamt) => self.put(rd, self.register(rt) >> shamt.get(), next),
             Row::Sra(rd, rt, shamt) => self.put(rd, shift_signed(self.register(rt), shamt), next),
-            Row::Jr(rs) => Ok(self.register(rs)),
+            Row::Jr(rs) => Onward::To(self.register(rs)),
             Row::Jalr(rd, rs) => self.call(rd, self.register(rs), next),
             Row::Syscall => unreachable!(),
-            Row::Break(code) => Err(RunEnd::Break(code.get())),
+            Row::Break(code) => Onward::Ended(RunEnd::Break(code.get())),
             Row::Mfhi(rd) => self.put(rd, self.hi(), next),
             Row::Mflo(rd) => self.put(rd, self.lo(), next),
             Row::Mult(rs, rt) => self.multiply_to(rs, rt, next),
@@ -182,23 +200,30 @@ impl Core {
                 exact_difference(self.register(rs), self.register(rt)),
                 next,
             ),
-            Row::Addu(rd, rs, rt) => self.put(rd, add(self.register(rs), self.register(rt)), next),
+            Row::Addu(rd, rs, rt)
+            | Row::AdduLw(rd, rs, rt)
+            | Row::AdduSw(rd, rs, rt)
+            | Row::AdduJ(rd, rs, rt) => self.put(
+                rd,
+                add(self.register(rs), self.register(rt)),
+                next,
+            ),
             Row::Subu(rd, rs, rt) => self.put(rd, sub(self.register(rs), self.register(rt)), next),
             Row::And(rd, rs, rt) => self.put(rd, self.register(rs) & self.register(rt), next),
             Row::Or(rd, rs, rt) => self.put(rd, self.register(rs) | self.register(rt), next),
             Row::Xor(rd, rs, rt) => self.put(rd, self.register(rs) ^ self.register(rt), next),
             Row::Nor(rd, rs, rt) => self.put(rd, !(self.register(rs) | self.register(rt)), next),
-            Row::Slt(rd, rs, rt) => self.put(
+            Row::Slt(rd, rs, rt) | Row::SltBranch(rd, rs, rt) => self.put(
                 rd,
                 u32::from(less_signed(self.register(rs), self.register(rt))),
                 next,
             ),
-            Row::Sltu(rd, rs, rt) => self.put(
+            Row::Sltu(rd, rs, rt) | Row::SltuBranch(rd, rs, rt) => self.put(
                 rd,
                 u32::from(less_unsigned(self.register(rs), self.register(rt))),
                 next,
             ),
-            Row::J(target) => Ok(jump(next, target)),
+            Row::J(target) => Onward::To(jump(next, target)),
             Row::Jal(target) => self.call(Reg::RA, jump(next, target), next),
             Row::Beq(rs, rt, bytes) => self.go_if(
                 self.register(rs) == self.register(rt),
@@ -215,8 +240,13 @@ impl Core {
             Row::Bltz(rs, bytes) => self.go_if(less_signed(self.register(rs), 0), next, bytes),
             Row::Bgez(rs, bytes) => self.go_if(!less_signed(self.register(rs), 0), next, bytes),
             Row::Addi(rt, rs, word) => self.put_exact(rt, exact_sum(self.register(rs), word), next),
-            Row::Addiu(rt, rs, word) => self.put(rt, add(self.register(rs), word), next),
-            Row::Slti(rt, rs, word) => self.put(
+            Row::Addiu(rt, rs, word)
+            | Row::AddiuBranch(rt, rs, word)
+            | Row::AddiuAddiu(rt, rs, word)
+            | Row::AddiuJal(rt, rs, word)
+            | Row::AddiuLw(rt, rs, word)
+            | Row::AddiuJr(rt, rs, word) => self.put(rt, add(self.register(rs), word), next),
+            Row::Slti(rt, rs, word) | Row::SltiBranch(rt, rs, word) => self.put(
                 rt,
                 u32::from(less_signed(self.register(rs), word)),
                 next,
@@ -231,19 +261,26 @@ impl Core {
             Row::Xori(rt, rs, number) => self.put(rt, self.register(rs) ^ number.get(), next),
             Row::Lui(rt, word) => self.put(rt, word, next),
             Row::Lb(rt, rs, word) => self.put_signed_byte(rt, self.address(rs, word), next),
-            Row::Lbu(rt, rs, word) => self.put_byte(rt, self.address(rs, word), next),
-            Row::Lw(rt, rs, word) => self.put_word(rt, self.address(rs, word), next),
-            Row::Sb(rt, rs, word) => self.keep_byte(
+            Row::Lbu(rt, rs, word) | Row::LbuSb(rt, rs, word) => self.put_byte(
+                rt,
+                self.address(rs, word),
+                next,
+            ),
+            Row::Lw(rt, rs, word)
+            | Row::LwSltu(rt, rs, word)
+            | Row::LwLw(rt, rs, word)
+            | Row::LwAddiu(rt, rs, word) => self.put_word(rt, self.address(rs, word), next),
+            Row::Sb(rt, rs, word) | Row::SbAddiu(rt, rs, word) => self.keep_byte(
                 self.address(rs, word),
                 self.register(rt),
                 next,
             ),
-            Row::Sw(rt, rs, word) => self.keep_word(
+            Row::Sw(rt, rs, word) | Row::SwSw(rt, rs, word) => self.keep_word(
                 self.address(rs, word),
                 self.register(rt),
                 next,
             ),
-            Row::Unknown(word) => Err(RunEnd::BadWord(word)),
+            Row::Unknown(word) => Onward::Ended(RunEnd::BadWord(word)),
         }
     }
 }

@@ -11,13 +11,17 @@ mod fetches;
 mod laws;
 mod loading;
 mod machines;
+mod onward;
+mod pairs;
 mod pauses;
 mod preparing;
 mod rows;
 mod services;
+mod spots;
 mod stacks;
 mod status;
 mod steps;
+mod strides;
 mod words;
 
 pub use cores::Core;

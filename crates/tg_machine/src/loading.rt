@@ -14,11 +14,12 @@ ghost use Rattle.std.specs.Prelude.{
   [],
 };
 ghost use Rattle.tg_machine.specs.Machines.{loaded};
-ghost use Rattle.tg_machine.specs.mirror.Rows.{row_of};
+ghost use Rattle.tg_machine.specs.mirror.Rows.{first_of, row_of};
 ghost use Rattle.tg_machine_state.specs.State.{most_bytes, most_room, most_words, padded, initial_machine};
 
 use crate::cores::Core;
 use crate::machines::Machine;
+use crate::pairs::pair_all;
 use crate::preparing::row_of;
 use crate::rows::Row;
 use crate::stacks::Stack;
@@ -70,7 +71,7 @@ impl Core {
             lo: 0,
             place: image.entry,
             code: words.to_vec(alloc)?,
-            rows: rows_of(alloc, words)?,
+            rows: paired_rows(alloc, words)?,
             statics: padded(alloc, image.statics.as_slice())?,
             heap: Vec::with_capacity(alloc, heap as usize)?,
             room: heap,
@@ -91,9 +92,18 @@ fn padded(alloc: Global, bytes: &[u8]) -> Result<Vec<u8>, Memory>
     Ok(all)
 }
 
+/// The row of each word, as the first of a pair where it is one.
+fn paired_rows(alloc: Global, code: &[u32]) -> Result<Vec<Row>, Memory>
+    ensures { IfOk result (λ v. map first_of v.items ≡ map row_of code.now) }
+{
+    let mut rows = rows_of(alloc, code)?;
+    pair_all(&mut rows);
+    Ok(rows)
+}
+
 /// The row of each word.
 fn rows_of(alloc: Global, code: &[u32]) -> Result<Vec<Row>, Memory>
-    ensures { IfOk result (λ v. v.items ≡ map row_of code.now) }
+    ensures { IfOk result (λ v. map first_of v.items ≡ map row_of code.now) }
 {
     let mut rows = Vec::with_capacity(alloc, code.len())?;
     for word in code {

@@ -6,6 +6,9 @@ use tg_isa::{Bits, Reg};
 /// An immediate that has a sign is extended to a word, a branch has its distance in bytes from the
 /// next instruction, and a jump has its target in bytes within the 256 MiB of the next instruction.
 /// Registers stand before the word, so that no row takes more room.
+///
+/// The last rows are the first of a pair: each is the instruction that its name begins with, and
+/// tells what stands behind it, so that a run does the two at once.
 #[derive(Clone, Copy)]
 pub enum Row {
     Sll(Reg, Reg, Bits<5>),
@@ -52,4 +55,40 @@ pub enum Row {
     Sw(Reg, Reg, u32),
     /// A word that the table doesn't have.
     Unknown(u32),
+    /// `addiu`, with a `beq` or `bne` behind it.
+    AddiuBranch(Reg, Reg, u32),
+    /// `addiu`, with an `addiu` behind it.
+    AddiuAddiu(Reg, Reg, u32),
+    /// `addiu`, with a `jal` behind it.
+    AddiuJal(Reg, Reg, u32),
+    /// `addiu`, with a `lw` behind it.
+    AddiuLw(Reg, Reg, u32),
+    /// `addiu`, with a `jr` behind it.
+    AddiuJr(Reg, Reg, u32),
+    /// `slt`, with a `beq` or `bne` behind it.
+    SltBranch(Reg, Reg, Reg),
+    /// `sltu`, with a `beq` or `bne` behind it.
+    SltuBranch(Reg, Reg, Reg),
+    /// `slti`, with a `beq` or `bne` behind it.
+    SltiBranch(Reg, Reg, u32),
+    /// `sll`, with an `addu` behind it.
+    SllAddu(Reg, Reg, Bits<5>),
+    /// `addu`, with a `lw` behind it.
+    AdduLw(Reg, Reg, Reg),
+    /// `addu`, with a `sw` behind it.
+    AdduSw(Reg, Reg, Reg),
+    /// `addu`, with a `j` behind it.
+    AdduJ(Reg, Reg, Reg),
+    /// `lw`, with a `sltu` behind it.
+    LwSltu(Reg, Reg, u32),
+    /// `lw`, with a `lw` behind it.
+    LwLw(Reg, Reg, u32),
+    /// `lw`, with an `addiu` behind it.
+    LwAddiu(Reg, Reg, u32),
+    /// `sw`, with a `sw` behind it.
+    SwSw(Reg, Reg, u32),
+    /// `lbu`, with an `sb` behind it.
+    LbuSb(Reg, Reg, u32),
+    /// `sb`, with an `addiu` behind it.
+    SbAddiu(Reg, Reg, u32),
 }

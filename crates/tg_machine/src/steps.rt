@@ -10,6 +10,9 @@ use crate::status::Status;
 use tg_base::{Sink, Source};
 use tg_machine_state::RunEnd;
 
+/// The most steps that are counted at once.
+const PART: u64 = 4294967296;
+
 impl Core {
     /// Makes one step. `ended` says whether a read has met the end of the input.
     pub fn step<I: Source, O: Sink>(
@@ -23,7 +26,7 @@ impl Core {
             self.new input.old input.new out.old out.new written.old written.new
             ended.old ended.new }
     {
-        match self.run_alone(1) {
+        match self.step_alone() {
             Pause::Due(_) => self.service(input, out, written, ended),
             Pause::Ended(end) => Err(end),
             Pause::Made => Ok(()),
@@ -48,15 +51,16 @@ impl Core {
     {
         let mut made = 0;
         while made < steps {
-            match self.run_alone(steps - made) {
+            let part = (steps - made).min(PART);
+            match self.run_alone(part as usize) {
                 Pause::Due(more) => {
                     if let Err(end) = self.service(input, out, written, ended) {
                         return Status::Ended(end);
                     }
-                    made += more + 1;
+                    made += more as u64 + 1;
                 }
                 Pause::Ended(end) => return Status::Ended(end),
-                Pause::Made => return Status::Running,
+                Pause::Made => made += part,
             }
         }
         Status::Running

@@ -70,6 +70,28 @@ known word None = row.Unknown word
 abbrev pub row_of : ℕ → Row
 row_of word = known word (decode_of word)
 
+-- the row of a word alone, whatever stands behind it
+abbrev pub first_of : Row → Row
+first_of (row.AddiuBranch rt rs word) = row.Addiu rt rs word
+first_of (row.AddiuAddiu rt rs word) = row.Addiu rt rs word
+first_of (row.AddiuJal rt rs word) = row.Addiu rt rs word
+first_of (row.AddiuLw rt rs word) = row.Addiu rt rs word
+first_of (row.AddiuJr rt rs word) = row.Addiu rt rs word
+first_of (row.SltBranch rd rs rt) = row.Slt rd rs rt
+first_of (row.SltuBranch rd rs rt) = row.Sltu rd rs rt
+first_of (row.SltiBranch rt rs word) = row.Slti rt rs word
+first_of (row.SllAddu rd rt shamt) = row.Sll rd rt shamt
+first_of (row.AdduLw rd rs rt) = row.Addu rd rs rt
+first_of (row.AdduSw rd rs rt) = row.Addu rd rs rt
+first_of (row.AdduJ rd rs rt) = row.Addu rd rs rt
+first_of (row.LwSltu rt rs word) = row.Lw rt rs word
+first_of (row.LwLw rt rs word) = row.Lw rt rs word
+first_of (row.LwAddiu rt rs word) = row.Lw rt rs word
+first_of (row.SwSw rt rs word) = row.Sw rt rs word
+first_of (row.LbuSb rt rs word) = row.Lbu rt rs word
+first_of (row.SbAddiu rt rs word) = row.Sb rt rs word
+first_of one = one
+
 -- the row at a place of the code
 abbrev pub row_there : List ℕ → Option ℕ → Option Row
 row_there code (Some i) = Some (row_of (slice_index code (i / 4)))
@@ -143,3 +165,21 @@ does (row.Lw rt rs word) s = put s rt (load_word s (address s rs word))
 does (row.Sb rt rs word) s = stored (store_byte s (address s rs word) (register s rt))
 does (row.Sw rt rs word) s = stored (store_word s (address s rs word) (register s rt))
 does (row.Unknown word) s = Ends (BadWord word)
+does (row.AddiuBranch rt rs word) s = Goes (set_register s rt (add (register s rs) word))
+does (row.AddiuAddiu rt rs word) s = Goes (set_register s rt (add (register s rs) word))
+does (row.AddiuJal rt rs word) s = Goes (set_register s rt (add (register s rs) word))
+does (row.AddiuLw rt rs word) s = Goes (set_register s rt (add (register s rs) word))
+does (row.AddiuJr rt rs word) s = Goes (set_register s rt (add (register s rs) word))
+does (row.SltBranch rd rs rt) s = effect (mips.Slt rd rs rt) s
+does (row.SltuBranch rd rs rt) s = effect (mips.Sltu rd rs rt) s
+does (row.SltiBranch rt rs word) s = Goes (set_register s rt (flag (less (register s rs) word)))
+does (row.SllAddu rd rt shamt) s = effect (mips.Sll rd rt shamt) s
+does (row.AdduLw rd rs rt) s = effect (mips.Addu rd rs rt) s
+does (row.AdduSw rd rs rt) s = effect (mips.Addu rd rs rt) s
+does (row.AdduJ rd rs rt) s = effect (mips.Addu rd rs rt) s
+does (row.LwSltu rt rs word) s = put s rt (load_word s (address s rs word))
+does (row.LwLw rt rs word) s = put s rt (load_word s (address s rs word))
+does (row.LwAddiu rt rs word) s = put s rt (load_word s (address s rs word))
+does (row.SwSw rt rs word) s = stored (store_word s (address s rs word) (register s rt))
+does (row.LbuSb rt rs word) s = put s rt (load_byte s (address s rs word))
+does (row.SbAddiu rt rs word) s = stored (store_byte s (address s rs word) (register s rt))
