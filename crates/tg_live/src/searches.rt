@@ -33,8 +33,8 @@ ghost use Rattle.tg_live.specs.mirror.Search.{
 };
 ghost use Rattle.tg_live.specs.mirror.Search as search;
 
-use crate::operands::is_among;
-use crate::tables::{OperandTable, PlaceTable};
+use crate::definitions::DefinitionTable;
+use crate::tables::PlaceTable;
 use std::alloc::Global;
 use std::marker::Model;
 use tg_base::Memory;
@@ -72,7 +72,7 @@ impl Search {
     pub(crate) fn run(
         &mut self,
         list: &[Instr],
-        defs: &OperandTable,
+        defs: &DefinitionTable,
         before: &PlaceTable,
         one: &Opnd,
         stamp: usize,
@@ -137,7 +137,7 @@ impl Search {
     fn visit(
         &mut self,
         list: &[Instr],
-        defs: &OperandTable,
+        defs: &DefinitionTable,
         before: &PlaceTable,
         one: &Opnd,
         stamp: usize,
@@ -148,7 +148,7 @@ impl Search {
         requires within { IsTrue (have_rows_below (length self.old.marks) before.now) }
         ensures { OnOk result (self.new ≡ visit list.now one.now stamp before.now place self.old) }
     {
-        if is_among(one, defs.row(place as usize)) {
+        if defs.has(place as usize, one) {
             return Ok(());
         }
         self.enter_all(stamp, before.row(place as usize))

@@ -78,15 +78,6 @@ impl Model for OperandTable {
 }
 
 impl OperandTable {
-    /// No rows, and room for so many.
-    pub(crate) fn with_room(alloc: Global, count: usize) -> Result<OperandTable, Memory>
-        ensures { IfOk result (λ t. t ≡ []) }
-    {
-        Ok(OperandTable {
-            rows: Vec::with_capacity(alloc, count)?,
-        })
-    }
-
     /// So many empty rows.
     pub(crate) fn with_rows(alloc: Global, count: usize) -> Result<OperandTable, Memory>
         ensures { IfOk result (λ t. t ≡ replicate count []) }
@@ -121,16 +112,6 @@ impl OperandTable {
         ensures { OnOk result (self.new ≡ push_at self.old at one) }
     {
         self.rows[at].push(one)?;
-        Ok(())
-    }
-
-    /// Puts the row of what an instruction defines after the last row.
-    pub(crate) fn push_definitions(&mut self, alloc: Global, one: &Instr) -> Result<(), Memory>
-        ensures { OnOk result (self.new ≡ self.old ++ defs_of one.now ∷ []) }
-    {
-        let defs = one.defs(alloc);
-        self.rows
-            .push(SmallVec::from_slice(alloc, defs.as_slice())?)?;
         Ok(())
     }
 }
