@@ -1,5 +1,4 @@
-ghost use Rattle.std.specs.Prelude.{◌≡◌, ◌<◌, [], ◌∷◌, ◌++◌, length, replicate, OnOk, IfOk};
-ghost use Rattle.tg_instr.specs.Uses.{defs_of};
+ghost use Rattle.std.specs.Prelude.{◌≡◌, ◌<◌, ◌-◌, [], ◌∷◌, true, length, replicate, OnOk, IfOk};
 ghost use Rattle.tg_live.specs.glue.Tables.{row, push_at};
 
 use smallvec::SmallVec;
@@ -49,6 +48,15 @@ impl PlaceTable {
             Some(places) => places.as_slice(),
             None => &[],
         }
+    }
+
+    /// Whether the row of a place has the place before it alone.
+    pub(crate) fn is_straight(&self, at: u32) -> bool
+        ensures some { result ≡ true → 0 < at }
+        ensures alone { result ≡ true → row self.now at ≡ (at - 1) ∷ [] }
+    {
+        let row = self.row(at as usize);
+        row.len() == 1 && at > 0 && row[0] == at - 1
     }
 
     /// Puts a place at the end of a row.
