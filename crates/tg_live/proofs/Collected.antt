@@ -2,7 +2,7 @@
 use Rattle.std.proofs.Common.{◌≡◌, ◌<◌, ◌≤◌, ◌+◌, ◌⊎◌, ℕ, zero, suc, Bool, true, false, not, nat_eq, nat_lt, ◌&&◌, ◌||◌, List, [], ◌∷◌, ◌++◌}
 use Rattle.std.proofs.Common.{length, replicate, refl, sym, ap, ◌∙◌, subst, arith, ⊎_elim, inl, inr}
 use Rattle.std.specs.List.{list_all, list_any}
-use Rattle.std.proofs.lemmas.Bool.{and_parts, and_from, cases_eq, cases_lt, cases_Bool, lt-ltb, ltb-true, ne_eqb, eq-eqb, or_left, or_right, both_ways}
+use Rattle.std.proofs.lemmas.Bool.{and_parts, and_from, cases_eq, cases_lt, cases_Bool, lt-ltb, ltb-true, ne_eqb, eq-eqb, or_left, or_right, both_ways, false≢true}
 use Rattle.std.proofs.lemmas.List.{length-replicate, get_or_past}
 use Rattle.tg_instr.specs.declared.instr.Instr.{Instr}
 use Rattle.tg_instr.specs.declared.operands.Opnd.{Opnd}
@@ -87,11 +87,27 @@ all_of p (k ∷ ks) h =
 live_within : (all : List Instr) (x : Opnd) (q : ℕ) → IsLiveOut all q x → q < length all
 live_within all x q live = goes_within all q live.next live.goes
 
-pub found_within : (all : List Instr) (x : Opnd) (n : ℕ) (old : List ℕ) (f : Found) → IsSearched all x n old f →
-    length old ≡ length all → list_all (λ k. nat_lt k (length f.marks)) f.places ≡ true
-found_within all x n old f s e = all_of (λ k. nat_lt k (length f.marks)) f.places (λ q h.
-    let l = live_within all x q ((s.live q).0 (s.listed q ∙ h)) in
-    lt-ltb q (length f.marks) (omega (arith, l, e, s.size)))
+module _ (all : List Instr) (x : Opnd) (n : ℕ) (old : List ℕ) (f : Found) (s : IsSearched all x n old f)
+    (e : length old ≡ length all) where
+  mark_within : (q : ℕ) → has_stamp n f.marks q ≡ true → nat_lt q (length f.marks) ≡ true
+  mark_within q m =
+      let l = live_within all x q ((s.live q).0 m) in
+      let k = s.size in
+      lt-ltb q (length f.marks) (omega (arith, l, e, k))
+
+  pub firsts_within : list_all (λ k. nat_lt k (length f.marks)) f.firsts ≡ true
+  firsts_within = all_of (λ k. nat_lt k (length f.marks)) f.firsts (λ q h. mark_within q (s.is_found.first q h))
+
+  pub lasts_within : list_all (λ k. nat_lt k (length f.marks)) f.lasts ≡ true
+  lasts_within = all_of (λ k. nat_lt k (length f.marks)) f.lasts (λ q h. mark_within q (s.is_found.last q h))
+
+-- two tests are the same beside a third, where each holds if the other does and the third
+same_beside : (a b t : Bool) → (a ≡ true → b ≡ true) → (b ≡ true → t ≡ false → a ≡ true) → (a && not t) ≡ (b && not t)
+same_beside true true t i j = refl
+same_beside true false t i j = absurd (false≢true (i refl))
+same_beside false true true i j = refl
+same_beside false true false i j = absurd (false≢true (j refl refl))
+same_beside false false t i j = refl
 
 any_zero : (ks : List ℕ) → list_any (λ p. nat_eq 0 (suc p)) ks ≡ false
 any_zero [] = refl
@@ -119,26 +135,33 @@ module _ (all : List Instr) (n : ℕ) (old : List ℕ) (comes goes comes2 goes2 
   module _ (c : AreCollected all n old comes goes) (s : IsSearched all x (n + 1) old f)
       (sized : length comes2 ≡ length comes) (sized_goes : length goes2 ≡ length goes)
       (come : (q : ℕ) → row comes2 q
-      ≡ grown (list_any (nat_eq q) f.places && not (has_stamp_before (n + 1) f.marks q)) x (row comes q))
+      ≡ grown (list_any (nat_eq q) f.firsts && not (has_stamp_before (n + 1) f.marks q)) x (row comes q))
       (go : (q : ℕ) → q < length goes → row goes2 q
-      ≡ grown (list_any (λ p. nat_eq q (suc p)) f.places && not (has_stamp (n + 1) f.marks q)) x (row goes q)) where
+      ≡ grown (list_any (λ p. nat_eq q (suc p)) f.lasts && not (has_stamp (n + 1) f.marks q)) x (row goes q)) where
     same_before : (q : ℕ) → has_stamp_before (n + 1) f.marks q ≡ live_before live q
     same_before zero = refl
     same_before (suc q) = refl
 
-    found_before : (q : ℕ) → list_any (λ p. nat_eq q (suc p)) f.places ≡ live_before live q
-    found_before zero = any_zero f.places
-    found_before (suc q) = any_suc q f.places ∙ sym (s.listed q)
+    found_here : (q : ℕ) → (list_any (nat_eq q) f.firsts && not (has_stamp_before (n + 1) f.marks q))
+        ≡ (live q && not (has_stamp_before (n + 1) f.marks q))
+    found_here q = same_beside _ _ _ (s.is_found.first q) (s.is_found.begins q)
+
+    found_before : (q : ℕ) → (list_any (λ p. nat_eq q (suc p)) f.lasts && not (live q))
+        ≡ (live_before live q && not (live q))
+    found_before zero = ap (λ b. b && not (live 0)) (any_zero f.lasts)
+    found_before (suc q) =
+        ap (λ b. b && not (live (suc q))) (any_suc q f.lasts)
+        ∙ same_beside _ _ _ (s.is_found.last q) (s.is_found.ends q)
 
     comes_there : (q : ℕ) → row comes2 q ≡ grown (live q && not (live_before live q)) x (row comes q)
     comes_there q =
         come q
-        ∙ (ap (λ b. grown (b && not (has_stamp_before (n + 1) f.marks q)) x (row comes q)) (sym (s.listed q))
+        ∙ (ap (λ b. grown b x (row comes q)) (found_here q)
         ∙ ap (λ b. grown (live q && not b) x (row comes q)) (same_before q))
 
     goes_there : (q : ℕ) → q < length goes →
         row goes2 q ≡ grown (live_before live q && not (live q)) x (row goes q)
-    goes_there q l = go q l ∙ ap (λ b. grown (b && not (live q)) x (row goes q)) (found_before q)
+    goes_there q l = go q l ∙ ap (λ b. grown b x (row goes q)) (found_before q)
 
     lower_by : (rows : Sets) → ((q : ℕ) → are_lower n (row rows q) ≡ true) → (q : ℕ) →
         are_lower (number_of x) (row rows q) ≡ true

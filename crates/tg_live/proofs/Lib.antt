@@ -2,6 +2,7 @@
 pub mod Reach
 pub mod Numbers
 pub mod LiveExamples
+mod Defining
 mod Turned
 mod Places
 mod Marked

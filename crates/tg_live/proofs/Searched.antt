@@ -1,360 +1,355 @@
 -- What the search for the places of one operand keeps, and what it ends with.
-use Rattle.std.proofs.Common.{◌≡◌, ◌<◌, ◌≤◌, ◌+◌, ◌⊎◌, ℕ, zero, suc, Bool, true, false, nat_eq, nat_lt, ◌||◌, cond, List, [], ◌∷◌, ◌++◌, length}
-use Rattle.std.proofs.Common.{get_or, slice_set, drop, refl, sym, ap, ◌∙◌, subst, arith, ⊎_elim, inl, inr}
-use Rattle.std.specs.List.{list_any, list_all}
-use Rattle.std.proofs.lemmas.Bool.{cases_eq, and_parts, false≢true, or_left, or_right, or_cases, eq-eqb, ne_eqb, eqb-true, ltb-true, both_ways}
-use Rattle.std.proofs.lemmas.List.{drop_more, length_push, get_or_append_left, get_or-set_same, get_or-set_other, length-set}
+use Rattle.std.proofs.Common.{◌≡◌, ◌<◌, ◌≤◌, ◌+◌, ◌-◌, ◌⊎◌, ℕ, zero, suc, Bool, true, false, not, nat_eq, ◌&&◌, ◌||◌, cond, List, [], ◌∷◌, ◌++◌, length}
+use Rattle.std.proofs.Common.{get_or, drop, refl, sym, ap, ◌∙◌, subst, arith, ⊎_elim, inl, inr, append-nil, append_assoc}
+use Rattle.std.specs.List.{list_any}
+use Rattle.std.proofs.lemmas.Bool.{cases_eq, cases_lt, cases_Bool, and_parts, and_from, false≢true, or_left, or_right, or_cases, eq-eqb, eqb-true, ne_eqb, both_ways, not_from_false}
+use Rattle.std.proofs.lemmas.List.{drop_more, drop_all, drop-append-le, length-append}
+use Rattle.std.proofs.lemmas.List.Folds.{list_any-append}
 use Rattle.tg_instr.specs.declared.instr.Instr.{Instr}
 use Rattle.tg_instr.specs.declared.operands.Opnd.{Opnd}
 use Rattle.tg_live.specs.Flow.{goes_on}
 use Rattle.tg_live.specs.Live.{is_used, is_defined, IsLiveOut}
 use Rattle.tg_live.specs.glue.Tables.{Table, row, IsBefore}
-use Rattle.tg_live.specs.mirror.Search.{Found, found, stamp_at, has_stamp, enter, enter_all, enter_before, visit, IsSearched}
-use Rattle.tg_live.proofs.Reach.{live_before_use, live_before, least}
-use Rattle.tg_live.proofs.Turned.{has_push}
+use Rattle.tg_live.specs.mirror.Search.{Found, found, stamp_at, has_stamp, has_stamp_before, has, one_unless, unmarked}
+use Rattle.tg_live.specs.mirror.Search.{IsPassed, IsFound, IsClosed, AreEntered, IsSearched}
+use Rattle.tg_live.proofs.Reach.{live_before, least}
 use Rattle.tg_live.proofs.Places.{goes_within}
 
-abbrev has : ℕ → List ℕ → Bool
-has p ks = list_any (nat_eq p) ks
+-- Booleans.
 
-or_false : (b : Bool) → (b || false) ≡ b
-or_false true = refl
-or_false false = refl
+none_of : (a b : Bool) → (a || b) ≡ false → (a ≡ false) × (b ≡ false)
+none_of true b e = absurd (both_ways _ e refl)
+none_of false b e = (refl, e)
 
--- the index of what a list has
-pub index_of : (p : ℕ) (ks : List ℕ) → has p ks ≡ true → (k : ℕ) × (k < length ks) × (get_or ks k 0 ≡ p)
-index_of p [] h = absurd (false≢true h)
-index_of p (k ∷ ks) h =
-    ⊎_elim (λ e. (0, omega arith, sym (eqb-true p k e)))
-    (λ r. let i = index_of p ks r in (suc i.0, omega (arith, i.1), i.2))
-    (or_cases (nat_eq p k) (has p ks) h)
+off_by : (a b : Bool) → (a ≡ true → b ≡ true) → b ≡ false → a ≡ false
+off_by true b i e = absurd (both_ways _ e (i refl))
+off_by false b i e = refl
 
-pub has_at : (ks : List ℕ) (k : ℕ) → k < length ks → has (get_or ks k 0) ks ≡ true
+pub has_at : (ks : List ℕ) (k : ℕ) → k < length ks → has ks (get_or ks k 0) ≡ true
 has_at [] k l = absurd (omega arith)
 has_at (j ∷ ks) zero l = or_left (nat_eq j j) _ (eq-eqb j j refl)
 has_at (j ∷ ks) (suc k) l = or_right (nat_eq (get_or ks k 0) j) _ (has_at ks k (omega arith))
 
--- How many places don't have the stamp: each entry takes one away, and adds a place.
+has_left : (q : ℕ) (ks js : List ℕ) → has ks q ≡ true → has (ks ++ js) q ≡ true
+has_left q ks js h = list_any-append (nat_eq q) ks js ∙ or_left (has ks q) (has js q) h
 
-abbrev pub one_unless : Bool → ℕ
-one_unless true = 0
-one_unless false = 1
+has_last : (q k : ℕ) (ks : List ℕ) → q ≡ k → has (ks ++ k ∷ []) q ≡ true
+has_last q k ks e =
+    list_any-append (nat_eq q) ks (k ∷ []) ∙ or_right (has ks q) _ (or_left (nat_eq q k) false (eq-eqb q k e))
 
-abbrev pub unmarked : (stamp : ℕ) → List ℕ → ℕ
-unmarked n [] = 0
-unmarked n (m ∷ rest) = one_unless (nat_eq n m) + unmarked n rest
+-- one of a list with one more
+has_push : (q k : ℕ) (ks : List ℕ) → has (ks ++ k ∷ []) q ≡ true → (has ks q ≡ true) ⊎ (q ≡ k)
+has_push q k ks h =
+    ⊎_elim (λ a. inl a)
+    (λ b. ⊎_elim (λ e. inr (eqb-true q k e)) (λ n. absurd (false≢true n)) (or_cases (nat_eq q k) false b))
+    (or_cases (has ks q) _ (sym (list_any-append (nat_eq q) ks (k ∷ [])) ∙ h))
 
-abbrev pub room : (stamp : ℕ) → Found → ℕ
-room n f = unmarked n f.marks + length f.places
+-- How many places don't have the stamp.
 
-unmarked_set : (n : ℕ) (marks : List ℕ) (at : ℕ) → at < length marks → has_stamp n marks at ≡ false →
-    unmarked n (slice_set marks at n) + 1 ≡ unmarked n marks
-unmarked_set n [] at l e = absurd (omega arith)
-unmarked_set n (m ∷ rest) zero l e =
-    let u = ap one_unless e in
-    let v = ap one_unless (eq-eqb n n refl) in
-    omega (arith, u, v)
-unmarked_set n (m ∷ rest) (suc at) l e =
-    let h = unmarked_set n rest at (omega arith) e in
-    omega (arith, h)
+unmarked_by : (a b : Bool) (m k : ℕ) → (a ≡ true → b ≡ true) → k ≤ m → one_unless b + k ≤ one_unless a + m
+unmarked_by true true m k i l = omega (arith, l)
+unmarked_by true false m k i l = absurd (false≢true (i refl))
+unmarked_by false true m k i l = omega (arith, l)
+unmarked_by false false m k i l = omega (arith, l)
 
-room_enter : (n at : ℕ) (f : Found) → at < length f.marks → room n (enter n at f) ≡ room n f
-room_enter n at f l = by (has_stamp n f.marks at) refl
-  where
-    by : (b : Bool) → has_stamp n f.marks at ≡ b →
-        room n (cond b f (found (slice_set f.marks at n) (f.places ++ at ∷ []))) ≡ room n f
-    by true e = refl
-    by false e = omega (arith, unmarked_set n f.marks at l e, length_push f.places at)
+unmarked_le : (n : ℕ) (ms ks : List ℕ) → length ks ≡ length ms →
+    ((q : ℕ) → has_stamp n ms q ≡ true → has_stamp n ks q ≡ true) → unmarked n ks ≤ unmarked n ms
+unmarked_le n [] [] e h = omega arith
+unmarked_le n [] (k ∷ ks) e h = absurd (omega (arith, e))
+unmarked_le n (m ∷ ms) [] e h = absurd (omega (arith, e))
+unmarked_le n (m ∷ ms) (k ∷ ks) e h =
+    unmarked_by (nat_eq n m) (nat_eq n k) (unmarked n ms) (unmarked n ks) (h 0)
+    (unmarked_le n ms ks (omega (arith, e)) (λ q. h (suc q)))
 
-length-enter : (n at : ℕ) (f : Found) → length (enter n at f).marks ≡ length f.marks
-length-enter n at f = by (has_stamp n f.marks at)
-  where
-    by : (b : Bool) → length (cond b f (found (slice_set f.marks at n) (f.places ++ at ∷ []))).marks ≡ length f.marks
-    by true = refl
-    by false = length-set f.marks at n
+less_by : (a b : Bool) (m k : ℕ) → (a ≡ true → b ≡ true) → k + 1 ≤ m → one_unless b + k + 1 ≤ one_unless a + m
+less_by true true m k i l = omega (arith, l)
+less_by true false m k i l = absurd (false≢true (i refl))
+less_by false true m k i l = omega (arith, l)
+less_by false false m k i l = omega (arith, l)
 
-all_below_same : (m n : ℕ) (rows : List ℕ) → m ≡ n → list_all (λ k. nat_lt k n) rows ≡ true →
-    list_all (λ k. nat_lt k m) rows ≡ true
-all_below_same m n rows e h = let P : ℕ → Type 0 = λ i. list_all (λ k. nat_lt k i) rows ≡ true in subst P (sym e) h
+unmarked_less : (n : ℕ) (ms ks : List ℕ) (at : ℕ) → length ks ≡ length ms →
+    ((q : ℕ) → has_stamp n ms q ≡ true → has_stamp n ks q ≡ true) → at < length ms → has_stamp n ms at ≡ false →
+    has_stamp n ks at ≡ true → unmarked n ks + 1 ≤ unmarked n ms
+unmarked_less n [] ks at e h l u m = absurd (omega (arith, l))
+unmarked_less n (m ∷ ms) [] at e h l u t = absurd (omega (arith, e))
+unmarked_less n (m ∷ ms) (k ∷ ks) zero e h l u t =
+    let a = ap one_unless u in
+    let b = ap one_unless t in
+    let c = unmarked_le n ms ks (omega (arith, e)) (λ q. h (suc q)) in
+    omega (arith, a, b, c)
+unmarked_less n (m ∷ ms) (k ∷ ks) (suc at) e h l u t =
+    less_by (nat_eq n m) (nat_eq n k) (unmarked n ms) (unmarked n ks) (h 0)
+    (unmarked_less n ms ks at (omega (arith, e)) (λ q. h (suc q)) (omega arith) u t)
 
-pub length-enter_all : (x : ℕ) (rows : List ℕ) (f : Found) → length (enter_all x rows f).marks ≡ length f.marks
-length-enter_all x [] f = refl
-length-enter_all x (at ∷ rows) f = length-enter_all x rows (enter x at f) ∙ length-enter x at f
+-- The place before.
 
-room_enter_all : (x : ℕ) (rows : List ℕ) (f : Found) → list_all (λ k. nat_lt k (length f.marks)) rows ≡ true →
-    room x (enter_all x rows f) ≡ room x f
-room_enter_all x [] f h = refl
-room_enter_all x (at ∷ rows) f h =
-    let k = and_parts (nat_lt at (length f.marks)) (list_all (λ k. nat_lt k (length f.marks)) rows) h in
-    room_enter_all x rows (enter x at f) (all_below_same _ _ rows (length-enter x at f) k.1)
-    ∙ room_enter x at f (ltb-true at (length f.marks) k.0)
+before_suc : (n : ℕ) (ms : List ℕ) (q : ℕ) → 0 < q → has_stamp_before n ms q ≡ has_stamp n ms (q - 1)
+before_suc n ms zero l = absurd (omega (arith, l))
+before_suc n ms (suc q) l = let e : q ≡ suc q - 1 = omega arith in ap (has_stamp n ms) e
 
-pub room_visit : (all : List Instr) (x : Opnd) (n : ℕ) (before : Table) (at : ℕ) (f : Found) →
-    list_all (λ k. nat_lt k (length f.marks)) (row before at) ≡ true →
-    room n (visit all x n before at f) ≡ room n f
-room_visit all x n before at f h = by (is_defined all x at)
-  where
-    by : (b : Bool) → room n (cond b f (enter_all n (row before at) f)) ≡ room n f
-    by true = refl
-    by false = room_enter_all n (row before at) f h
+before_kept : (n : ℕ) (ms ks : List ℕ) → ((q : ℕ) → has_stamp n ms q ≡ true → has_stamp n ks q ≡ true) → (q : ℕ) →
+    has_stamp_before n ms q ≡ true → has_stamp_before n ks q ≡ true
+before_kept n ms ks h zero e = e
+before_kept n ms ks h (suc q) e = h q e
 
-pub length-visit : (all : List Instr) (x : Opnd) (n : ℕ) (before : Table) (at : ℕ) (f : Found) →
-    length (visit all x n before at f).marks ≡ length f.marks
-length-visit all x n before at f = by (is_defined all x at)
-  where
-    by : (b : Bool) → length (cond b f (enter_all n (row before at) f)).marks ≡ length f.marks
-    by true = refl
-    by false = length-enter_all n (row before at) f
+-- a place is one of a run, or stands before or behind it
+place_in : (first last q : ℕ) → ((first ≤ q) × (q ≤ last)) ⊎ ((q < first) ⊎ (last < q))
+place_in first last q =
+    ⊎_elim (λ l. inr (inl l)) (λ l. ⊎_elim (λ k. inr (inr k)) (λ k. inl (l, k)) (cases_lt last q)) (cases_lt q first)
 
 module _ (all : List Instr) (x : Opnd) (n : ℕ) where
   abbrev marks : Found → ℕ → Bool
   marks f q = has_stamp n f.marks q
 
-  -- what has been found so far, from the stamps before the search on
-  pub record IsFound (old : List ℕ) (f : Found) : Type 0 where
-    pub size : length f.marks ≡ length old
-    pub grown : (q : ℕ) → stamp_at f.marks q ≡ cond (marks f q) n (stamp_at old q)
-    pub listed : (q : ℕ) → marks f q ≡ has q f.places
-    pub live : (q : ℕ) → marks f q ≡ true → IsLiveOut all q x
-
-  pub record Extends (f g : Found) : Type 0 where
-    pub marked : (q : ℕ) → marks f q ≡ true → marks g q ≡ true
-    pub kept : (k : ℕ) → k < length f.places → (k < length g.places) × (get_or g.places k 0 ≡ get_or f.places k 0)
-
-  extends_itself : (f : Found) → Extends f f
-  extends_itself f = record { marked = λ q m. m; kept = λ k l. (l, refl) }
-
-  extends_both : (f g h : Found) → Extends f g → Extends g h → Extends f h
-  extends_both f g h a b = record {
-    marked = λ q m. b.marked q (a.marked q m);
-    kept = λ k l. let u = a.kept k l in let v = b.kept k u.0 in (v.0, v.1 ∙ u.1);
-  }
-
-  module _ (old : List ℕ) (f : Found) (s : IsFound old f) (at : ℕ) (l : at < length old) (live_at : IsLiveOut all at
-      x) where
-    within : at < length f.marks
-    within = subst (λ (k : ℕ). at < k) (sym s.size) l
-
-    abbrev g : Found
-    g = found (slice_set f.marks at n) (f.places ++ at ∷ [])
-
-    stamp_same : stamp_at g.marks at ≡ n
-    stamp_same = get_or-set_same f.marks at n 0 within
-
-    stamp_other : (q : ℕ) → (q ≡ at → ⊥) → stamp_at g.marks q ≡ stamp_at f.marks q
-    stamp_other q ne = get_or-set_other f.marks at q n 0 ne
-
-    mark_same : marks g at ≡ true
-    mark_same = eq-eqb n (stamp_at g.marks at) (sym stamp_same)
-
-    mark_other : (q : ℕ) → (q ≡ at → ⊥) → marks g q ≡ marks f q
-    mark_other q ne = ap (nat_eq n) (stamp_other q ne)
-
-    abbrev Grown : (now was : ℕ) → Type 0
-    Grown u v = u ≡ cond (nat_eq n u) n v
-
-    grown_same : Grown (stamp_at g.marks at) (stamp_at old at)
-    grown_same = stamp_same ∙ sym (ap (λ b. cond b n (stamp_at old at)) mark_same)
-
-    new_found : marks f at ≡ false → IsFound old g
-    new_found e = record {
-      size = length-set f.marks at n ∙ s.size;
-      grown = λ q.
-          ⊎_elim (λ same. subst (λ (k : ℕ). Grown (stamp_at g.marks k) (stamp_at old k)) (sym same) grown_same)
-          (λ ne. subst (λ (u : ℕ). Grown u (stamp_at old q)) (sym (stamp_other q ne)) (s.grown q)) (cases_eq q at);
-      listed = λ q.
-          ⊎_elim (λ same. ap (marks g) same
-          ∙ (mark_same ∙ sym (has_push q f.places at ∙ or_right (has q f.places) _ (eq-eqb q at same))))
-          (λ ne. mark_other q ne
-          ∙ (s.listed q
-          ∙ sym (has_push q f.places at
-          ∙ (ap (λ b. has q f.places || b) (ne_eqb q at ne) ∙ or_false _)))) (cases_eq q at);
-      live = λ q m.
-          ⊎_elim (λ same. subst (λ (k : ℕ). IsLiveOut all k x) (sym same) live_at)
-          (λ ne. s.live q (sym (mark_other q ne) ∙ m)) (cases_eq q at);
-    }
-
-    new_extends : marks f at ≡ false → Extends f g
-    new_extends e = record {
-      marked = λ q m. ⊎_elim (λ same. ap (marks g) same ∙ mark_same) (λ ne. mark_other q ne ∙ m) (cases_eq q at);
-      kept = λ k w. (omega (arith, length_push f.places at), get_or_append_left f.places (at ∷ []) 0 k w);
-    }
-
-    -- what an entry leaves
-    pub record IsEntered (h : Found) : Type 0 where
-      pub is_found : IsFound old h
-      pub extends : Extends f h
-      pub marked : marks h at ≡ true
-
-    entered_by : (b : Bool) → marks f at ≡ b → IsEntered (cond b f g)
-    entered_by true e = record { is_found = s; extends = extends_itself f; marked = e }
-    entered_by false e = record { is_found = new_found e; extends = new_extends e; marked = mark_same }
-
-    pub is_entered : IsEntered (enter n at f)
-    is_entered = entered_by (marks f at) refl
-
-  pub record AreEntered (old : List ℕ) (f g : Found) (rows : List ℕ) : Type 0 where
-    pub is_found : IsFound old g
-    pub extends : Extends f g
-    pub marked : (q : ℕ) → has q rows ≡ true → marks g q ≡ true
-
-  pub are_entered : (old : List ℕ) (rows : List ℕ) (f : Found) → IsFound old f →
-      ((q : ℕ) → has q rows ≡ true → (q < length old) × IsLiveOut all q x) → AreEntered old f (enter_all n rows f) rows
-  are_entered old [] f s fit = record {
+  pub entered_itself : (places : ℕ → Bool) (f : Found) → IsFound all x n f →
+      ((q : ℕ) → places q ≡ true → marks f q ≡ true) → AreEntered all x n places f f
+  entered_itself places f s w = record {
     is_found = s;
-    extends = extends_itself f;
-    marked = λ q h. absurd
-        (false≢true h);
+    size = refl;
+    others = λ q. inr refl;
+    kept = λ q m. m;
+    marked = w;
+    more = [];
+    firsts = sym (append-nil f.firsts);
+    closed = λ q m u h. absurd (both_ways _ u m);
+    room = omega arith;
   }
-  are_entered old (at ∷ rows) f s fit =
-      let here = fit at (or_left (nat_eq at at) (has at rows) (eq-eqb at at refl)) in
-      let one = is_entered old f s at here.0 here.1 in
-      let rest =
-      are_entered old rows (enter n at f) one.is_found (λ q h. fit q (or_right (nat_eq q at) (has q rows) h)) in
-      record {
-        is_found = rest.is_found;
-        extends = extends_both f (enter n at f) (enter_all n rows (enter n at f)) one.extends rest.extends;
-        marked = λ q h.
-            ⊎_elim (λ e. rest.extends.marked q (ap (marks (enter n at f)) (eqb-true q at e) ∙ one.marked))
-            (λ r. rest.marked q r) (or_cases (nat_eq q at) (has q rows) h);
-      }
+
+  pub entered_both : (here there places : ℕ → Bool) (f g h : Found) → AreEntered all x n here f g →
+      AreEntered all x n there g h → ((q : ℕ) → places q ≡ true → (here q || there q) ≡ true) →
+      AreEntered all x n places f h
+  entered_both here there places f g h a b w = record {
+    is_found = b.is_found;
+    size = b.size ∙ a.size;
+    others = λ q. ⊎_elim (λ e. inl e) (λ e. ⊎_elim (λ d. inl (e ∙ d)) (λ d. inr (e ∙ d)) (a.others q)) (b.others q);
+    kept = λ q m. b.kept q (a.kept q m);
+    marked = λ q m. ⊎_elim (λ e. b.kept q (a.marked q e)) (λ e. b.marked q e) (or_cases (here q) (there q) (w q m));
+    more = a.more ++ b.more;
+    firsts = b.firsts ∙ (ap (λ ks. ks ++ b.more) a.firsts ∙ append_assoc f.firsts a.more b.more);
+    closed = λ q m u e.
+        let k = none_of (has a.more q) (has b.more q) (sym (list_any-append (nat_eq q) a.more b.more) ∙ e) in
+        ⊎_elim (λ t. (λ d p go. b.kept p (a.closed q t u k.0 d p go))) (λ t. b.closed q m t k.1)
+        (cases_Bool (marks g q));
+    room = let l = length-append a.more b.more in omega (arith, l, a.room, b.room);
+  }
+
+  pub entered_as : (here places : ℕ → Bool) (f g : Found) → ((q : ℕ) → places q ≡ true → here q ≡ true) →
+      AreEntered all x n here f g → AreEntered all x n places f g
+  entered_as here places f g w e = record {
+    is_found = e.is_found;
+    size = e.size;
+    others = e.others;
+    kept = e.kept;
+    marked = λ q p. e.marked q (w q p);
+    more = e.more;
+    firsts = e.firsts;
+    closed = e.closed;
+    room = e.room;
+  }
+
+  -- a new run
+  module _ (before : Table) (is_before : IsBefore all before) (f g : Found) (first last : ℕ)
+      (s : IsFound all x n f) (order : first ≤ last) (inside : last < length f.marks) (live_at : IsLiveOut all last x)
+      (none : marks f last ≡ false)
+      (passed : (q : ℕ) → first < q → q ≤ last → IsPassed all x before q)
+      (size : length g.marks ≡ length f.marks)
+      (inner : (q : ℕ) → first ≤ q → q ≤ last → stamp_at g.marks q ≡ n)
+      (outer : (q : ℕ) → (q < first) ⊎ (last < q) → stamp_at g.marks q ≡ stamp_at f.marks q)
+      (firsts : g.firsts ≡ f.firsts ++ first ∷ []) (lasts : g.lasts ≡ f.lasts ++ last ∷ []) where
+    in_place : (q : ℕ) → first ≤ q → q ≤ last → marks g q ≡ true
+    in_place q a b = eq-eqb n _ (sym (inner q a b))
+
+    out_run : (q : ℕ) → (q < first) ⊎ (last < q) → marks g q ≡ marks f q
+    out_run q w = ap (nat_eq n) (outer q w)
+
+    kept : (q : ℕ) → marks f q ≡ true → marks g q ≡ true
+    kept q m = ⊎_elim (λ w. in_place q w.0 w.1) (λ w. out_run q w ∙ m) (place_in first last q)
+
+    goes_back : (q : ℕ) → first < q → q ≤ last → goes_on all (q - 1) q ≡ true
+    goes_back q a b =
+        sym (is_before (q - 1) q)
+        ∙ (ap (list_any (nat_eq (q - 1))) (passed q a b).alone
+        ∙ or_left (nat_eq (q - 1) (q - 1)) false (eq-eqb (q - 1) (q - 1) refl))
+
+    alone : (q p : ℕ) → first < q → q ≤ last → goes_on all p q ≡ true → p ≡ q - 1
+    alone q p a b go =
+        ⊎_elim (λ e. eqb-true p (q - 1) e) (λ e. absurd (false≢true e))
+        (or_cases (nat_eq p (q - 1)) false
+        (sym (ap (list_any (nat_eq p)) (passed q a b).alone) ∙ (is_before p q ∙ go)))
+
+    live_run : (k q : ℕ) → q + k ≡ last → first ≤ q → IsLiveOut all q x
+    live_run zero q e a = let same : last ≡ q = omega (arith, e) in subst (λ (j : ℕ). IsLiveOut all j x) same live_at
+    live_run (suc k) q e a =
+        let l : first < suc q = omega (arith, a) in
+        let u : suc q ≤ last = omega (arith, e) in
+        let same : suc q - 1 ≡ q = omega arith in
+        let go = subst (λ (j : ℕ). goes_on all j (suc q) ≡ true) same (goes_back (suc q) l u) in
+        live_before all x q (suc q) go (passed (suc q) l u).undefined
+        (live_run k (suc q) (omega (arith, e)) (omega (arith, a)))
+
+    begins_in : (q : ℕ) → first ≤ q → q ≤ last → has_stamp_before n g.marks q ≡ false → has g.firsts q ≡ true
+    begins_in q a b u =
+        ⊎_elim (λ e. ap (λ ks. has ks q) firsts ∙ has_last q first f.firsts e)
+        (λ ne.
+        let l : first < q = omega (arith, a, ne) in
+        absurd (both_ways _ u (before_suc n g.marks q (omega (arith, l))
+        ∙ in_place (q - 1) (omega (arith, l)) (omega (arith, b))))) (cases_eq q first)
+
+    begins_out : (q : ℕ) → marks f q ≡ true → has_stamp_before n g.marks q ≡ false → has g.firsts q ≡ true
+    begins_out q m u =
+        ap (λ ks. has ks q) firsts
+        ∙ has_left q f.firsts _ (s.begins q m (off_by _ _ (before_kept n f.marks g.marks kept q) u))
+
+    ends_in : (q : ℕ) → first ≤ q → q ≤ last → marks g (suc q) ≡ false → has g.lasts q ≡ true
+    ends_in q a b u =
+        ⊎_elim (λ e. ap (λ ks. has ks q) lasts ∙ has_last q last f.lasts e)
+        (λ ne. absurd (both_ways _ u (in_place (suc q) (omega (arith, a)) (omega (arith, b, ne))))) (cases_eq q last)
+
+    ends_out : (q : ℕ) → marks f q ≡ true → marks g (suc q) ≡ false → has g.lasts q ≡ true
+    ends_out q m u =
+        ap (λ ks. has ks q) lasts ∙ has_left q f.lasts _ (s.ends q m (off_by _ _ (kept (suc q)) u))
+
+    found_new : IsFound all x n g
+    found_new = record {
+      live = λ q m.
+          ⊎_elim
+          (λ w. let p = w.1 in live_run (last - q) q (omega (arith, p)) w.0)
+          (λ w. s.live q (sym (out_run q w) ∙ m)) (place_in first last q);
+      first = λ q h.
+          ⊎_elim (λ a. kept q (s.first q a)) (λ e. in_place q (omega (arith, e)) (omega (arith, e, order)))
+          (has_push q first f.firsts (sym (ap (λ ks. has ks q) firsts) ∙ h));
+      last = λ q h.
+          ⊎_elim (λ a. kept q (s.last q a)) (λ e. in_place q (omega (arith, e, order)) (omega (arith, e)))
+          (has_push q last f.lasts (sym (ap (λ ks. has ks q) lasts) ∙ h));
+      begins = λ q m u.
+          ⊎_elim (λ w. begins_in q w.0 w.1 u) (λ w. begins_out q (sym (out_run q w) ∙ m) u)
+          (place_in first last q);
+      ends = λ q m u.
+          ⊎_elim (λ w. ends_in q w.0 w.1 u) (λ w. ends_out q (sym (out_run q w) ∙ m) u)
+          (place_in first last q);
+    }
+
+    closed_in : (q : ℕ) → first ≤ q → q ≤ last → (q ≡ first → ⊥) → IsClosed all x n g q
+    closed_in q a b ne = λ d p go.
+        let l : first < q = omega (arith, a, ne) in
+        let e = alone q p l b go in
+        in_place p (omega (arith, e, l)) (omega (arith, e, b))
+
+    pub entered_run : AreEntered all x n (λ q. nat_eq q last) f g
+    entered_run = record {
+      is_found = found_new;
+      size = size;
+      others = λ q.
+          ⊎_elim (λ w. inl (inner q w.0 w.1)) (λ w. inr (outer q w)) (place_in first last q);
+      kept = kept;
+      marked = λ q e. let k = eqb-true q last e in in_place q (omega (arith, k, order)) (omega (arith, k));
+      more = first ∷ [];
+      firsts = firsts;
+      closed = λ q m u h.
+          ⊎_elim
+          (λ w. closed_in q w.0 w.1 (λ e. both_ways _ h (or_left (nat_eq q first) false (eq-eqb q first e))))
+          (λ w. absurd (both_ways _ u (sym (out_run q w) ∙ m))) (place_in first last q);
+      room =
+          let l = unmarked_less n f.marks g.marks last size kept inside none (in_place last order (omega arith)) in
+          omega (arith, l);
+    }
 
   -- between two places that are visited
   pub record IsSearching (old : List ℕ) (f : Found) (done : ℕ) : Type 0 where
-    pub is_found : IsFound old f
+    pub is_found : IsFound all x n f
+    pub size : length f.marks ≡ length old
+    pub others : (q : ℕ) → (stamp_at f.marks q ≡ n) ⊎ (stamp_at f.marks q ≡ stamp_at old q)
     pub uses : (p : ℕ) → is_used all x p ≡ true → (q : ℕ) → goes_on all q p ≡ true → marks f q ≡ true
-    pub closed : (k : ℕ) → k < done → is_defined all x (get_or f.places k 0) ≡ false → (q : ℕ) →
-        goes_on all q (get_or f.places k 0) ≡ true → marks f q ≡ true
-    pub within : done ≤ length f.places
+    pub closed : (q : ℕ) → marks f q ≡ true → has (drop done f.firsts) q ≡ false → IsClosed all x n f q
+    pub within : done ≤ length f.firsts
 
-  module _ (before : Table) (is_before : IsBefore all before) (old : List ℕ) (size : length old ≡ length all) where
-    -- places before a place that the operand is live into
-    row_fits : (p : ℕ) → ((q : ℕ) → goes_on all q p ≡ true → IsLiveOut all q x) → (q : ℕ) →
-        has q (row before p) ≡ true → (q < length old) × IsLiveOut all q x
-    row_fits p live q h =
-        let g = sym (is_before q p) ∙ h in
-        (subst (λ (k : ℕ). q < k) (sym size) (goes_within all q p g), live q g)
+  abbrev pub room : Found → ℕ
+  room f = unmarked n f.marks + length f.firsts
 
-    pub record AreBefore (f g : Found) (places : List ℕ) : Type 0 where
-      pub is_found : IsFound old g
-      pub extends : Extends f g
-      pub marked : (p : ℕ) → has p places ≡ true → (q : ℕ) → goes_on all q p ≡ true → marks g q ≡ true
-
-    pub are_before : (places : List ℕ) (f : Found) → IsFound old f →
-        ((p : ℕ) → has p places ≡ true → is_used all x p ≡ true) →
-        AreBefore f (enter_before n before places f) places
-    are_before [] f s used = record { is_found = s; extends = extends_itself f; marked = λ p h. absurd (false≢true h) }
-    are_before (p ∷ places) f s used =
-        let u = used p (or_left (nat_eq p p) (has p places) (eq-eqb p p refl)) in
-        let g = enter_all n (row before p) f in
-        let one = are_entered old (row before p) f s (row_fits p (λ q go. live_before_use all x q p go u)) in
-        let rest = are_before places g one.is_found (λ q h. used q (or_right (nat_eq q p) (has q places) h)) in
-        record {
-          is_found = rest.is_found;
-          extends = extends_both f g (enter_before n before places g) one.extends rest.extends;
-          marked = λ r h q go.
-              ⊎_elim (λ e.
-              let e1 = eqb-true r p e in
-              rest.extends.marked q (one.marked q (ap (λ k. has q (row before k)) (sym e1) ∙ (is_before q r ∙ go))))
-              (λ k. rest.marked r k q go) (or_cases (nat_eq r p) (has r places) h);
-        }
-
+  module _ (old : List ℕ) where
     -- the stamps at the start, none of which is this one
-    pub fresh : ((q : ℕ) → has_stamp n old q ≡ false) → IsFound old (found old [])
+    pub fresh : ((q : ℕ) → has_stamp n old q ≡ false) → IsFound all x n (found old [] [])
     fresh none = record {
-      size = refl;
-      grown = λ q. sym (ap (λ b. cond b n (stamp_at old q)) (none q));
-      listed = λ q. none q;
-      live = λ q m. absurd (false≢true (sym (none q) ∙ m));
+      live = λ q m. absurd (both_ways _ (none q) m);
+      first = λ q h. absurd (false≢true h);
+      last = λ q h. absurd (false≢true h);
+      begins = λ q m u. absurd (both_ways _ (none q) m);
+      ends = λ q m u. absurd (both_ways _ (none q) m);
     }
 
-    pub begins : (sites : List ℕ) → ((q : ℕ) → has_stamp n old q ≡ false) →
-        ((p : ℕ) → has p sites ≡ is_used all x p) →
-        IsSearching old (enter_before n before sites (found old [])) 0
-    begins sites none same =
-        let b = are_before sites (found old []) (fresh none) (λ p h. sym (same p) ∙ h) in
-        record {
-          is_found = b.is_found;
-          uses = λ p u q go. b.marked p (same p ∙ u) q go;
-          closed = λ k l. absurd (omega arith);
-          within = omega arith;
-        }
+    used_by : (sites : List ℕ) (p q : ℕ) → has sites p ≡ true → goes_on all q p ≡ true →
+        list_any (goes_on all q) sites ≡ true
+    used_by [] p q h go = absurd (false≢true h)
+    used_by (k ∷ sites) p q h go =
+        ⊎_elim (λ e. or_left (goes_on all q k) _ (let P : ℕ → Type 0 = λ j. goes_on all q j ≡ true in
+        subst P (eqb-true p k e) go))
+        (λ r. or_right (goes_on all q k) _ (used_by sites p q r go)) (or_cases (nat_eq p k) (has sites p) h)
 
-    record IsVisited (f g : Found) (at : ℕ) : Type 0 where
-      is_found : IsFound old g
-      extends : Extends f g
-      marked : is_defined all x at ≡ false → (q : ℕ) → goes_on all q at ≡ true → marks g q ≡ true
-
-    visited : (f : Found) (at : ℕ) → IsFound old f → marks f at ≡ true → (b : Bool) → is_defined all x at ≡ b →
-        IsVisited f (cond b f (enter_all n (row before at) f)) at
-    visited f at s m true e = record {
-      is_found = s;
-      extends = extends_itself f;
-      marked = λ d. absurd (both_ways _ d e);
+    pub begins : (sites : List ℕ) (f : Found) → ((q : ℕ) → has_stamp n old q ≡ false) →
+        ((p : ℕ) → has sites p ≡ is_used all x p) →
+        AreEntered all x n (λ q. list_any (goes_on all q) sites) (found old [] []) f →
+        IsSearching old f 0
+    begins sites f none same e = record {
+      is_found = e.is_found;
+      size = e.size;
+      others = e.others;
+      uses = λ p u q go. e.marked q (used_by sites p q (same p ∙ u) go);
+      closed = λ q m h. e.closed q m (none q) (ap (λ ks. has ks q) (sym e.firsts) ∙ h);
+      within = omega arith;
     }
-    visited f at s m false e =
-        let all_in =
-        are_entered old (row before at) f s (row_fits at (λ q go. live_before all x q at go e (s.live at m))) in
+
+    pub goes_further : (f g : Found) (done : ℕ) → IsSearching old f done → done < length f.firsts →
+        AreEntered all x n (λ q. not (is_defined all x (get_or f.firsts done 0)) && goes_on all q (get_or f.firsts done 0)) f g →
+        IsSearching old g (done + 1)
+    goes_further f g done s l e =
+        let at = get_or f.firsts done 0 in
+        let k : done + 1 ≤ length f.firsts = omega (arith, l) in
+        let sized : length g.firsts ≡ length f.firsts + length e.more =
+        ap length e.firsts ∙ length-append f.firsts e.more in
+        let rest : drop (done + 1) g.firsts ≡ drop (done + 1) f.firsts ++ e.more =
+        ap (drop (done + 1)) e.firsts ∙ drop-append-le (done + 1) f.firsts e.more k in
         record {
-          is_found = all_in.is_found;
-          extends = all_in.extends;
-          marked = λ d q go. all_in.marked q (is_before q at ∙ go);
+          is_found = e.is_found;
+          size = e.size ∙ s.size;
+          others = λ q. ⊎_elim (λ a. inl a) (λ a. ⊎_elim (λ b. inl (a ∙ b)) (λ b. inr (a ∙ b)) (s.others q)) (e.others q);
+          uses = λ p u q go. e.kept q (s.uses p u q go);
+          closed = λ q m h.
+              let none = none_of (has (drop (done + 1) f.firsts) q) (has e.more q)
+              (sym (ap (λ ks. has ks q) rest ∙ list_any-append (nat_eq q) (drop (done + 1) f.firsts) e.more) ∙ h) in
+              let C : ℕ → Type 0 = λ j. IsClosed all x n g j in
+              let here : C at = λ d p go. e.marked p (and_from _ _ (not_from_false _ d) go) in
+              let old_ones : marks f q ≡ true → C q =
+              λ t. ⊎_elim (λ same. subst C (sym same) here)
+              (λ ne.
+              let still : has (drop done f.firsts) q ≡ false =
+              ap (λ ks. has ks q) (drop_more f.firsts done 0 l)
+              ∙ (ap (λ b. b || has (drop (done + 1) f.firsts) q) (ne_eqb q at ne) ∙ none.0) in
+              (λ d p go. e.kept p (s.closed q t still d p go))) (cases_eq q at) in
+              ⊎_elim old_ones (λ u. e.closed q m u none.1) (cases_Bool (marks f q));
+          within = omega (arith, sized, k);
         }
 
-    pub goes_further : (f : Found) (done : ℕ) → IsSearching old f done → done < length f.places →
-        IsSearching old (visit all x n before (get_or f.places done 0) f) (done + 1)
-    goes_further f done s l =
-        let at = get_or f.places done 0 in
-        let m : marks f at ≡ true = s.is_found.listed at ∙ has_at f.places done l in
-        let v = visited f at s.is_found m (is_defined all x at) refl in
-        let g = visit all x n before at f in
-        record {
-          is_found = v.is_found;
-          uses = λ p u q go. v.extends.marked q (s.uses p u q go);
-          closed = λ k w.
-              let kl : k < length f.places = omega (arith, w, l, s.within) in
-              let same = (v.extends.kept k kl).1 in
-              let P : ℕ → Type 0 =
-              λ n. is_defined all x n ≡ false → (q : ℕ) → goes_on all q n ≡ true → marks g q ≡ true in
-              subst P (sym same)
-              (⊎_elim (λ e. subst (λ (n : ℕ). P (get_or f.places n 0)) (sym e) v.marked)
-              (λ ne. (λ d q go. v.extends.marked q (s.closed k (omega (arith, w, ne)) d q go))) (cases_eq k done));
-          within = let h = (v.extends.kept done l).0 in omega (arith, h);
-        }
+    pub comes_nearer : (f g : Found) (done : ℕ) (places : ℕ → Bool) → AreEntered all x n places f g → done < length f.firsts →
+        room g - (done + 1) < room f - done
+    comes_nearer f g done places e l =
+        let sized : length g.firsts ≡ length f.firsts + length e.more =
+        ap length e.firsts ∙ length-append f.firsts e.more in
+        omega (arith, sized, e.room, l)
 
-    closed_all : (f : Found) (done : ℕ) → IsSearching old f done → length f.places ≤ done → (at next : ℕ) →
-        goes_on all at next ≡ true → is_defined all x next ≡ false → marks f next ≡ true → marks f at ≡ true
-    closed_all f done s l at next go d m =
-        let i = index_of next f.places (sym (s.is_found.listed next) ∙ m) in
-        let il : i.0 < done = omega (arith, i.1, l) in
-        s.closed i.0 il (ap (is_defined all x) i.2 ∙ d) at (ap (goes_on all at) i.2 ∙ go)
-
-    others_by : (f : Found) (q : ℕ) (b : Bool) → stamp_at f.marks q ≡ cond b n (stamp_at old q) →
-        (stamp_at f.marks q ≡ n) ⊎ (stamp_at f.marks q ≡ stamp_at old q)
-    others_by f q true e = inl e
-    others_by f q false e = inr e
-
-    pub ends : (f : Found) (done : ℕ) → IsSearching old f done → length f.places ≤ done → IsSearched all x n old f
+    pub ends : (f : Found) (done : ℕ) → IsSearching old f done → length f.firsts ≤ done → IsSearched all x n old f
     ends f done s l = record {
-      size = s.is_found.size;
+      size = s.size;
+      is_found = s.is_found;
       live = λ q. (
         s.is_found.live q,
-        λ live. least all x (marks f) (λ at next go u. s.uses next u at go) (closed_all f done s l) q live,
+        λ live. least all x (marks f) (λ at next go u. s.uses next u at go)
+            (λ at next go d m. s.closed next m (ap (λ ks. has ks next) (drop_all done f.firsts l)) d at go) q live,
       );
-      listed = s.is_found.listed;
-      others = λ q. others_by f q (marks f q) (s.is_found.grown q);
+      others = s.others;
     }
 
--- the place that is visited next is one of the code
-pub place_within : (all : List Instr) (x : Opnd) (n : ℕ) (old : List ℕ) (f : Found) (done : ℕ) →
-    IsSearching all x n old f done → done < length f.places →
-    get_or f.places done 0 < length all
-place_within all x n old f done s l =
-    let live = s.is_found.live (get_or f.places done 0) (s.is_found.listed (get_or f.places done 0)
-    ∙ has_at f.places done l) in
-    goes_within all (get_or f.places done 0) live.next live.goes
-
-pub enter_before_more : (n : ℕ) (before : Table) (places : List ℕ) (i : ℕ) (f : Found) → i < length places →
-    enter_before n before (drop i places) f ≡ enter_before n before (drop (i + 1) places) (enter_all n
-    (row before (get_or places i 0)) f)
-enter_before_more n before places i f l = ap (λ rest. enter_before n before rest f) (drop_more places i 0 l)
+-- the place that is visited next is one that the operand is live out of
+pub place_live : (all : List Instr) (x : Opnd) (n : ℕ) (old : List ℕ) (f : Found) (done : ℕ) →
+    IsSearching all x n old f done → done < length f.firsts → IsLiveOut all (get_or f.firsts done 0) x
+place_live all x n old f done s l =
+    s.is_found.live (get_or f.firsts done 0) (s.is_found.first (get_or f.firsts done 0) (has_at f.firsts done l))

@@ -1,3 +1,4 @@
+pub mod Definitions
 pub mod Tables
 pub mod LiveChanges
 pub mod Marks

@@ -71,8 +71,10 @@ impl LiveChanges {
 
     /// Adds the changes of an operand that was searched for.
     pub(crate) fn add(&mut self, one: &Opnd, search: &Search, stamp: usize) -> Result<(), Memory>
-        requires within { IsTrue (list_all (λ k. nat_lt k (length search.now.marks))
-            search.now.places) }
+        requires within_firsts { IsTrue (list_all (λ k. nat_lt k (length search.now.marks))
+            search.now.firsts) }
+        requires within_lasts { IsTrue (list_all (λ k. nat_lt k (length search.now.marks))
+            search.now.lasts) }
         requires sized_comes { length self.old.comes ≡ length search.now.marks }
         requires sized_goes { length self.old.goes ≡ length search.now.marks }
         requires fresh_comes { (q : ℕ) → ends_in one.now (row self.old.comes q) ≡ false }
@@ -80,11 +82,11 @@ impl LiveChanges {
         ensures sized_comes { OnOk result (length self.new.comes ≡ length self.old.comes) }
         ensures sized_goes { OnOk result (length self.new.goes ≡ length self.old.goes) }
         ensures comes { OnOk result ((q : ℕ) → row self.new.comes q ≡
-            (if list_any (nat_eq q) search.now.places
+            (if list_any (nat_eq q) search.now.firsts
             && not (has_stamp_before stamp search.now.marks q)
             then row self.old.comes q ++ one.now ∷ [] else row self.old.comes q)) }
         ensures goes { OnOk result ((q : ℕ) → q < length self.old.goes → row self.new.goes q ≡
-            (if list_any (λ p. nat_eq q (suc p)) search.now.places
+            (if list_any (λ p. nat_eq q (suc p)) search.now.lasts
             && not (has_stamp stamp search.now.marks q)
             then row self.old.goes q ++ one.now ∷ [] else row self.old.goes q)) }
     {
@@ -101,17 +103,17 @@ fn add_comes(
     stamp: usize,
 ) -> Result<(), Memory>
     requires within { IsTrue (list_all (λ k. nat_lt k (length search.now.marks))
-        search.now.places) }
+        search.now.firsts) }
     requires sized { length comes.old ≡ length search.now.marks }
     requires fresh { (q : ℕ) → ends_in one.now (row comes.old q) ≡ false }
     ensures sized { OnOk result (length comes.new ≡ length comes.old) }
     ensures rows { OnOk result ((q : ℕ) → row comes.new q ≡
-        (if list_any (nat_eq q) search.now.places
+        (if list_any (nat_eq q) search.now.firsts
         && not (has_stamp_before stamp search.now.marks q)
         then row comes.old q ++ one.now ∷ [] else row comes.old q)) }
 {
-    for index in 0..search.count() {
-        add_start(comes, one, search, stamp, search.place(index))?;
+    for index in 0..search.first_count() {
+        add_start(comes, one, search, stamp, search.first(index))?;
     }
     Ok(())
 }
@@ -146,17 +148,17 @@ fn add_goes(
     stamp: usize,
 ) -> Result<(), Memory>
     requires within { IsTrue (list_all (λ k. nat_lt k (length search.now.marks))
-        search.now.places) }
+        search.now.lasts) }
     requires sized { length goes.old ≡ length search.now.marks }
     requires fresh { (q : ℕ) → ends_in one.now (row goes.old q) ≡ false }
     ensures sized { OnOk result (length goes.new ≡ length goes.old) }
     ensures rows { OnOk result ((q : ℕ) → q < length goes.old → row goes.new q ≡
-        (if list_any (λ p. nat_eq q (suc p)) search.now.places
+        (if list_any (λ p. nat_eq q (suc p)) search.now.lasts
         && not (has_stamp stamp search.now.marks q)
         then row goes.old q ++ one.now ∷ [] else row goes.old q)) }
 {
-    for index in 0..search.count() {
-        add_end(goes, one, search, stamp, search.place(index))?;
+    for index in 0..search.last_count() {
+        add_end(goes, one, search, stamp, search.last(index))?;
     }
     Ok(())
 }

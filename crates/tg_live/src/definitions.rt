@@ -1,19 +1,106 @@
 ghost use Rattle.std.specs.Prelude.{◌≡◌, map, IfOk};
-ghost use Rattle.tg_instr.specs.Uses.{defs_of};
+ghost use Rattle.tg_instr.specs.Operands.{registers};
+ghost use Rattle.tg_instr.specs.Uses.{clobbered, defs_of};
+ghost use Rattle.tg_live.specs.Live.{is_among};
+ghost use Rattle.tg_live.specs.glue.Definitions.{first_in, operands_in};
+ghost use Rattle.tg_live.specs.glue.Tables.{row};
 
-use crate::tables::OperandTable;
+use crate::operands::is_same;
 use std::alloc::Global;
+use std::marker::Model;
 use tg_base::Memory;
-use tg_instr::Instr;
+use tg_instr::{Instr, Opnd};
 
-/// For each place what its instruction defines. A search asks for it at each place that it visits,
-/// so it is made once for all operands.
-pub(crate) fn definitions(alloc: Global, list: &[Instr]) -> Result<OperandTable, Memory>
+/// The registers that a call may change.
+const CLOBBERED: [u8; 17] = [2, 3, 4, 5, 6, 7, 8, 9, 10, 11, 12, 13, 14, 15, 24, 25, 31];
+
+/// What an instruction defines. A call defines as many registers as a search would have to go
+/// through at each place, but no temporary.
+#[derive(Clone, Copy)]
+pub(crate) enum Defined {
+    /// Nothing.
+    Nothing,
+    /// One operand.
+    One(Opnd),
+    /// The registers that a call may change.
+    Clobbered,
+}
+
+impl Defined {
+    /// Whether the operand is defined.
+    fn has(&self, one: &Opnd) -> bool
+        ensures { result ≡ is_among one.now (operands_in self.now) }
+    {
+        match self {
+            Defined::Nothing => false,
+            Defined::One(other) => is_same(one, other),
+            Defined::Clobbered => is_clobbered(one),
+        }
+    }
+}
+
+fn is_clobbered(one: &Opnd) -> bool
+    ensures { result ≡ is_among one.now (registers clobbered) }
+{
+    match one {
+        Opnd::Temp(_) => false,
+        Opnd::Reg(reg) => CLOBBERED.contains(&reg.number()),
+    }
+}
+
+/// What the instruction of each place defines. A search asks for it at each place that it visits.
+#[derive(Drop)]
+pub(crate) struct DefinitionTable {
+    list: Vec<Defined>,
+}
+
+impl Model for DefinitionTable {
+    ghost use Rattle.std.specs.Prelude.{List, map};
+    ghost use Rattle.tg_instr.specs.declared.operands.Opnd.{Opnd};
+    ghost use Rattle.tg_live.specs.glue.Definitions.{operands_in};
+
+    ghost Value = { List (List Opnd) };
+
+    ghost view = { λ d. map operands_in d.list.items };
+}
+
+impl DefinitionTable {
+    /// Whether the instruction of a place defines the operand; none does past the last place.
+    pub(crate) fn has(&self, at: usize, one: &Opnd) -> bool
+        ensures { result ≡ is_among one.now (row self.now at) }
+    {
+        match self.list.get(at) {
+            Some(defined) => defined.has(one),
+            None => false,
+        }
+    }
+}
+
+/// For each place what its instruction defines.
+pub(crate) fn definitions(alloc: Global, list: &[Instr]) -> Result<DefinitionTable, Memory>
     ensures { IfOk result (λ defs. defs ≡ map defs_of list.now) }
 {
-    let mut table = OperandTable::with_room(alloc, list.len())?;
+    let mut defined = Vec::with_capacity(alloc, list.len())?;
     for one in list {
-        table.push_definitions(alloc, one)?;
+        defined.push(defined_by(alloc, one))?;
     }
-    Ok(table)
+    Ok(DefinitionTable { list: defined })
+}
+
+fn defined_by(alloc: Global, one: &Instr) -> Defined
+    ensures { operands_in result ≡ defs_of one.now }
+{
+    match one {
+        Instr::Call(_) => Defined::Clobbered,
+        _ => first_in(one.defs(alloc).as_slice()),
+    }
+}
+
+fn first_in(defs: &[Opnd]) -> Defined
+    ensures { result ≡ first_in defs.now }
+{
+    match defs.first() {
+        Some(one) => Defined::One(*one),
+        None => Defined::Nothing,
+    }
 }

@@ -5,13 +5,13 @@ ghost use Rattle.tg_live.specs.Live.{AreLiveSets};
 ghost use Rattle.tg_live.specs.glue.Tables.{AreSites};
 
 use crate::changes::LiveChanges;
-use crate::definitions::definitions;
+use crate::definitions::{DefinitionTable, definitions};
 use crate::flows::Flow;
 use crate::operands::operand_of;
 use crate::searches::Search;
 use crate::sets::LiveSets;
 use crate::sites::use_sites;
-use crate::tables::{OperandTable, PlaceTable};
+use crate::tables::PlaceTable;
 use std::alloc::Global;
 use tg_base::Memory;
 use tg_instr::{Code, Instr};
@@ -39,7 +39,7 @@ fn live_by(
     list: &[Instr],
     flow: &Flow,
     sites: &PlaceTable,
-    defs: &OperandTable,
+    defs: &DefinitionTable,
 ) -> Result<LiveSets, Memory>
     requires flow { flow.now ≡ flow_of list.now }
     requires sites { AreSites list.now sites.now }

@@ -34,7 +34,7 @@ pub(crate) fn operand_of(number: usize) -> Opnd
     }
 }
 
-fn is_same(left: &Opnd, right: &Opnd) -> bool
+pub(crate) fn is_same(left: &Opnd, right: &Opnd) -> bool
     ensures { result ≡ is_same left.now right.now }
 {
     match left {
@@ -59,18 +59,6 @@ fn is_register(reg: Reg, one: &Opnd) -> bool
         Opnd::Temp(_) => false,
         Opnd::Reg(other) => reg.number() == other.number(),
     }
-}
-
-/// Whether the operand is one of a list.
-pub(crate) fn is_among(one: &Opnd, list: &[Opnd]) -> bool
-    ensures { result ≡ is_among one.now list.now }
-{
-    for other in list {
-        if is_same(one, other) {
-            return true;
-        }
-    }
-    false
 }
 
 /// Whether the operand is the last of a list.

@@ -1,52 +1,60 @@
-// What is live is searched for backwards from each use, so each pair of place and operand is
-// visited once. A matrix of bits over places and operands would have a thousand million bits for
-// the largest bodies. Codes of 2^32 instructions and more are answered as out of memory.
+// What is live is searched for backwards from each use, in runs of places that have the one before
+// them alone before them: only the first place of a run is visited. A matrix of bits over places and
+// operands would have a thousand million bits for the largest bodies. Codes of 2^32 instructions and
+// more are answered as out of memory.
 
 ghost use Rattle.std.specs.Prelude.{
   ◌≡◌,
   ◌<◌,
+  ◌⊎◌,
+  ◌≤◌,
   [],
   ℕ,
   false,
+  true,
   length,
   map,
   replicate,
   slice_index,
-  nat_lt,
   nat_eq,
-  IsTrue,
+  not,
+  ◌&&◌,
   OnOk,
   IfOk,
 };
-ghost use Rattle.std.specs.List.{list_any, list_all};
+ghost use Rattle.std.specs.List.{list_any};
 ghost use Rattle.tg_instr.specs.Uses.{defs_of};
-ghost use Rattle.tg_live.specs.Live.{is_used};
-ghost use Rattle.tg_live.specs.glue.Tables.{row, have_rows_below, IsBefore};
+ghost use Rattle.tg_live.specs.Flow.{goes_on};
+ghost use Rattle.tg_live.specs.Live.{is_used, is_defined, IsLiveOut};
+ghost use Rattle.tg_live.specs.glue.Tables.{row, IsBefore};
 ghost use Rattle.tg_live.specs.mirror.Search.{
+  has,
   has_stamp,
   has_stamp_before,
-  enter,
-  enter_all,
-  enter_before,
-  visit,
+  stamp_at,
+  AreEntered,
+  IsFound,
+  IsPassed,
   IsSearched,
 };
 ghost use Rattle.tg_live.specs.mirror.Search as search;
 
-use crate::operands::is_among;
-use crate::tables::{OperandTable, PlaceTable};
+use crate::definitions::DefinitionTable;
+use crate::tables::PlaceTable;
 use std::alloc::Global;
 use std::marker::Model;
 use tg_base::Memory;
 use tg_instr::{Instr, Opnd};
 
 /// The search for the places that an operand is live out of, backwards along the flow from its
-/// uses: a stamp for each place, that of the last operand which was entered there, and the places
-/// at which this one was entered, which are also the list of those still to be visited.
+/// uses: a stamp for each place, that of the last operand which was entered there, and the first
+/// and the last place of each run of places at which this one was entered. The first places are
+/// also the list of those still to be visited.
 #[derive(Drop)]
 pub(crate) struct Search {
     marks: Vec<usize>,
-    places: Vec<u32>,
+    firsts: Vec<u32>,
+    lasts: Vec<u32>,
 }
 
 impl Model for Search {
@@ -54,7 +62,7 @@ impl Model for Search {
 
     ghost Value = { search.Found };
 
-    ghost view = { λ s. search.found s.marks.items s.places.items };
+    ghost view = { λ s. search.found s.marks.items s.firsts.items s.lasts.items };
 }
 
 impl Search {
@@ -64,7 +72,8 @@ impl Search {
     {
         Ok(Search {
             marks: vec![in alloc; 0usize; count]?,
-            places: Vec::new(alloc),
+            firsts: Vec::new(alloc),
+            lasts: Vec::new(alloc),
         })
     }
 
@@ -72,7 +81,7 @@ impl Search {
     pub(crate) fn run(
         &mut self,
         list: &[Instr],
-        defs: &OperandTable,
+        defs: &DefinitionTable,
         before: &PlaceTable,
         one: &Opnd,
         stamp: usize,
@@ -86,10 +95,10 @@ impl Search {
         ensures { OnOk result (IsSearched list.now one.now stamp self.old.marks self.new) }
     {
         self.restart();
-        self.enter_before(before, stamp, sites)?;
+        self.enter_before(list, defs, before, one, stamp, sites)?;
         let mut done = 0;
-        while done < self.count() {
-            let place = self.place(done);
+        while done < self.first_count() {
+            let place = self.first(done);
             self.visit(list, defs, before, one, stamp, place)?;
             done += 1;
         }
@@ -97,24 +106,40 @@ impl Search {
     }
 
     fn restart(&mut self)
-        ensures { self.new ≡ search.found self.old.marks [] }
+        ensures { self.new ≡ search.found self.old.marks [] [] }
     {
-        self.places.clear();
+        self.firsts.clear();
+        self.lasts.clear();
     }
 
-    /// How many places were found.
-    pub(crate) fn count(&self) -> usize
-        ensures { result ≡ length self.now.places }
+    /// How many first places of runs were found.
+    pub(crate) fn first_count(&self) -> usize
+        ensures { result ≡ length self.now.firsts }
     {
-        self.places.len()
+        self.firsts.len()
     }
 
-    /// The place that was found so many places after the first.
-    pub(crate) fn place(&self, index: usize) -> u32
-        requires { index < length self.now.places }
-        ensures { result ≡ slice_index self.now.places index }
+    /// The first place of the run that was found so many runs after the first.
+    pub(crate) fn first(&self, index: usize) -> u32
+        requires { index < length self.now.firsts }
+        ensures { result ≡ slice_index self.now.firsts index }
     {
-        self.places[index]
+        self.firsts[index]
+    }
+
+    /// How many last places of runs were found.
+    pub(crate) fn last_count(&self) -> usize
+        ensures { result ≡ length self.now.lasts }
+    {
+        self.lasts.len()
+    }
+
+    /// The last place of such a run.
+    pub(crate) fn last(&self, index: usize) -> u32
+        requires { index < length self.now.lasts }
+        ensures { result ≡ slice_index self.now.lasts index }
+    {
+        self.lasts[index]
     }
 
     /// Whether the operand with a stamp was the last to be entered at a place.
@@ -137,59 +162,160 @@ impl Search {
     fn visit(
         &mut self,
         list: &[Instr],
-        defs: &OperandTable,
+        defs: &DefinitionTable,
         before: &PlaceTable,
         one: &Opnd,
         stamp: usize,
         place: u32,
     ) -> Result<(), Memory>
         requires defs { defs.now ≡ map defs_of list.now }
-        requires place { place < length list.now }
-        requires within { IsTrue (have_rows_below (length self.old.marks) before.now) }
-        ensures { OnOk result (self.new ≡ visit list.now one.now stamp before.now place self.old) }
+        requires before { IsBefore list.now before.now }
+        requires size { length self.old.marks ≡ length list.now }
+        requires found { IsFound list.now one.now stamp self.old }
+        requires live { IsLiveOut list.now place one.now }
+        ensures { OnOk result (AreEntered list.now one.now stamp
+            (λ q. not (is_defined list.now one.now place) && goes_on list.now q place)
+            self.old self.new) }
     {
-        if is_among(one, defs.row(place as usize)) {
+        if defs.has(place as usize, one) {
             return Ok(());
         }
-        self.enter_all(stamp, before.row(place as usize))
+        self.enter_all(list, defs, before, one, stamp, before.row(place as usize))?;
+        Ok(())
     }
 
     /// Enters the operand at all places before these.
     fn enter_before(
         &mut self,
+        list: &[Instr],
+        defs: &DefinitionTable,
         before: &PlaceTable,
+        one: &Opnd,
+        stamp: usize,
+        sites: &[u32],
+    ) -> Result<(), Memory>
+        requires defs { defs.now ≡ map defs_of list.now }
+        requires before { IsBefore list.now before.now }
+        requires size { length self.old.marks ≡ length list.now }
+        requires found { IsFound list.now one.now stamp self.old }
+        requires sites { (at : ℕ) → list_any (nat_eq at) sites.now ≡ true →
+            is_used list.now one.now at ≡ true }
+        ensures { OnOk result (AreEntered list.now one.now stamp
+            (λ q. list_any (goes_on list.now q) sites.now) self.old self.new) }
+    {
+        for place in sites {
+            self.enter_all(list, defs, before, one, stamp, before.row(*place as usize))?;
+        }
+        Ok(())
+    }
+
+    fn enter_all(
+        &mut self,
+        list: &[Instr],
+        defs: &DefinitionTable,
+        before: &PlaceTable,
+        one: &Opnd,
         stamp: usize,
         places: &[u32],
     ) -> Result<(), Memory>
-        requires { IsTrue (have_rows_below (length self.old.marks) before.now) }
-        ensures { OnOk result (self.new ≡ enter_before stamp before.now places.now self.old) }
+        requires defs { defs.now ≡ map defs_of list.now }
+        requires before { IsBefore list.now before.now }
+        requires size { length self.old.marks ≡ length list.now }
+        requires found { IsFound list.now one.now stamp self.old }
+        requires live { (q : ℕ) → has places.now q ≡ true → IsLiveOut list.now q one.now }
+        ensures { OnOk result
+            (AreEntered list.now one.now stamp (has places.now) self.old self.new) }
     {
         for place in places {
-            self.enter_all(stamp, before.row(*place as usize))?;
+            self.enter(list, defs, before, one, stamp, *place)?;
         }
         Ok(())
     }
 
-    fn enter_all(&mut self, stamp: usize, places: &[u32]) -> Result<(), Memory>
-        requires { IsTrue (list_all (λ k. nat_lt k (length self.old.marks)) places.now) }
-        ensures { OnOk result (self.new ≡ enter_all stamp places.now self.old) }
-    {
-        for place in places {
-            self.enter(stamp, *place)?;
-        }
-        Ok(())
-    }
-
-    /// Enters the operand at a place, unless it was entered there.
-    fn enter(&mut self, stamp: usize, at: u32) -> Result<(), Memory>
-        requires { at < length self.old.marks }
-        ensures { OnOk result (self.new ≡ enter stamp at self.old) }
+    /// Enters the operand at a place, unless it was entered there, and at those of a run before it.
+    fn enter(
+        &mut self,
+        list: &[Instr],
+        defs: &DefinitionTable,
+        before: &PlaceTable,
+        one: &Opnd,
+        stamp: usize,
+        at: u32,
+    ) -> Result<(), Memory>
+        requires defs { defs.now ≡ map defs_of list.now }
+        requires before { IsBefore list.now before.now }
+        requires size { length self.old.marks ≡ length list.now }
+        requires found { IsFound list.now one.now stamp self.old }
+        requires live { IsLiveOut list.now at one.now }
+        ensures { OnOk result
+            (AreEntered list.now one.now stamp (λ q. nat_eq q at) self.old self.new) }
     {
         if self.has_stamp(stamp, at as usize) {
             return Ok(());
         }
-        self.marks[at as usize] = stamp;
-        self.places.push(at)?;
+        let first = self.first_of_run(list, defs, before, one, stamp, at);
+        self.mark(stamp, first, at);
+        self.firsts.push(first)?;
+        self.lasts.push(at)?;
         Ok(())
+    }
+
+    /// How far a run goes back from its last place.
+    fn first_of_run(
+        &self,
+        list: &[Instr],
+        defs: &DefinitionTable,
+        before: &PlaceTable,
+        one: &Opnd,
+        stamp: usize,
+        last: u32,
+    ) -> u32
+        requires defs { defs.now ≡ map defs_of list.now }
+        requires last { last < length self.now.marks }
+        ensures order { result ≤ last }
+        ensures passed { (q : ℕ) → result < q → q ≤ last →
+            IsPassed list.now one.now before.now q }
+    {
+        let mut first = last;
+        while self.passes(list, defs, before, one, stamp, first) {
+            first -= 1;
+        }
+        first
+    }
+
+    // Whether a run goes on before a place.
+    fn passes(
+        &self,
+        list: &[Instr],
+        defs: &DefinitionTable,
+        before: &PlaceTable,
+        one: &Opnd,
+        stamp: usize,
+        at: u32,
+    ) -> bool
+        requires defs { defs.now ≡ map defs_of list.now }
+        requires at { at < length self.now.marks }
+        ensures some { result ≡ true → 0 < at }
+        ensures passed { result ≡ true → IsPassed list.now one.now before.now at }
+    {
+        before.is_straight(at)
+            && !defs.has(at as usize, one)
+            && !self.has_stamp(stamp, at as usize - 1)
+    }
+
+    // Marks the places from one to another.
+    fn mark(&mut self, stamp: usize, first: u32, last: u32)
+        requires order { first ≤ last }
+        requires last { last < length self.old.marks }
+        ensures size { length self.new.marks ≡ length self.old.marks }
+        ensures inner { (q : ℕ) → first ≤ q → q ≤ last → stamp_at self.new.marks q ≡ stamp }
+        ensures outer { (q : ℕ) → (q < first) ⊎ (last < q) →
+            stamp_at self.new.marks q ≡ stamp_at self.old.marks q }
+        ensures firsts { self.new.firsts ≡ self.old.firsts }
+        ensures lasts { self.new.lasts ≡ self.old.lasts }
+    {
+        for at in first as usize..last as usize + 1 {
+            self.marks[at] = stamp;
+        }
     }
 }

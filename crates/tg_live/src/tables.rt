@@ -1,5 +1,4 @@
-ghost use Rattle.std.specs.Prelude.{◌≡◌, ◌<◌, [], ◌∷◌, ◌++◌, length, replicate, OnOk, IfOk};
-ghost use Rattle.tg_instr.specs.Uses.{defs_of};
+ghost use Rattle.std.specs.Prelude.{◌≡◌, ◌<◌, ◌-◌, [], ◌∷◌, true, length, replicate, OnOk, IfOk};
 ghost use Rattle.tg_live.specs.glue.Tables.{row, push_at};
 
 use smallvec::SmallVec;
@@ -51,6 +50,15 @@ impl PlaceTable {
         }
     }
 
+    /// Whether the row of a place has the place before it alone.
+    pub(crate) fn is_straight(&self, at: u32) -> bool
+        ensures some { result ≡ true → 0 < at }
+        ensures alone { result ≡ true → row self.now at ≡ (at - 1) ∷ [] }
+    {
+        let row = self.row(at as usize);
+        row.len() == 1 && at > 0 && row[0] == at - 1
+    }
+
     /// Puts a place at the end of a row.
     pub(crate) fn push(&mut self, at: usize, place: u32) -> Result<(), Memory>
         requires { at < length self.old }
@@ -78,15 +86,6 @@ impl Model for OperandTable {
 }
 
 impl OperandTable {
-    /// No rows, and room for so many.
-    pub(crate) fn with_room(alloc: Global, count: usize) -> Result<OperandTable, Memory>
-        ensures { IfOk result (λ t. t ≡ []) }
-    {
-        Ok(OperandTable {
-            rows: Vec::with_capacity(alloc, count)?,
-        })
-    }
-
     /// So many empty rows.
     pub(crate) fn with_rows(alloc: Global, count: usize) -> Result<OperandTable, Memory>
         ensures { IfOk result (λ t. t ≡ replicate count []) }
@@ -121,16 +120,6 @@ impl OperandTable {
         ensures { OnOk result (self.new ≡ push_at self.old at one) }
     {
         self.rows[at].push(one)?;
-        Ok(())
-    }
-
-    /// Puts the row of what an instruction defines after the last row.
-    pub(crate) fn push_definitions(&mut self, alloc: Global, one: &Instr) -> Result<(), Memory>
-        ensures { OnOk result (self.new ≡ self.old ++ defs_of one.now ∷ []) }
-    {
-        let defs = one.defs(alloc);
-        self.rows
-            .push(SmallVec::from_slice(alloc, defs.as_slice())?)?;
         Ok(())
     }
 }

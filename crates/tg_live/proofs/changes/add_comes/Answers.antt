@@ -9,19 +9,19 @@ use Rattle.tg_live.proofs.changes.add_comes.Goals as goal
 pub add_start-requires-clause-within : goal.add_start-requires-clause-within
 add_start-requires-clause-within c =
     let f = c.args.search.now in
-    let l : c.loop-index.index < length f.places = omega arith in
-    let w = within_at (length f.marks) f.places c.loop-index.index l c.requires.within in
-    omega (arith, w, c.place.ensures)
+    let l : c.loop-index.index < length f.firsts = omega arith in
+    let w = within_at (length f.marks) f.firsts c.loop-index.index l c.requires.within in
+    omega (arith, w, c.first.ensures)
 
 pub loop-index-preserved : goal.loop-index-preserved
 loop-index-preserved c =
     let f = c.args.search.now in
-    let l : c.loop-index.index < length f.places = omega arith in
+    let l : c.loop-index.index < length f.firsts = omega arith in
     record {
       sized = c.in_ok-add_start.ensures.sized ∙ c.loop-index.invariant.sized;
       rows = λ q. noted_next c.args.one.now (row c.args.comes.now q) (row c.loop-index.comes q)
-          (row c.add_start.new.comes q) f.places c.loop-index.index c.place.result (nat_eq q)
-          (not (has_stamp_before c.args.stamp f.marks q)) l c.place.ensures (c.requires.fresh q)
+          (row c.add_start.new.comes q) f.firsts c.loop-index.index c.first.result (nat_eq q)
+          (not (has_stamp_before c.args.stamp f.marks q)) l c.first.ensures (c.requires.fresh q)
           (c.loop-index.invariant.rows q) (c.in_ok-add_start.ensures.rows q);
     }
 
@@ -30,4 +30,4 @@ returns-clause-rows c = λ q.
     let f = c.args.search.now in
     c.loop-index.invariant.rows q
     ∙ ap (λ ks. grown (list_any (nat_eq q) ks && not (has_stamp_before c.args.stamp f.marks q)) c.args.one.now
-    (row c.args.comes.now q)) (take_all c.loop-index.index f.places (omega arith))
+    (row c.args.comes.now q)) (take_all c.loop-index.index f.firsts (omega arith))

@@ -8,7 +8,7 @@ use Rattle.tg_live.specs.glue.LiveChanges.{ends_in, sets_of}
 use Rattle.tg_live.proofs.Noted.{grown}
 use Rattle.tg_live.proofs.Turned.{table_of_flow}
 use Rattle.tg_live.proofs.Gathered.{gathered_all}
-use Rattle.tg_live.proofs.Collected.{collected_from, collected_more, found_within, row_fresh, stamp_fresh}
+use Rattle.tg_live.proofs.Collected.{collected_from, collected_more, firsts_within, lasts_within, row_fresh, stamp_fresh}
 use Rattle.tg_live.proofs.liveness.live_by.Goals as goal
 
 pub operand_of-one-requires : goal.operand_of-one-requires
@@ -26,9 +26,14 @@ pub run-requires-clause-fresh : goal.run-requires-clause-fresh
 run-requires-clause-fresh c =
     stamp_fresh c.loop-number.number c.loop-number.search.marks c.loop-number.invariant.stamps
 
-pub add-requires-clause-within : goal.add-requires-clause-within
-add-requires-clause-within c =
-    found_within c.args.list.now c.operand_of-one.result (c.loop-number.number + 1)
+pub add-requires-clause-within_firsts : goal.add-requires-clause-within_firsts
+add-requires-clause-within_firsts c =
+    firsts_within c.args.list.now c.operand_of-one.result (c.loop-number.number + 1)
+    c.loop-number.search.marks c.run.new.self c.in_ok-run.ensures c.loop-number.invariant.sized
+
+pub add-requires-clause-within_lasts : goal.add-requires-clause-within_lasts
+add-requires-clause-within_lasts c =
+    lasts_within c.args.list.now c.operand_of-one.result (c.loop-number.number + 1)
     c.loop-number.search.marks c.run.new.self c.in_ok-run.ensures c.loop-number.invariant.sized
 
 pub add-requires-clause-sized_comes : goal.add-requires-clause-sized_comes
@@ -64,9 +69,9 @@ loop-number-preserved c =
     let new = c.add.new.self in
     let Searched : Opnd → Type 0 = λ x. IsSearched list x (n + 1) marks f in
     let Come : Opnd → Type 0 = λ x. (q : ℕ) → row new.comes q
-    ≡ grown (list_any (nat_eq q) f.places && not (has_stamp_before (n + 1) f.marks q)) x (row old.comes q) in
+    ≡ grown (list_any (nat_eq q) f.firsts && not (has_stamp_before (n + 1) f.marks q)) x (row old.comes q) in
     let Go : Opnd → Type 0 = λ x. (q : ℕ) → q < length old.goes → row new.goes q
-    ≡ grown (list_any (λ p. nat_eq q (suc p)) f.places && not (has_stamp (n + 1) f.marks q)) x (row old.goes q) in
+    ≡ grown (list_any (λ p. nat_eq q (suc p)) f.lasts && not (has_stamp (n + 1) f.marks q)) x (row old.goes q) in
     let e = c.operand_of-one.ensures in
     collected_more list n marks old.comes old.goes new.comes new.goes f c.loop-number.invariant
     (subst Searched e c.in_ok-run.ensures) c.in_ok-add.ensures.sized_comes c.in_ok-add.ensures.sized_goes

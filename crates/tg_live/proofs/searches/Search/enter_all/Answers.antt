@@ -1,37 +1,36 @@
-use Rattle.std.proofs.Common.{ℕ, ◌+◌, ◌<◌, nat_lt, [], ◌∷◌, length, drop, get_or, sym, ap, ◌∙◌, arith}
-use Rattle.std.proofs.lemmas.Bool.{ltb-true}
-use Rattle.std.proofs.lemmas.List.{drop_all, drop_more}
-use Rattle.tg_live.specs.mirror.Search.{Found, enter_all}
-use Rattle.tg_live.proofs.Places.{all_at}
-use Rattle.tg_live.proofs.Searched.{length-enter_all}
+use Rattle.std.proofs.Common.{◌+◌, nat_eq, take, get_or, sym, ◌∙◌, subst, List, ℕ}
+use Rattle.std.proofs.lemmas.Bool.{false≢true}
+use Rattle.std.proofs.lemmas.List.{take_all}
+use Rattle.std.proofs.lemmas.List.Folds.{list_any_more}
+use Rattle.tg_live.specs.mirror.Search.{AreEntered, has}
+use Rattle.tg_live.proofs.Searched.{entered_itself, entered_both, has_at}
 use Rattle.tg_live.proofs.searches.Search.enter_all.Goals as goal
 
-pub enter-requires : goal.enter-requires
-enter-requires c =
-    let n = length c.args.self.now.marks in
+pub enter-requires-clause-size : goal.enter-requires-clause-size
+enter-requires-clause-size c = c.loop-place.invariant.size ∙ c.requires.size
+
+pub enter-requires-clause-found : goal.enter-requires-clause-found
+enter-requires-clause-found c = c.loop-place.invariant.is_found
+
+pub enter-requires-clause-live : goal.enter-requires-clause-live
+enter-requires-clause-live c =
     let i = c.loop-place.place-index in
-    let place : get_or c.args.places.now i 0 < n =
-    ltb-true (get_or c.args.places.now i 0) n
-    (all_at (λ k. nat_lt k n) c.args.places.now i 0 c.loop-place-test.true c.requires) in
-    omega (arith, place, c.loop-place.invariant.size)
+    c.requires.live (get_or c.args.places.now i 0) (has_at c.args.places.now i c.loop-place-test.true)
+
+pub loop-place-init : goal.loop-place-init
+loop-place-init c =
+    entered_itself c.args.list.now c.args.one.now c.args.stamp (has (take 0 c.args.places.now)) c.args.self.now
+    c.requires.found (λ q h. absurd (false≢true h))
 
 pub loop-place-preserved : goal.loop-place-preserved
 loop-place-preserved c =
-    let stamp : ℕ = c.args.stamp in
     let places = c.args.places.now in
     let i = c.loop-place.place-index in
-    let before : Found = c.loop-place.self in
-    let one : ℕ = get_or places i 0 in
-    record {
-      entered = ap (enter_all stamp (drop (i + 1) places)) c.in_ok-enter.ensures
-          ∙ (sym (ap (λ rest. enter_all stamp rest before) (drop_more places i 0 c.loop-place-test.true))
-          ∙ c.loop-place.invariant.entered);
-      size = ap (λ (f : Found). length f.marks) c.in_ok-enter.ensures
-          ∙ (length-enter_all stamp (one ∷ []) before ∙ c.loop-place.invariant.size);
-    }
+    entered_both c.args.list.now c.args.one.now c.args.stamp (has (take i places)) (λ q. nat_eq q (get_or places i 0))
+    (has (take (i + 1) places)) c.args.self.now c.loop-place.self c.enter.new.self c.loop-place.invariant
+    c.in_ok-enter.ensures (λ q h. sym (list_any_more (nat_eq q) places i 0 c.loop-place-test.true) ∙ h)
 
 pub returns : goal.returns
 returns c =
-    sym (ap (λ rest. enter_all c.args.stamp rest c.loop-place.self)
-    (drop_all c.loop-place.place-index c.args.places.now c.loop-place-test.false))
-    ∙ c.loop-place.invariant.entered
+    subst (λ (ks : List ℕ). AreEntered c.args.list.now c.args.one.now c.args.stamp (has ks) c.args.self.now c.loop-place.self)
+    (take_all c.loop-place.place-index c.args.places.now c.loop-place-test.false) c.loop-place.invariant
