@@ -25,3 +25,5 @@ pub use growth::{
 };
 pub use laws::in_frame_is_bounded;
 pub use painting::register_of;
+pub use progress::Progress;
+pub use stages::slotted;
