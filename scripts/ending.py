@@ -1,12 +1,14 @@
 """Tells in which function a run of a source ended, and the call of it, by the text, the labels and the last steps.
 
-What isn't exact isn't told: the input must be there once more, and the call within the steps that are looked at. The place
-of an operation or a call is told where its function has one alone that can be meant.
+What isn't exact isn't told: the input must be there once more, the run within the time that is taken for it, and the call
+within the steps that are looked at. The place of an operation or a call is told where its function has one alone that can
+be meant.
 """
 import bisect
 import os
 import re
 import subprocess
+import time
 
 from answering import program
 from places import places
@@ -15,8 +17,8 @@ from reading import tree_of
 HEAD = re.compile(r"(?m)^function (\d+) (\S+)(?: (\d+):(\d+))?$")
 STEPS = re.compile(r"(?m)^steps (\d+)$")
 FETCH = re.compile(r"(?m)^0x(\w{8}) 0x(\w{8})$")
-# A run is watched again up to so many times, 16 steps earlier each time, and for so many steps in all.
-MOST_RUNS, MOST_STEPS = 100, 200_000_000
+# A run is watched again up to so many times, 16 steps earlier each time, and all that takes so many seconds.
+MOST_RUNS, MOST_SECONDS = 100, 10
 RETURN, CALL = 0x03E00008, 3
 BODY = 32
 # By the line of an end, which parts of the tree can be meant, by their kinds and operators.
@@ -47,6 +49,7 @@ class Run:
 
     def __init__(self, words, path, data):
         self.words, self.data = [it for it in words if it != "--explain"], data
+        self.deadline = time.monotonic() + MOST_SECONDS
         flags = [it for it in words if it == "--fold"]
         shown = self.called("show", path, *flags).stdout.decode("latin-1")
         self.functions = {found[1]: Function(*found.groups()) for found in HEAD.finditer(shown)}
@@ -54,9 +57,9 @@ class Run:
         whole = [(at, "32" if it == "main" else it[1:]) for at, it in labels if re.fullmatch(r"main|f\d+", it)]
         self.begins, self.labels = [at for at, _ in whole], [it for _, it in whole]
 
-    @staticmethod
-    def called(*words, data=b""):
-        return subprocess.run([program(), *words], input=data, capture_output=True)
+    def called(self, *words, data=b""):
+        left = max(0, self.deadline - time.monotonic())
+        return subprocess.run([program(), *words], input=data, capture_output=True, timeout=left)
 
     def watched(self, steps=None):
         """The number of steps of the run, or of its first steps, and the last places with the words there."""
@@ -76,7 +79,7 @@ class Run:
 
     def steps_back(self, steps, fetches):
         """Yields the places and words of the last steps, the last one first, as far back as is looked."""
-        for _ in range(max(1, min(MOST_RUNS, MOST_STEPS // max(steps, 1)))):
+        for _ in range(MOST_RUNS):
             yield from reversed(fetches)
             steps -= len(fetches)
             if steps <= 0:
@@ -143,6 +146,14 @@ class Source:
         return "-" if part.mark is None and part.kind == "operation" else self.tokens[part.mark].text
 
 
+def in_time(chain):
+    """What a chain has, as far as the time allows."""
+    try:
+        yield from chain
+    except subprocess.TimeoutExpired:
+        pass
+
+
 def told_by(source, chain, end):
     """Yields what is told of a chain of functions, the innermost first."""
     inner = next(chain, None)
@@ -150,12 +161,12 @@ def told_by(source, chain, end):
     if function is None or function.is_of_runtime:
         return
     at = source.call_of(function, inner) if inner is not function else source.operation_of(function, end)
-    yield f"in {function.told()}" + (f", at {at}" if at else "")
+    yield f"in {function.told()}" + (f" at {at}" if at else "")
     if function.place:
         caller = next(chain, None)
         if caller and not caller.is_of_runtime:
             at = source.call_of(caller, function)
-            yield f"called in {caller.told()}" + (f", at {at}" if at else "")
+            yield f"called in {caller.told()}" + (f" at {at}" if at else "")
 
 
 def input_again(source, begin):
@@ -176,7 +187,10 @@ def told_of(words, path, end, begin):
     data = input_again(source, begin)
     if data is None or not source.tree:
         return ""
-    run = Run(words, path, data)
-    steps, fetches = run.watched()
-    told = ", ".join(told_by(source, run.callers(steps, fetches), end)) if fetches else ""
+    try:
+        run = Run(words, path, data)
+        steps, fetches = run.watched()
+    except subprocess.TimeoutExpired:
+        return ""
+    told = ", ".join(told_by(source, in_time(run.callers(steps, fetches)), end))
     return f"{told}\n" if told else ""
