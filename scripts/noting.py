@@ -1,7 +1,8 @@
-"""Notes on a source that the program accepts: where something else is written than what was likely meant, told exactly.
+"""Notes on a source that the program accepts: where it has something else than what was likely meant.
 
-A value that is dropped is told where nothing else can come of it: a literal, a variable, or sums, products and comparisons
-of these. What stands behind a loop is told where the layout or the condition says that it was meant to be in it.
+A value that is dropped is told where nothing else can come of it: a literal, a variable, or sums,
+products and comparisons of these. What stands behind a loop is told where the layout or the
+condition says that it was meant to be in it.
 """
 from reading import tree_of
 
@@ -9,6 +10,12 @@ PURE = {"literal", "variable", "operation", "comparison"}
 PLACES = {"variable", "field", "element"}
 # Calls of these change no variable, and the run goes on behind them.
 STANDARD = {*"print flush getchar ord chr size substring concat not".split()}
+
+
+def hands_on(node, number):
+    """Whether the value of a part, by its number, is the value of the whole."""
+    is_body = node.kind == "scope" and number == len(node.parts) - 1
+    return is_body or node.kind == "choice" and len(node.parts) == 3 and number > 0
 
 
 class Notes:
@@ -35,7 +42,7 @@ class Notes:
         return not before[before.rfind("\n") + 1 :].strip(" \t")
 
     def look(self, node, is_dropped, is_last=False):
-        """Looks at a part whose value is dropped or not; `is_last` where it is that of the whole program."""
+        """Looks at a part whose value is dropped or not; with `is_last` it is the program's value."""
         if is_dropped:
             self.look_at_value(node, is_last)
         if node.kind == "sequence":
@@ -45,18 +52,18 @@ class Notes:
             for it in node.parts[-1:]:
                 self.look(it, is_dropped, is_last)
             return
-        handed = node.parts[-1:] if node.kind == "scope" else node.parts[1:] if len(node.parts) == 3 and node.kind == "choice" else []
-        for it in node.parts:
-            self.look(it, is_dropped and any(it is other for other in handed), is_last)
+        for number, it in enumerate(node.parts):
+            self.look(it, is_dropped and hands_on(node, number), is_last)
 
     def is_pure(self, node):
         """Whether a part is made of literals, variables and operators alone, and divides by nothing."""
         return all(it.kind in PURE for it in node.all_parts()) and "/" not in self.words_of(node)
 
     def look_at_value(self, node, is_last):
-        """Tells a value that is dropped. That of the whole program is told where it is `PLACE = VALUE` alone."""
+        """Tells a value that is dropped; that of the whole program where it is `PLACE = VALUE`."""
         at = node.first if node.mark is None else node.mark
-        if node.kind == "comparison" and self.tokens[at].text == "=" and node.parts[0].kind in PLACES:
+        is_equality = node.kind == "comparison" and self.tokens[at].text == "="
+        if is_equality and node.parts[0].kind in PLACES:
             self.note(at, "this compares, and the value is dropped; did you mean `:=`?")
         elif self.is_pure(node) and not is_last:
             self.note(at, f"the value of this {node.kind} is dropped")
@@ -64,24 +71,28 @@ class Notes:
     def look_at_loops(self, node):
         """Tells what stands behind the body of a loop as if it were in it."""
         for loop, behind in zip(node.parts, node.parts[1:]):
-            if loop.kind == "loop" and (self.is_laid_out_as_body(loop, behind) or self.changes_condition(loop, behind)):
-                line, column = self.place(loop.first)
-                self.note(behind.first, f"this isn't in the loop of {line}:{column}, which ends before the `;`")
+            is_loop = loop.kind == "loop"
+            if is_loop and (self.is_laid_out_as_body(loop, behind) or self.is_needed(loop, behind)):
+                where = "{}:{}".format(*self.place(loop.first))
+                self.note(behind.first, f"this isn't in the loop of {where}, which ends before the `;`")
 
     def is_laid_out_as_body(self, loop, behind):
-        """Whether a part begins in the column of a loop's body, further in than the loop, each on a line of its own."""
-        body = loop.parts[-1]
-        column, body_column, column_behind = (self.place(it.first)[1] for it in (loop, body, behind))
-        return column < body_column == column_behind and all(self.begins_line(it.first) for it in (loop, body, behind))
+        """Whether a part begins in the column of a loop's body, further in than the loop, each on a
+        line of its own."""
+        parts = (loop, loop.parts[-1], behind)
+        column, body_column, column_behind = (self.place(it.first)[1] for it in parts)
+        is_within = column < body_column == column_behind
+        return is_within and all(self.begins_line(it.first) for it in parts)
 
-    def changes_condition(self, loop, behind):
-        """Whether a part assigns a variable of the condition of a `while`, which nothing in its body can change or leave."""
+    def is_needed(self, loop, behind):
+        """Whether a part assigns a variable of the condition of a `while`, and nothing in the body
+        of that can change one or leave the loop."""
         condition, *_, body = loop.parts
         if len(loop.parts) != 2 or behind.kind != "assignment" or not self.is_pure(condition):
             return False
-        name = self.tokens[behind.first].text
-        is_of_condition = behind.parts[0].kind == "variable" and name in self.words_of(condition)
-        return is_of_condition and all(self.is_still(it, {*self.words_of(condition)}) for it in body.all_parts())
+        names = {*self.words_of(condition)}
+        is_of_them = behind.parts[0].kind == "variable" and self.tokens[behind.first].text in names
+        return is_of_them and all(self.is_still(it, names) for it in body.all_parts())
 
     def is_still(self, node, names):
         """Whether a part itself changes none of these variables and leaves no loop."""
@@ -93,7 +104,8 @@ class Notes:
 
 
 def notes_on(source):
-    """The notes on a source in its order: the place, from 0 on, and the words. There are none where it isn't read."""
+    """The notes on a source in its order: the place, from 0 on, and the words. There are none where
+    it isn't read."""
     read = tree_of(source)
     if not read:
         return []

@@ -1,4 +1,4 @@
-"""Slips from other languages, told by what stands before a fault and at it, where it can be nothing else."""
+"""Slips from other languages, told by what stands before a fault and at it where it is nothing else."""
 import re
 
 from reading import plain
@@ -7,16 +7,23 @@ OPERAND = r"""\s*[\w("]"""
 PLACE, SIZE = r"[A-Za-z]\w*(\.\w+|\[[^\[\]]*\])*", r"\w+\.(length|size|len)\b"
 # What can't be the begin of a record's fields.
 BRACE = r"\{(?!\s*(\}|\w+\s*=[^=]))"
-# Behind which an expression begins.
+SIMPLE = "identifier|integer|string"
+# Behind which an expression can't go on.
+ENDS = r"(;|\)|\]|,|\Z|(end|do|then|else|in|var|function|type)\b)"
+ONE, TWO = "var x := 1", "type t = array of int var v := t [2] of 0"
+BRACED = "function f(x: int) { x }"
+# Where an expression begins.
 BEGINS = r"(^|[^\w)\]}\"\s])\s*$|\b(if|while|then|else|do|of|in|to)\s*$"
 
 
 class Slip:
-    """A slip: the rule, what stands before the mark, what stands at it, and its line of examples/slips.md. With `brackets`
-    a bracketed part ends before the mark, and `before` is what stands before that. `found` is what the program found."""
+    """A slip: the rule, what stands before the mark and at it, and its line of examples/slips.md.
+    With `brackets` a bracketed part ends before the mark, and `before` is what stands before that.
+    `found` is what the program tells of it."""
 
     def __init__(self, rule, before, at, row, found=None, brackets=False):
-        self.rule, self.before, self.at, self.row, self.found, self.brackets = rule, before, at, row, found, brackets
+        self.rule, self.before, self.at, self.row = rule, before, at, row
+        self.found, self.brackets = found, brackets
 
     def is_there(self, rule, before, at, explained):
         """Whether a fault is it. `before` has no comments, and nothing in its strings."""
@@ -40,35 +47,36 @@ SLIPS = [
     Slip("T1", r"", r"return\b", "return 1"),
     Slip("T2", r"", r"return\s*\(", "return 1"),
     Slip("T2", r"", r"(print_int|print_num|printi|println|printf)\b", "print_int(3)"),
-    Slip("T6", r"\bdo\s*$", PLACE + r"\s*=", "let var x := 1 in while x do x = 0 end", r"^expected no value, found int$"),
-    Slip("T7", r"", SIZE, "let type t = array of int var v := t [2] of 0 in v.length end", r" of \d+:\d+$"),
+    Slip("T6", r"\bdo\s*$", PLACE + r"\s*=", f"let {ONE} in while x do x = 0 end", r"^expected no val.*int$"),
+    Slip("T7", r"", SIZE, f"let {TWO} in v.length end", r" of \d+:\d+$"),
     Slip("T7", r"", SIZE, 'let var s := "a" in s.length end', r"found string$"),
     Slip("S1", r"&$", r"&", "a && b"),
     Slip("S1", r"\|$", r"\|", "a || b"),
     Slip("S1", r"=$", r"=", "if a == 1 then ()"),
-    Slip("S1", r"[\w\]]\s*\+$", r"\+\s*(;|\)|\]|,|\Z|(end|do|then|else|in|var|function|type)\b)", "x++"),
+    Slip("S1", r"[\w\]]\s*\+$", r"\+\s*" + ENDS, "x++"),
     *(Slip("S1", rf"[\w\]]\s*\{it[2]}$", r"=", it) for it in ("x += 1", "x -= 1", "x *= 2")),
     Slip("S1", r"/$", r"/", "// a remark"),
     Slip("S1", r"", r"//", "// a remark"),
     Slip("S1", r"", r"(elif|elsif|elseif)\b", "if 1 then 2 elif 3 then 4"),
     Slip("S1", r"", r"(and|or)\b", "if a and b then ()"),
-    Slip("S1", r"\bnot\s+$", r"\w", "not a", r"^found (identifier|integer|string)$"),
-    Slip("S1", r"\breturn\s+$", r"", "return 1", r"^found (identifier|integer|string|'nil'|'if'|'let')$"),
-    Slip("S1", r"\bbegin\s+$", r"", "begin 1 end", r"^found (identifier|integer|string|'(if|let|while|for|break)')$"),
+    Slip("S1", r"\bnot\s+$", r"\w", "not a", rf"^found ({SIMPLE})$"),
+    Slip("S1", r"\breturn\s+$", r"", "return 1", rf"^found ({SIMPLE}|'nil'|'if'|'let')$"),
+    Slip("S1", r"\bbegin\s+$", r"", "begin 1 end", rf"^found ({SIMPLE}|'(if|let|while|for|break)')$"),
     Slip("S1", r"\bnew\s+$", r"[A-Za-z]", "new t", r"^found identifier$"),
-    Slip("S1", r"\bfunction\s+\w+\s*$", r"\{", "let function f(x: int) { x } in end", brackets=True),
+    Slip("S1", r"\bfunction\s+\w+\s*$", r"\{", f"let {BRACED} in end", brackets=True),
     Slip("S1", r"\bif\s*$", r"\{", "if (a) { b }", brackets=True),
     Slip("S1", r"\bwhile\s*$", r"\{", "while (a) { b }", brackets=True),
     Slip("S1", r"\b(then|else|do)\s*$", BRACE, "if 1 then { 2 }"),
 ]
 NAME = re.compile(r"[A-Za-z]\w*")
 # Those words of the slips that are names where a source declares them.
-FOREIGN = {*"true false True False null NULL None return print_int print_num printi println printf".split()}
-FOREIGN |= {*"elif elsif elseif and or not begin new".split()}
+FOREIGN = {*"true false True False null NULL None return elif elsif elseif and or not begin".split()}
+FOREIGN |= {*"new print_int print_num printi println printf".split()}
 
 
 def before_brackets(text):
-    """What stands before the bracket that the last token of a text closes, behind which a result's type may stand."""
+    """What stands before the bracket that the last `)` of a text closes, behind which only the type of
+    a result may stand."""
     text, depth = re.sub(r"\)\s*:\s*\w+\s*$", ")", text).rstrip(), 0
     if not text.endswith(")"):
         return None
@@ -85,10 +93,12 @@ def is_declared(word, text):
 
 
 def slip_of(rule, before, at, explained=()):
-    """The line of examples/slips.md for the slip that a fault is, by the text before it, the text from it on, and what the
-    program says of it; or None. A name that is declared, and one that a declared name is near to, is no slip."""
+    """The line of examples/slips.md for the slip that a fault is, by the text before it, the text from
+    it on, and what the program says of it; or None. A name that is declared, and one that a declared
+    name is near to, is no slip."""
     bare = plain(before)
     words = {*NAME.findall(bare)[-1:], *NAME.findall(at)[:1]} & FOREIGN
-    if any(re.search(r"near: .* of \d", it) for it in explained) or any(is_declared(it, bare + at) for it in words):
+    is_near = any(re.search(r"near: .* of \d", it) for it in explained)
+    if is_near or any(is_declared(it, bare + at) for it in words):
         return None
     return next((it.row for it in SLIPS if it.is_there(rule, bare, at, explained)), None)
