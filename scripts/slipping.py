@@ -1,4 +1,4 @@
-"""Slips from other languages, told by what stands before a fault and at it where it is nothing else."""
+"""Slips from other languages, told by what stands before a fault and at it, and what was expected."""
 import re
 
 from reading import plain
@@ -8,6 +8,8 @@ PLACE, SIZE = r"[A-Za-z]\w*(\.\w+|\[[^\[\]]*\])*", r"\w+\.(length|size|len)\b"
 # What can't be the begin of a record's fields.
 BRACE = r"\{(?!\s*(\}|\w+\s*=[^=]))"
 SIMPLE = "identifier|integer|string"
+# What is told where an expression can go on by an operator.
+BEHIND = r"\nexpected .*'\+'"
 # Behind which an expression can't go on.
 ENDS = r"(;|\)|\]|,|\Z|(end|do|then|else|in|var|function|type)\b)"
 ONE, TWO = "var x := 1", "type t = array of int var v := t [2] of 0"
@@ -19,17 +21,17 @@ BEGINS = r"(^|[^\w)\]}\"\s])\s*$|\b(if|while|then|else|do|of|in|to)\s*$"
 class Slip:
     """A slip: the rule, what stands before the mark and at it, and its line of examples/slips.md.
     With `brackets` a bracketed part ends before the mark, and `before` is what stands before that.
-    `found` is what the program tells of it."""
+    `told` is what the program tells of it."""
 
-    def __init__(self, rule, before, at, row, found=None, brackets=False):
+    def __init__(self, rule, before, at, row, told=None, brackets=False):
         self.rule, self.before, self.at, self.row = rule, before, at, row
-        self.found, self.brackets = found, brackets
+        self.told, self.brackets = told, brackets
 
     def is_there(self, rule, before, at, explained):
         """Whether a fault is it. `before` has no comments, and nothing in its strings."""
         if rule != self.rule or not re.match(self.at, at):
             return False
-        if self.found and not any(re.search(self.found, it) for it in explained):
+        if self.told and not re.search(self.told, "\n".join(explained)):
             return False
         front = before_brackets(before) if self.brackets else before
         return front is not None and re.search(self.before, front) is not None
@@ -47,7 +49,7 @@ SLIPS = [
     Slip("T1", r"", r"return\b", "return 1"),
     Slip("T2", r"", r"return\s*\(", "return 1"),
     Slip("T2", r"", r"(print_int|print_num|printi|println|printf)\b", "print_int(3)"),
-    Slip("T6", r"\bdo\s*$", PLACE + r"\s*=", f"let {ONE} in while x do x = 0 end", r"^expected no val.*int$"),
+    Slip("T6", r"\bdo\s*$", PLACE + r"\s*=", f"let {ONE} in while x do x = 0 end", "no value, found int$"),
     Slip("T7", r"", SIZE, f"let {TWO} in v.length end", r" of \d+:\d+$"),
     Slip("T7", r"", SIZE, 'let var s := "a" in s.length end', r"found string$"),
     Slip("S1", r"&$", r"&", "a && b"),
@@ -57,12 +59,12 @@ SLIPS = [
     *(Slip("S1", rf"[\w\]]\s*\{it[2]}$", r"=", it) for it in ("x += 1", "x -= 1", "x *= 2")),
     Slip("S1", r"/$", r"/", "// a remark"),
     Slip("S1", r"", r"//", "// a remark"),
-    Slip("S1", r"", r"(elif|elsif|elseif)\b", "if 1 then 2 elif 3 then 4"),
-    Slip("S1", r"", r"(and|or)\b", "if a and b then ()"),
-    Slip("S1", r"\bnot\s+$", r"\w", "not a", rf"^found ({SIMPLE})$"),
-    Slip("S1", r"\breturn\s+$", r"", "return 1", rf"^found ({SIMPLE}|'nil'|'if'|'let')$"),
-    Slip("S1", r"\bbegin\s+$", r"", "begin 1 end", rf"^found ({SIMPLE}|'(if|let|while|for|break)')$"),
-    Slip("S1", r"\bnew\s+$", r"[A-Za-z]", "new t", r"^found identifier$"),
+    Slip("S1", r"", r"(elif|elsif|elseif)\b", "if 1 then 2 elif 3 then 4", r"\nexpected .*'else'"),
+    Slip("S1", r"", r"(and|or)\b", "if a and b then ()", BEHIND),
+    Slip("S1", r"\bnot\s+$", r"\w", "not a", f"found ({SIMPLE}){BEHIND}"),
+    Slip("S1", r"\breturn\s+$", r"", "return 1", f"found ({SIMPLE}|'(nil|if|let)'){BEHIND}"),
+    Slip("S1", r"\bbegin\s+$", r"", "begin 1 end", f"found ({SIMPLE}|'(if|let|while|for)'){BEHIND}"),
+    Slip("S1", r"\bnew\s+$", r"[A-Za-z]", "new t", f"found identifier{BEHIND}"),
     Slip("S1", r"\bfunction\s+\w+\s*$", r"\{", f"let {BRACED} in end", brackets=True),
     Slip("S1", r"\bif\s*$", r"\{", "if (a) { b }", brackets=True),
     Slip("S1", r"\bwhile\s*$", r"\{", "while (a) { b }", brackets=True),
