@@ -1,8 +1,9 @@
-"""Tells in which function a run of a source ended, and the call of it, by the text, the labels and the last steps.
+"""Tells in which function a run of a source ended, and the call of it, by the text, the labels and
+the last steps.
 
-What isn't exact isn't told: the input must be there once more, the run within the time that is taken for it, and the call
-within the steps that are looked at. The place of an operation or a call is told where its function has one alone that can
-be meant.
+What isn't exact isn't told: the input must be there once more, the run within the time that is
+taken for it, and the call within the steps that are looked at. The place of an operation or a call
+is told where its function has one alone that can be meant.
 """
 import bisect
 import os
@@ -17,7 +18,8 @@ from reading import tree_of
 HEAD = re.compile(r"(?m)^function (\d+) (\S+)(?: (\d+):(\d+))?$")
 STEPS = re.compile(r"(?m)^steps (\d+)$")
 FETCH = re.compile(r"(?m)^0x(\w{8}) 0x(\w{8})$")
-# A run is watched again up to so many times, 16 steps earlier each time, and all that takes so many seconds.
+# A run is watched again up to so many times, 16 steps earlier each time, and all that takes so many
+# seconds.
 MOST_RUNS, MOST_SECONDS = 100, 10
 RETURN, CALL = 0x03E00008, 3
 BODY = 32
@@ -33,7 +35,8 @@ MADE = {"make_array": "array", "make_record": "record"}
 
 
 class Function:
-    """A function of the source or of the runtime: its label's number, its name, and where it is declared, if it is."""
+    """A function of the source or of the runtime: its label's number, its name, and where it is
+    declared, if it is."""
 
     def __init__(self, label, name, line, column):
         self.label, self.name, self.is_of_runtime = int(label), name, int(label) < BODY
@@ -62,7 +65,8 @@ class Run:
         return subprocess.run([program(), *words], input=data, capture_output=True, timeout=left)
 
     def watched(self, steps=None):
-        """The number of steps of the run, or of its first steps, and the last places with the words there."""
+        """The number of steps of the run, or of its first steps, and the last places with the words
+        there."""
         words = list(self.words)
         if steps is not None and "--steps" in words:
             at = words.index("--steps")
@@ -78,7 +82,8 @@ class Run:
         return self.functions.get(self.labels[index]) if index >= 0 else None
 
     def steps_back(self, steps, fetches):
-        """Yields the places and words of the last steps, the last one first, as far back as is looked."""
+        """Yields the places and words of the last steps, the last one first, as far back as is
+        looked."""
         for _ in range(MOST_RUNS):
             yield from reversed(fetches)
             steps -= len(fetches)
@@ -87,7 +92,8 @@ class Run:
             _, fetches = self.watched(steps)
 
     def callers(self, steps, fetches):
-        """Yields the function in which the run ended, then those by which it was called, as far back as is looked."""
+        """Yields the function in which the run ended, then those by which it was called, as far
+        back as is looked."""
         depth = 0
         for number, (at, word) in enumerate(self.steps_back(steps, fetches)):
             if not number:
@@ -113,7 +119,8 @@ class Source:
         return before.count("\n") + 1, len(before) - before.rfind("\n")
 
     def parts_of(self, function):
-        """The parts of a function, or of the program's body, without those of the functions in it."""
+        """The parts of a function, or of the program's body, without those of the functions in it.
+        """
         if not self.tree:
             return
         whole = [it for it in self.tree.all_parts() if it.kind == "function" and self.place(it.first) == function.place]
@@ -124,7 +131,8 @@ class Source:
             left += [it for it in part.parts if it.kind != "function"]
 
     def only(self, function, test):
-        """`LINE:COLUMN` of the one part of a function that can be meant, or None where there are several."""
+        """`LINE:COLUMN` of the one part of a function that can be meant, or None where there are
+        several."""
         found = [it.first if it.mark is None else it.mark for it in self.parts_of(function) if test(it)]
         return "{}:{}".format(*self.place(found[0])) if len(found) == 1 else None
 
@@ -170,7 +178,8 @@ def told_by(source, chain, end):
 
 
 def input_again(source, begin):
-    """What the run read, where that can be told: of a file, or nothing where the source doesn't read."""
+    """What the run read, where that can be told: of a file, or nothing where the source doesn't
+    read."""
     if not any(it.text == "getchar" for it in source.tokens):
         return b""
     try:
@@ -182,7 +191,8 @@ def input_again(source, begin):
 
 
 def told_of(words, path, end, begin):
-    """The line that tells where a run ended, or nothing. `end` is the line of the end, and `begin` where its input began."""
+    """The line that tells where a run ended, or nothing. `end` is the line of the end, and `begin`
+    where its input began."""
     source = Source(path)
     data = input_again(source, begin)
     if data is None or not source.tree:

@@ -1,4 +1,5 @@
-"""Notes on a source that the program accepts: where it has something else than what was likely meant.
+"""Notes on a source that the program accepts: where it has something else than what was likely
+meant.
 
 A value that is dropped is told where nothing else can come of it: a literal, a variable, or sums,
 products and comparisons of these. What stands behind a loop is told where the layout or the
@@ -42,7 +43,8 @@ class Notes:
         return not before[before.rfind("\n") + 1 :].strip(" \t")
 
     def look(self, node, is_dropped, is_last=False):
-        """Looks at a part whose value is dropped or not; with `is_last` it is the program's value."""
+        """Looks at a part whose value is dropped or not; with `is_last` it is the program's value.
+        """
         if is_dropped:
             self.look_at_value(node, is_last)
         if node.kind == "sequence":
@@ -56,7 +58,8 @@ class Notes:
             self.look(it, is_dropped and hands_on(node, number), is_last)
 
     def is_pure(self, node):
-        """Whether a part is made of literals, variables and operators alone, and divides by nothing."""
+        """Whether a part is made of literals, variables and operators alone, and divides by
+        nothing."""
         return all(it.kind in PURE for it in node.all_parts()) and "/" not in self.words_of(node)
 
     def look_at_value(self, node, is_last):

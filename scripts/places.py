@@ -14,7 +14,8 @@ def words_of(item):
 
 
 def places(text):
-    """The place of each label in the code of an assembly text, in their order, and the number of words of the code."""
+    """The place of each label in the code of an assembly text, in their order, and the number of
+    words of the code."""
     labels, count, in_code = [], 0, True
     for line in text.splitlines():
         item = re.sub(r'#.*|"(\\.|[^"\\])*"', "", line)

@@ -1,4 +1,5 @@
-"""Reads a source that the program accepts: its tokens, and its tree as far as places and dropped values need it."""
+"""Reads a source that the program accepts: its tokens, and its tree as far as places and dropped
+values need it."""
 import re
 import sys
 
@@ -41,7 +42,8 @@ def end_of_comment(source, at):
 
 
 def pieces(source):
-    """Yields each token, comment and run of blanks of a source, and a byte that begins none as one of kind `byte`."""
+    """Yields each token, comment and run of blanks of a source, and a byte that begins none as one
+    of kind `byte`."""
     at = 0
     while at < len(source):
         found = TOKEN.match(source, at)
@@ -63,8 +65,8 @@ def plain(source):
 
 
 class Node:
-    """A part of the tree: its kind, the first and the last of its tokens by their index, and its parts. `mark` is the index
-    of its operator, where it has one."""
+    """A part of the tree: its kind, the first and the last of its tokens by their index, and its
+    parts. `mark` is the index of its operator, where it has one."""
 
     def __init__(self, kind, first, last, parts=(), mark=None):
         self.kind, self.first, self.last, self.parts, self.mark = kind, first, last, list(parts), mark
@@ -216,7 +218,8 @@ class Reader:
             self.take()
 
     def named(self, first):
-        """What begins with a name: a call, a record, an array, an assignment, or a variable, a field or an element."""
+        """What begins with a name: a call, a record, an array, an assignment, or a variable, a
+        field or an element."""
         self.take()
         if self.skip("("):
             return self.node("call", first, self.several(",", ")"))

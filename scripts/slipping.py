@@ -1,4 +1,5 @@
-"""Slips from other languages, told by what stands before a fault and at it, and what was expected."""
+"""Slips from other languages, told by what stands before a fault and at it, and what was expected.
+"""
 import re
 
 from reading import plain
@@ -77,8 +78,8 @@ FOREIGN |= {*"new print_int print_num printi println printf".split()}
 
 
 def before_brackets(text):
-    """What stands before the bracket that the last `)` of a text closes, behind which only the type of
-    a result may stand."""
+    """What stands before the bracket that the last `)` of a text closes, behind which only the type
+    of a result may stand."""
     text, depth = re.sub(r"\)\s*:\s*\w+\s*$", ")", text).rstrip(), 0
     if not text.endswith(")"):
         return None
@@ -95,9 +96,9 @@ def is_declared(word, text):
 
 
 def slip_of(rule, before, at, explained=()):
-    """The line of examples/slips.md for the slip that a fault is, by the text before it, the text from
-    it on, and what the program says of it; or None. A name that is declared, and one that a declared
-    name is near to, is no slip."""
+    """The line of examples/slips.md for the slip that a fault is, by the text before it, the text
+    from it on, and what the program says of it; or None. A name that is declared, and one that a
+    declared name is near to, is no slip."""
     bare = plain(before)
     words = {*NAME.findall(bare)[-1:], *NAME.findall(at)[:1]} & FOREIGN
     is_near = any(re.search(r"near: .* of \d", it) for it in explained)
