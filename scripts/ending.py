@@ -57,8 +57,9 @@ class Run:
         shown = self.called("show", path, *flags).stdout.decode("latin-1")
         self.functions = {found[1]: Function(*found.groups()) for found in HEAD.finditer(shown)}
         labels, _ = places(self.called("build", path, *flags).stdout.decode("latin-1"))
-        whole = [(at, "32" if it == "main" else it[1:]) for at, it in labels if re.fullmatch(r"main|f\d+", it)]
-        self.begins, self.labels = [at for at, _ in whole], [it for _, it in whole]
+        whole = [(at, it) for at, it in labels if re.fullmatch(r"main|f\d+", it)]
+        self.begins = [at for at, _ in whole]
+        self.labels = [str(BODY) if it == "main" else it[1:] for _, it in whole]
 
     def called(self, *words, data=b""):
         left = max(0, self.deadline - time.monotonic())
@@ -74,7 +75,8 @@ class Run:
         words += ["--watch", *(["--steps", str(steps)] if steps is not None else [])]
         told = self.called(*words, data=self.data).stderr.decode("latin-1")
         found = STEPS.search(told)
-        return int(found[1]) if found else 0, [(int(at, 16), int(word, 16)) for at, word in FETCH.findall(told)]
+        fetches = [(int(at, 16), int(word, 16)) for at, word in FETCH.findall(told)]
+        return int(found[1]) if found else 0, fetches
 
     def function_at(self, at):
         """The function whose code a place is in, or None."""
@@ -123,7 +125,8 @@ class Source:
         """
         if not self.tree:
             return
-        whole = [it for it in self.tree.all_parts() if it.kind == "function" and self.place(it.first) == function.place]
+        all_functions = [it for it in self.tree.all_parts() if it.kind == "function"]
+        whole = [it for it in all_functions if self.place(it.first) == function.place]
         left = [*whole[0].parts] if whole else [] if function.place else [self.tree]
         while left:
             part = left.pop()
@@ -133,15 +136,19 @@ class Source:
     def only(self, function, test):
         """`LINE:COLUMN` of the one part of a function that can be meant, or None where there are
         several."""
-        found = [it.first if it.mark is None else it.mark for it in self.parts_of(function) if test(it)]
+        meant = filter(test, self.parts_of(function))
+        found = [it.first if it.mark is None else it.mark for it in meant]
         return "{}:{}".format(*self.place(found[0])) if len(found) == 1 else None
 
     def call_of(self, function, callee):
         """The place of the one call of a function in another."""
         kind = MADE.get(callee.name) if callee.is_of_runtime else None
-        if kind:
-            return self.only(function, lambda it: it.kind == kind)
-        return self.only(function, lambda it: it.kind == "call" and self.tokens[it.first].text == callee.name)
+
+        def is_meant(part):
+            is_called = part.kind == "call" and self.tokens[part.first].text == callee.name
+            return part.kind == kind if kind else is_called
+
+        return self.only(function, is_meant)
 
     def operation_of(self, function, end):
         """The place of the one operation of a function by which a run can end so."""
@@ -151,7 +158,7 @@ class Source:
         return self.only(function, lambda it: it.kind == kind and self.operator(it) in marks)
 
     def operator(self, part):
-        return "-" if part.mark is None and part.kind == "operation" else self.tokens[part.mark].text
+        return "-" if part.mark is None else self.tokens[part.mark].text
 
 
 def in_time(chain):
@@ -168,7 +175,8 @@ def told_by(source, chain, end):
     function = next(chain, None) if inner and inner.is_of_runtime else inner
     if function is None or function.is_of_runtime:
         return
-    at = source.call_of(function, inner) if inner is not function else source.operation_of(function, end)
+    is_own = inner is function
+    at = source.operation_of(function, end) if is_own else source.call_of(function, inner)
     yield f"in {function.told()}" + (f" at {at}" if at else "")
     if function.place:
         caller = next(chain, None)

@@ -77,7 +77,8 @@ class Notes:
             is_loop = loop.kind == "loop"
             if is_loop and (self.is_laid_out_as_body(loop, behind) or self.is_needed(loop, behind)):
                 where = "{}:{}".format(*self.place(loop.first))
-                self.note(behind.first, f"this isn't in the loop of {where}, which ends before the `;`")
+                words = f"this isn't in the loop of {where}, which ends before the `;`"
+                self.note(behind.first, words)
 
     def is_laid_out_as_body(self, loop, behind):
         """Whether a part begins in the column of a loop's body, further in than the loop, each on a

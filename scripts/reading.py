@@ -48,7 +48,9 @@ def pieces(source):
     while at < len(source):
         found = TOKEN.match(source, at)
         kind = found.lastgroup if found else "byte"
-        end = end_of_comment(source, at) or len(source) if kind == "comment" else found.end() if found else at + 1
+        end = found.end() if found else at + 1
+        if kind == "comment":
+            end = end_of_comment(source, at) or len(source)
         yield Token(kind, source[at:end], at)
         at = end
 
@@ -69,7 +71,8 @@ class Node:
     parts. `mark` is the index of its operator, where it has one."""
 
     def __init__(self, kind, first, last, parts=(), mark=None):
-        self.kind, self.first, self.last, self.parts, self.mark = kind, first, last, list(parts), mark
+        self.kind, self.first, self.last = kind, first, last
+        self.parts, self.mark = list(parts), mark
 
     def all_parts(self):
         """Yields itself and all parts of it."""
@@ -90,7 +93,8 @@ class Reader:
 
     def take(self, *texts):
         """Goes over a token, which is one of these, or any name where none is given."""
-        if self.at >= len(self.tokens) or (self.text() not in texts if texts else not self.tokens[self.at].is_name()):
+        is_end = self.at >= len(self.tokens)
+        if is_end or (self.text() not in texts if texts else not self.tokens[self.at].is_name()):
             raise Unread(f"token {self.at}")
         self.at += 1
 
@@ -117,8 +121,8 @@ class Reader:
         while self.text() in LEVELS[level]:
             mark = self.at
             self.at += 1
-            right = self.whole(level + 1)
-            left = self.node("comparison" if LEVELS[level] is COMPARISONS else "operation", first, [left, right], mark)
+            kind = "comparison" if LEVELS[level] is COMPARISONS else "operation"
+            left = self.node(kind, first, [left, self.whole(level + 1)], mark)
         return left
 
     def unary(self):
@@ -135,7 +139,8 @@ class Reader:
         if token.kind in ("text", "number") or token.text in ("nil", "break"):
             self.at += 1
             return self.node("break" if token.text == "break" else "literal", first)
-        read = {"(": self.sequence, "let": self.scope, "if": self.choice, "while": self.turns, "for": self.counting}
+        read = {"(": self.sequence, "let": self.scope, "if": self.choice}
+        read |= {"while": self.turns, "for": self.counting}
         return read[token.text](first) if token.text in read else self.named(first)
 
     def several(self, separator, *ends):

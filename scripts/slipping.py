@@ -8,7 +8,7 @@ OPERAND = r"""\s*[\w("]"""
 PLACE, SIZE = r"[A-Za-z]\w*(\.\w+|\[[^\[\]]*\])*", r"\w+\.(length|size|len)\b"
 # What can't be the begin of a record's fields.
 BRACE = r"\{(?!\s*(\}|\w+\s*=[^=]))"
-SIMPLE = "identifier|integer|string"
+SIMPLE, LONG, NO_VALUE = "identifier|integer|string", "'(if|let|while|for)'", "no value, found int$"
 # What is told where an expression can go on by an operator.
 BEHIND = r"\nexpected .*'\+'"
 # Behind which an expression can't go on.
@@ -50,7 +50,7 @@ SLIPS = [
     Slip("T1", r"", r"return\b", "return 1"),
     Slip("T2", r"", r"return\s*\(", "return 1"),
     Slip("T2", r"", r"(print_int|print_num|printi|println|printf)\b", "print_int(3)"),
-    Slip("T6", r"\bdo\s*$", PLACE + r"\s*=", f"let {ONE} in while x do x = 0 end", "no value, found int$"),
+    Slip("T6", r"\bdo\s*$", PLACE + r"\s*=", f"let {ONE} in while x do x = 0 end", NO_VALUE),
     Slip("T7", r"", SIZE, f"let {TWO} in v.length end", r" of \d+:\d+$"),
     Slip("T7", r"", SIZE, 'let var s := "a" in s.length end', r"found string$"),
     Slip("S1", r"&$", r"&", "a && b"),
@@ -64,7 +64,7 @@ SLIPS = [
     Slip("S1", r"", r"(and|or)\b", "if a and b then ()", BEHIND),
     Slip("S1", r"\bnot\s+$", r"\w", "not a", f"found ({SIMPLE}){BEHIND}"),
     Slip("S1", r"\breturn\s+$", r"", "return 1", f"found ({SIMPLE}|'(nil|if|let)'){BEHIND}"),
-    Slip("S1", r"\bbegin\s+$", r"", "begin 1 end", f"found ({SIMPLE}|'(if|let|while|for)'){BEHIND}"),
+    Slip("S1", r"\bbegin\s+$", r"", "begin 1 end", f"found ({SIMPLE}|{LONG}){BEHIND}"),
     Slip("S1", r"\bnew\s+$", r"[A-Za-z]", "new t", f"found identifier{BEHIND}"),
     Slip("S1", r"\bfunction\s+\w+\s*$", r"\{", f"let {BRACED} in end", brackets=True),
     Slip("S1", r"\bif\s*$", r"\{", "if (a) { b }", brackets=True),
@@ -73,8 +73,8 @@ SLIPS = [
 ]
 NAME = re.compile(r"[A-Za-z]\w*")
 # Those words of the slips that are names where a source declares them.
-FOREIGN = {*"true false True False null NULL None return elif elsif elseif and or not begin".split()}
-FOREIGN |= {*"new print_int print_num printi println printf".split()}
+FOREIGN = {*"true false True False null NULL None return elif elsif elseif and or not".split()}
+FOREIGN |= {*"begin new print_int print_num printi println printf".split()}
 
 
 def before_brackets(text):
