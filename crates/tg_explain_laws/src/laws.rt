@@ -1,0 +1,8 @@
+ghost use Rattle.tg_explain_laws.specs.laws.Spans.{NamesAreCovered, SpansNest};
+
+/// Laws of spans: in the tree of a text the spans of a part's parts stand within its own, one after
+/// another, so an expression's covers all names in it. It does nothing.
+pub fn spans_nest()
+    ensures nest { SpansNest }
+    ensures names { NamesAreCovered }
+{}
