@@ -1,3 +1,4 @@
 mod Orders
 mod Nest
 mod Covered
+mod Growing

@@ -1,3 +1,4 @@
+ghost use Rattle.tg_explain_laws.specs.laws.First.{FirstStays};
 ghost use Rattle.tg_explain_laws.specs.laws.Spans.{NamesAreCovered, SpansNest};
 
 /// Laws of spans: in the tree of a text the spans of a part's parts stand within its own, one after
@@ -5,4 +6,10 @@ ghost use Rattle.tg_explain_laws.specs.laws.Spans.{NamesAreCovered, SpansNest};
 pub fn spans_nest()
     ensures nest { SpansNest }
     ensures names { NamesAreCovered }
+{}
+
+/// A law: what is found broken among the facts before a part is what is found behind it, so the
+/// types that are told are the first in the order in which a program is checked. It does nothing.
+pub fn first_stays()
+    ensures { FirstStays }
 {}
