@@ -6,4 +6,4 @@
 
 mod laws;
 
-pub use laws::{first_stays, spans_nest};
+pub use laws::{declared_within, first_stays, spans_nest};
