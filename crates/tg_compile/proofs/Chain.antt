@@ -44,6 +44,8 @@ use Rattle.tg_emit_laws.proofs.Soundness.{program_has_image}
 use Rattle.tg_compile.specs.declared.programs.Placement.{Placement}
 use Rattle.tg_canon_trace_proof.specs.Flattened.{flattened}
 use Rattle.tg_code_bounds.specs.Allocating.{Chooses, IsAllocationOf}
+use Rattle.tg_delay.specs.Filling.{delayed}
+use Rattle.tg_compile.specs.Slots.{CompilesDelayed}
 use Rattle.tg_compile.specs.Compiling.{fragments_of, CompileFunctions, HasImage, Compiles}
 use Rattle.tg_compile.specs.glue.Passes.{allocation_of, prepared_fragment, CompileApart}
 use Rattle.tg_compile.specs.declared.passes.Passes.{Passes}
@@ -145,6 +147,33 @@ compiles_whole passes rule notes body functions literals codes ps all text tree 
       text_is = written ∙ ap (λ (cs : List Allocated). text_of (assembly_of cs literals)) same;
       program = subst (λ (cs : List Allocated). IsWholeProgram cs literals) same whole;
       typed = subst (λ (cs : List Allocated). AreTyped cs literals) same typed;
+    }
+
+-- and whose text is written with its delay slots
+pub delayed_whole : (passes : Passes) (rule : Rule) (notes : List Note) (body : Exp) (functions : List Fragment) (literals : List Literal)
+    (codes : List Allocated) (ps : List Placement) (all : List Allocation) (text : List ℕ) →
+    tree_of functions literals ≡ fragments_of notes body → CompileApart rule (map (prepared_fragment passes) functions) codes ps →
+    all ≡ map allocation_of (zip codes ps) →
+    text ≡ text_of (delayed (assembly_of codes literals)) → IsWholeProgram codes literals → AreTyped codes literals →
+    CompilesDelayed passes rule notes body all text
+delayed_whole passes rule notes body functions literals codes ps all text tree apart joins written whole typed =
+    let both = together rule (map (prepared_fragment passes) functions) codes ps apart in
+    let made : map (prepared_fragment passes) functions ≡ (prepared passes (fragments_of notes body)).functions =
+    prepared_fragments passes functions literals ∙ ap (λ (c : Code Ts). (prepared passes c).functions) tree in
+    let P : List Allocation → Type 0 = λ xs. CompileFunctions rule (map (prepared_fragment passes) functions) xs in
+    let Q : List (Function Ts) → Type 0 = λ fs. CompileFunctions rule fs all in
+    let same : codes ≡ codes_of all = sym (ap codes_of joins ∙ both.1) in
+    record {
+      plain = text_of (assembly_of (codes_of all) literals);
+      compiles = record {
+        literals = literals;
+        functions_are = subst Q made (subst P (sym joins) both.0);
+        literals_are = ap (λ (c : Code Ts). c.literals) tree ∙ sym (literals_stay passes (fragments_of notes body));
+        text_is = refl;
+        program = subst (λ (cs : List Allocated). IsWholeProgram cs literals) same whole;
+        typed = subst (λ (cs : List Allocated). AreTyped cs literals) same typed;
+      };
+      text_is = written ∙ ap (λ (cs : List Allocated). text_of (delayed (assembly_of cs literals))) same;
     }
 
 -- a function with such canonical statements, cut into blocks that are laid in traces

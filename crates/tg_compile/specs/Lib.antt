@@ -1,4 +1,5 @@
 pub mod Prepared
 pub mod Compiling
+pub mod Slots
 pub mod glue
 pub mod laws

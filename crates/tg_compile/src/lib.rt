@@ -14,4 +14,4 @@ pub use bodies::choose;
 pub use compiled::Compiled;
 pub use laws::{instructions_name_their_own, prepared_is_reduced};
 pub use passes::Passes;
-pub use programs::{compile_checked, fragments};
+pub use programs::{compile_checked, compile_delayed, fragments};

@@ -8,7 +8,9 @@ ghost use Rattle.tg_translate_laws.specs.laws.Laws.{names};
 ghost use Rattle.tg_emit.specs.mirror.Lines.{assembly_of};
 ghost use Rattle.tg_emit.specs.mirror.Text.{text_of};
 ghost use Rattle.tg_emit_laws.specs.Programs.{AreTyped, IsWholeProgram, bytes_of};
+ghost use Rattle.tg_delay.specs.Filling.{delayed};
 ghost use Rattle.tg_compile.specs.Compiling.{Compiles, LiteralsFit, fragments_of};
+ghost use Rattle.tg_compile.specs.Slots.{CompilesDelayed};
 ghost use Rattle.tg_compile.specs.glue.Passes.{
   AreLinked,
   AreSmall,
@@ -26,6 +28,7 @@ use crate::laws::{
 use crate::passes::Passes;
 use std::alloc::Global;
 use tg_base::Memory;
+use tg_delay::delay;
 use tg_emit::{emit, text};
 use tg_escape::escapes;
 use tg_instr::Allocated;
@@ -78,6 +81,35 @@ pub fn compile_checked(
     prepared_is_reduced();
     compiled_is_small(checked, passes);
     let written = write(alloc, &functions.codes, &literals)?;
+    Ok(Compiled {
+        allocations: join(alloc, functions)?,
+        text: written,
+    })
+}
+
+/// Compiles a program that has no fault as `compile_checked` does, for the machine with delayed
+/// branches: the text is that of the same assembly with its delay slots.
+pub fn compile_delayed(
+    alloc: Global,
+    checked: &Checked,
+    passes: Passes,
+    policy: &mut dyn SpillPolicy,
+) -> Result<Compiled, Memory>
+    requires { LiteralsFit checked.now.notes (plain checked.now.program.body) }
+    ensures compiles { IfOk result
+        (λ c. CompilesDelayed passes (rule policy.old) checked.now.notes
+        (plain checked.now.program.body) c.allocations.items c.text.items) }
+    ensures same { rule policy.new ≡ rule policy.old }
+{
+    let Fragments {
+        functions: bodies,
+        literals,
+    } = fragments(alloc, checked)?;
+    let functions = compile_functions(alloc, bodies, passes, policy)?;
+    code_names_no_more();
+    prepared_is_reduced();
+    compiled_is_small(checked, passes);
+    let written = write_delayed(alloc, &functions.codes, &literals)?;
     Ok(Compiled {
         allocations: join(alloc, functions)?,
         text: written,
@@ -146,6 +178,25 @@ fn write(alloc: Global, codes: &[Allocated], literals: &[Literal]) -> Result<Vec
 {
     let assembly = emit(alloc, codes, literals)?;
     Ok(text(alloc, &assembly)?)
+}
+
+/// The assembly text of functions and literals, with delay slots.
+fn write_delayed(
+    alloc: Global,
+    codes: &[Allocated],
+    literals: &[Literal],
+) -> Result<Vec<u8>, Memory>
+    requires linked { AreLinked codes.now literals.now }
+    requires small { AreSmall codes.now }
+    requires fit { bytes_of literals.now ≤ most_bytes }
+    ensures text { IfOk result
+        (λ t. t.items ≡ text_of (delayed (assembly_of codes.now literals.now))) }
+    ensures program { IfOk result (λ t. IsWholeProgram codes.now literals.now) }
+    ensures typed { IfOk result (λ t. AreTyped codes.now literals.now) }
+{
+    let plain = emit(alloc, codes, literals)?;
+    let slots = delay(alloc, &plain)?;
+    Ok(text(alloc, &slots)?)
 }
 
 /// The allocations of compiled functions.
