@@ -131,9 +131,10 @@ pub fn runs_are_as_meant<I, O>()
 }
 
 /// The headline of commands: with good words for a file that is there, and where no count of faults
-/// rose, `build` writes an assembly text that does what its source means, and `run` and `gen` end by
-/// the meaning of theirs; a source with a fault is answered by its first; or memory ran out. It
-/// does nothing.
+/// rose, `build` writes an assembly text that does what its source means, `bare` one that does so on
+/// the machine with delayed branches, and `run` and `gen` end by the meaning of theirs; a source
+/// with a fault is answered by its first, and one that is too large for `bare` there by that; or
+/// memory ran out. It does nothing.
 pub fn commands_are_as_meant<H, I, O, E>()
     ensures { (c : Call H I O E) (status : ℕ) (asked : Asked) (file : List ℕ)
         → Answers c status → IsGood c asked file

@@ -7,6 +7,7 @@
 mod answers;
 mod checking;
 mod compiling;
+mod delaying;
 mod endings;
 mod executing;
 mod explaining;
