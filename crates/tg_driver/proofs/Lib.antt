@@ -6,6 +6,7 @@ pub mod TokensOnce
 pub mod FaultsOnce
 mod ExplanationsOnce
 pub mod SourcesOnce
+pub mod LargeSources
 pub mod CanonicalTexts
 pub mod ModesOnce
 pub mod ToldInputs
@@ -17,5 +18,6 @@ pub mod Complete
 pub mod GivenTexts
 pub mod MeantCommands
 pub mod AnswerLemmas
+pub mod BareAnswers
 pub mod Watched
 mod Safety
