@@ -1,12 +1,9 @@
 -- From what a source is compiled to with delay slots to the answers of `bare`.
-use Rattle.std.specs.Prelude.{Bool}
-use Rattle.std.proofs.Common.{ℕ, ◌≡◌, ◌≤◌, ◌<◌, ◌^◌, inl, inr, List, length, refl, sym, subst, arith}
-use Rattle.std.specs.Io.KnownBytes.{Appends}
+use Rattle.std.proofs.Common.{ℕ, ◌≡◌, ◌≤◌, ◌<◌, ◌^◌, inl, inr, List, length, sym, subst, arith}
 use Rattle.tg_base.specs.Files.{IsFilePrefix}
-use Rattle.tg_syntax.specs.Spans.{span_of}
 use Rattle.tg_command.specs.Commands.{Asked}
 use Rattle.tg_driver.specs.declared.answers.Answer.{Answer}
-use Rattle.tg_driver.specs.declared.answers.Answer.TheVariants.{Faulty, Written, Unwritten, OutOfMemory, Finished}
+use Rattle.tg_driver.specs.declared.answers.Answer.TheVariants.{Faulty, Written, Unwritten, OutOfMemory}
 use Rattle.tg_driver.specs.declared.faults.Fault.{Fault}
 use Rattle.tg_driver.specs.Calls.{Stream, Streams, Stays, HasFailed, Untouched, Shelved, Takes, nothing, all, part}
 use Rattle.tg_driver.specs.OfFiles.{OfFile}

@@ -1,5 +1,5 @@
 -- A source whose program is too large for `bare` has no fault of its own, and isn't small; so `bare` tells one fault at most.
-use Rattle.std.proofs.Common.{ℕ, ◌≡◌, ◌⊎◌, inl, inr, List, refl, sym, ap, subst, ◌∙◌, arith}
+use Rattle.std.proofs.Common.{ℕ, ◌≡◌, ◌⊎◌, inl, inr, List, sym, ap, subst, ◌∙◌, arith}
 use Rattle.tg_base.specs.Lines.{place_of}
 use Rattle.tg_syntax.specs.Spans.{span_of}
 use Rattle.tg_syntax.specs.Tree.{Exp}
@@ -12,7 +12,6 @@ use Rattle.tg_driver.specs.declared.answers.Answer.{Answer}
 use Rattle.tg_driver.specs.declared.answers.Answer.TheVariants.{Faulty, Written, Unwritten}
 use Rattle.tg_driver.specs.declared.faults.Fault.{Fault}
 use Rattle.tg_driver.specs.BareMode.{IsMeantForBare}
-use Rattle.tg_driver.specs.Faults.{IsFaultOf}
 use Rattle.tg_driver.specs.LargePrograms.{IsTooLargeAt, IsTooLarge, IsBareFaultOf, IsSmallSource}
 use Rattle.tg_driver.specs.glue.PrivateCalls.{HasStarted}
 use Rattle.tg_driver.specs.laws.OfTexts.{IsBareWritable}

@@ -1,6 +1,7 @@
 pub mod ProgramsWithin
 pub mod FaultPlaces
 pub mod Typings
+pub mod DelayedTypings
 pub mod LineLemmas
 pub mod TokensOnce
 pub mod FaultsOnce
@@ -13,6 +14,7 @@ pub mod ToldInputs
 pub mod FlagLemmas
 mod ExactRuns
 pub mod MeantEnds
+pub mod BareRuns
 pub mod SettledExplanations
 pub mod Complete
 pub mod GivenTexts

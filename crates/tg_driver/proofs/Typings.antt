@@ -109,6 +109,12 @@ pub has_image : (passes : Passes) (rule : SpillRule) (text : List ℕ) (allocati
 has_image passes rule text allocations assembly h =
     compiled_has_image passes rule h.notes h.program allocations assembly h.compiles
 
+pub named_source : (text : List ℕ) (names : List (List ℕ)) (program : Exp) (sorted : List Note) (t : HasNamedTree text names program) →
+    Accepts (finding names program) sorted → IsSourceOf text names t.tokens program
+named_source text names program sorted t h =
+    let n = noted (finding names program) sorted h in
+    source_of text names program t n.0 n.1.0
+
 pub is_source : (text : List ℕ) (names : List (List ℕ)) (program : Exp) (sorted : List Note) → HasNamedTree text names program →
     Accepts (finding names program) sorted → IsSource text
 is_source text names program sorted t h =

@@ -1,4 +1,4 @@
-ghost use Rattle.std.specs.Prelude.{◌≡◌, ◌≤◌, ◌^◌, ◌<◌, ⊤, ℕ, IfOk, List, MatchResult, length};
+ghost use Rattle.std.specs.Prelude.{◌≡◌, ⊤, ℕ, IfOk, List, MatchResult};
 ghost use Rattle.tg_syntax.specs.glue.Plain.{plain};
 ghost use Rattle.tg_command.specs.Commands.{asked_of};
 ghost use Rattle.tg_compile.specs.Compiling.{LiteralsFit};
@@ -8,7 +8,6 @@ ghost use Rattle.tg_driver.specs.Calls.{shelf_of, stream_of};
 ghost use Rattle.tg_driver.specs.LargePrograms.{IsTooLarge, IsTooLargeAt};
 ghost use Rattle.tg_driver.specs.OfFiles.{OfFile};
 ghost use Rattle.tg_driver.specs.Passes.{passes_of};
-ghost use Rattle.tg_driver.specs.declared.answers.Answer.TheVariants.{Faulty as FaultyAnswer};
 ghost use Rattle.tg_driver.specs.glue.Delays.{IsDelayed, IsDelayedOf};
 ghost use Rattle.tg_driver.specs.glue.PrivateCalls.{GivesText, OrMemory, StaysBeforeStart};
 ghost use Rattle.tg_driver.specs.glue.Readings.{HasNamedTree, IsRefusalOf};
@@ -118,7 +117,7 @@ fn delay_source<O: Sink>(
 /// The answer of a source whose program begins at this byte and is too large.
 fn too_large(text: &[u8], at: u32) -> Answer
     requires { IsTooLargeAt text.now at }
-    ensures { (fault : Fault) × (result ≡ FaultyAnswer fault) × IsTooLarge text.now fault }
+    ensures { (fault : Fault) × (result ≡ Answer.Faulty fault) × IsTooLarge text.now fault }
 {
     Answer::Faulty(Fault {
         rule: Rule::Bare,
