@@ -24,7 +24,7 @@ pub compiles_small : (passes : Passes) (rule : SpillRule) (notes : List Note) (e
     (text : List ℕ) → nodes ≡ saturated (program_size (plain e)) → nodes ≤ 16384 →
     CompilesDelayed passes rule notes (plain e) allocations text → CompilesSmall passes rule notes (plain e) text
 compiles_small passes rule notes e nodes allocations text is few compiles =
-    record { few = capped_within _ 16384 nodes is few (omega arith); allocations = allocations; compiles = compiles }
+    record { small = capped_within _ 16384 nodes is few (omega arith); allocations = allocations; compiles = compiles }
 
 pub large_at : (e : CodeExp) (nodes : ℕ) → nodes ≡ saturated (program_size (plain e)) → 16384 < nodes → IsLargeAt (plain e) e.span.from
 large_at e nodes is large =
@@ -39,7 +39,7 @@ delays passes rule text names program sorted (Text delayed) t h d =
       allocations = d.allocations;
       plain = d.compiles.plain;
       compiles = compiles_to passes rule text names program sorted d.allocations d.compiles.plain t h d.compiles.compiles;
-      few = d.few;
+      few = d.small;
       text_is = d.compiles.text_is;
     }
 delays passes rule text names program sorted (TooLarge at) t h d =

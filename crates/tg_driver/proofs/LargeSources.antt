@@ -6,13 +6,13 @@ use Rattle.tg_syntax.specs.Tree.{Exp}
 use Rattle.tg_irc_definition.specs.Policies.{Rule as SpillRule}
 use Rattle.tg_compile.specs.declared.passes.Passes.{Passes}
 use Rattle.tg_correctness.specs.Sources.{IsSource}
-use Rattle.tg_bare_compile_proof.specs.Builds.{MayBeDelayed, BuildsDelayed}
+use Rattle.tg_bare_compile_proof.specs.Builds.{BuildsDelayed}
 use Rattle.tg_bare_compile_proof.specs.laws.TextLaws.{BareBuildIsCorrect}
 use Rattle.tg_driver.specs.declared.answers.Answer.{Answer}
 use Rattle.tg_driver.specs.declared.answers.Answer.TheVariants.{Faulty, Written, Unwritten}
 use Rattle.tg_driver.specs.declared.faults.Fault.{Fault}
 use Rattle.tg_driver.specs.BareMode.{IsMeantForBare}
-use Rattle.tg_driver.specs.LargePrograms.{IsTooLargeAt, IsTooLarge, IsBareFaultOf, IsSmallSource}
+use Rattle.tg_driver.specs.LargePrograms.{IsSmall, IsTooLargeAt, IsTooLarge, IsBareFaultOf, IsSmallSource}
 use Rattle.tg_driver.specs.glue.PrivateCalls.{HasStarted}
 use Rattle.tg_driver.specs.laws.OfTexts.{IsBareWritable}
 use Rattle.tg_driver.proofs.FaultsOnce.{fault_once_told, source_once}
@@ -27,9 +27,9 @@ small_source text s = record { names = s.names; tokens = s.tokens; program = s.p
 not_small : (text : List ℕ) (at : ℕ) → IsTooLargeAt text at → IsSmallSource text → ⊥
 not_small text at l s =
     let one = source_once text l.names s.names l.tokens s.tokens l.program s.program l.source s.source in
-    let few : MayBeDelayed l.program = subst MayBeDelayed (sym one.same) s.few in
+    let small : IsSmall l.program = subst IsSmall (sym one.same) s.small in
     let large = l.large in
-    absurd (omega (arith, few, large))
+    absurd (omega (arith, small, large))
 
 -- a fault that `bare` tells, and a source that is small
 no_bare_fault : (text : List ℕ) (f : Fault) → IsBareFaultOf text f → IsSmallSource text → ⊥
@@ -76,7 +76,7 @@ meant_small text assembly m = record {
   tokens = m.meant.tokens;
   program = m.meant.program;
   source = m.meant.source;
-  few = m.few;
+  small = m.small;
 }
 
 -- and what such a source is built to does so
@@ -85,4 +85,4 @@ pub meant_for_bare : BareBuildIsCorrect → (passes : Passes) (rule : SpillRule)
 meant_for_bare correct passes rule text assembly b =
     let m = correct passes rule text assembly b in
     let one = source_once text b.compiles.names m.names b.compiles.tokens m.tokens b.compiles.program m.program b.compiles.source m.source in
-    record { meant = m; few = subst MayBeDelayed one.same b.few }
+    record { meant = m; small = subst IsSmall one.same b.few }

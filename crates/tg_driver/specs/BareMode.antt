@@ -3,11 +3,10 @@
 use Rattle.std.specs.Prelude.{ℕ, List}
 use Rattle.tg_command.specs.Commands.{Asked}
 use Rattle.tg_bare_compile_proof.specs.Assemblies.{BareIsAsMeant}
-use Rattle.tg_bare_compile_proof.specs.Builds.{MayBeDelayed}
 use Rattle.tg_driver.specs.declared.answers.Answer.{Answer}
 use Rattle.tg_driver.specs.declared.answers.Answer.TheVariants.{Faulty, Written, Unwritten}
 use Rattle.tg_driver.specs.Calls.{Shelved, Stream, Streams, Stays}
-use Rattle.tg_driver.specs.LargePrograms.{IsBareFaultOf}
+use Rattle.tg_driver.specs.LargePrograms.{IsBareFaultOf, IsSmall}
 use Rattle.tg_driver.specs.OfFiles.{OfFile, UntouchedBeforeStart}
 use Rattle.tg_driver.specs.Writing.{TextRelation, WritesText}
 
@@ -15,7 +14,7 @@ use Rattle.tg_driver.specs.Writing.{TextRelation, WritesText}
 -- that machine.
 pub record IsMeantForBare (text assembly : List ℕ) : Type 0 where
   pub meant : BareIsAsMeant text assembly
-  pub few : MayBeDelayed meant.program
+  pub small : IsSmall meant.program
 
 -- to a source: its first fault, or that it is too large, or what came of writing such a text of it
 abbrev pub IsBareWritten :

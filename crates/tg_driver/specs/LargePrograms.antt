@@ -1,18 +1,23 @@
 -- Programs that are too large for the machine with delayed branches.
-use Rattle.std.specs.Prelude.{ℕ, ◌≡◌, ◌<◌, ◌⊎◌, List}
+use Rattle.std.specs.Prelude.{ℕ, ◌≡◌, ◌≤◌, ◌<◌, ◌⊎◌, List}
 use Rattle.tg_base.specs.Lines.{place_of}
 use Rattle.tg_syntax.specs.declared.tokens.Spanned.{Spanned}
 use Rattle.tg_syntax.specs.Functions.{program_size}
 use Rattle.tg_syntax.specs.Spans.{span_of}
 use Rattle.tg_syntax.specs.Tree.{Exp}
 use Rattle.tg_correctness.specs.Sources.{IsSourceOf}
-use Rattle.tg_bare_compile_proof.specs.Builds.{most_nodes, MayBeDelayed}
 use Rattle.tg_driver.specs.declared.faults.Fault.{Fault}
 use Rattle.tg_driver.specs.declared.faults.Rule.TheVariants.{Bare}
 use Rattle.tg_driver.specs.Faults.{IsFaultOf}
 
--- The text is a source, and its program, which begins at this byte, is too large for its code to fit
--- its segment with delay slots.
+-- the most nodes of a program whose code fits its segment with delay slots
+abbrev pub most_nodes : ℕ
+most_nodes = 16384
+
+abbrev pub IsSmall : Exp → Type 0
+IsSmall program = program_size program ≤ most_nodes
+
+-- The text is a source, and its program, which begins at this byte, is too large for that.
 pub record IsTooLargeAt (text : List ℕ) (at : ℕ) : Type 0 where
   pub names : List (List ℕ)
   pub tokens : List Spanned
@@ -39,4 +44,4 @@ pub record IsSmallSource (text : List ℕ) : Type 0 where
   pub tokens : List Spanned
   pub program : Exp
   pub source : IsSourceOf text names tokens program
-  pub few : MayBeDelayed program
+  pub small : IsSmall program

@@ -8,15 +8,15 @@ use Rattle.tg_irc_definition.specs.Policies.{Rule as SpillRule}
 use Rattle.tg_regalloc.specs.declared.allocations.Allocation.{Allocation}
 use Rattle.tg_compile.specs.declared.passes.Passes.{Passes}
 use Rattle.tg_compile.specs.Slots.{CompilesDelayed}
-use Rattle.tg_bare_compile_proof.specs.Builds.{most_nodes, MayBeDelayed, BuildsDelayed}
+use Rattle.tg_bare_compile_proof.specs.Builds.{BuildsDelayed}
 use Rattle.tg_driver.specs.declared.delaying.Delayed.{Delayed}
 use Rattle.tg_driver.specs.declared.delaying.Delayed.TheVariants.{Text, TooLarge}
-use Rattle.tg_driver.specs.LargePrograms.{IsTooLargeAt}
+use Rattle.tg_driver.specs.LargePrograms.{most_nodes, IsSmall, IsTooLargeAt}
 
 -- the program isn't too large, and this is the text that it is compiled to, with its delay slots
 pub record CompilesSmall (passes : Passes) (rule : SpillRule) (notes : List Note) (body : Exp)
     (text : List ℕ) : Type 0 where
-  pub few : MayBeDelayed body
+  pub small : IsSmall body
   pub allocations : List Allocation
   pub compiles : CompilesDelayed passes rule notes body allocations text
 

@@ -2,8 +2,10 @@ use Rattle.tg_driver.proofs.DelayedTypings.{compiles_small, large_at}
 use Rattle.tg_driver.proofs.delaying.delay_checked.Goals as goal
 
 pub returns-then-program_nodes-gt-MOST_NODES : goal.returns-then-program_nodes-gt-MOST_NODES
-returns-then-program_nodes-gt-MOST_NODES g c = large_at _ _ c.program_nodes.ensures c.if-program_nodes-gt-MOST_NODES.true
+returns-then-program_nodes-gt-MOST_NODES g c =
+    large_at c.args.checked.now.program.body _ c.program_nodes.ensures c.if-program_nodes-gt-MOST_NODES.true
 
-pub returns-in_ok-compiled : goal.returns-in_ok-compiled
-returns-in_ok-compiled g c =
-    compiles_small _ _ _ _ _ _ _ c.program_nodes.ensures c.if-program_nodes-gt-MOST_NODES.false c.in_ok-compiled.ensures.compiles
+pub returns : goal.returns
+returns g c =
+    compiles_small _ _ _ c.args.checked.now.program.body _ _ _ c.program_nodes.ensures c.if-program_nodes-gt-MOST_NODES.false
+    c.in_ok-compiled.ensures.compiles
