@@ -1,14 +1,13 @@
-ghost use Rattle.std.specs.Prelude.{◌≡◌, ⊤, ℕ, IfOk, List, MatchResult};
+ghost use Rattle.std.specs.Prelude.{◌≡◌, ⊤, ℕ, List, MatchResult};
 ghost use Rattle.tg_syntax.specs.glue.Plain.{plain};
 ghost use Rattle.tg_command.specs.Commands.{asked_of};
-ghost use Rattle.tg_compile.specs.Compiling.{LiteralsFit};
 ghost use Rattle.tg_bare_compile_proof.specs.Builds.{BuildsDelayed};
 ghost use Rattle.tg_driver.specs.BareMode.{IsBareWritten};
 ghost use Rattle.tg_driver.specs.Calls.{shelf_of, stream_of};
 ghost use Rattle.tg_driver.specs.LargePrograms.{IsTooLarge, IsTooLargeAt};
 ghost use Rattle.tg_driver.specs.OfFiles.{OfFile};
 ghost use Rattle.tg_driver.specs.Passes.{passes_of};
-ghost use Rattle.tg_driver.specs.glue.Delays.{IsDelayed, IsDelayedOf};
+ghost use Rattle.tg_driver.specs.glue.Delays.{IsDelayedOf};
 ghost use Rattle.tg_driver.specs.glue.PrivateCalls.{GivesText, OrMemory, StaysBeforeStart};
 ghost use Rattle.tg_driver.specs.glue.Readings.{HasNamedTree, IsRefusalOf};
 
@@ -27,7 +26,7 @@ use tg_compile::{Passes, compile_delayed};
 use tg_irc_definition::SpillPolicy;
 use tg_literal_bounds::literals_fit_text;
 use tg_syntax::program_nodes;
-use tg_typecheck::{Checked, check};
+use tg_typecheck::check;
 
 /// The most nodes of a program whose code fits its segment with delay slots.
 const MOST_NODES: u32 = 16_384;
@@ -139,7 +138,7 @@ fn delay_text(
     delay_program(alloc, &source, passes, policy)
 }
 
-/// Types the tree of a source and compiles it.
+/// Types the tree of a source and compiles it, unless it is too large.
 fn delay_program(
     alloc: Global,
     source: &NamedProgram,
@@ -154,26 +153,13 @@ fn delay_program(
         (λ why. IsRefusalOf text why) }
 {
     literals_fit_text();
-    match check(alloc, &source.program, &source.names) {
-        Ok(checked) => Ok(delay_checked(alloc, &checked, passes, policy)?),
-        Err(fault) => Err(ill_typed(fault)),
+    let checked = match check(alloc, &source.program, &source.names) {
+        Ok(checked) => checked,
+        Err(fault) => return Err(ill_typed(fault)),
+    };
+    if program_nodes(&source.program) > MOST_NODES {
+        return Ok(Delayed::TooLarge(source.program.body.span.from));
     }
-}
-
-/// Compiles a program that has no fault, unless it is too large.
-fn delay_checked(
-    alloc: Global,
-    checked: &Checked,
-    passes: Passes,
-    policy: &mut dyn SpillPolicy,
-) -> Result<Delayed, Memory>
-    requires { LiteralsFit checked.now.notes (plain checked.now.program.body) }
-    ensures { IfOk result (λ d. IsDelayed passes (rule policy.old) checked.now.notes
-        (plain checked.now.program.body) d) }
-{
-    if program_nodes(checked.program) > MOST_NODES {
-        return Ok(Delayed::TooLarge(checked.program.body.span.from));
-    }
-    let compiled = compile_delayed(alloc, checked, passes, policy)?;
+    let compiled = compile_delayed(alloc, &checked, passes, policy)?;
     Ok(Delayed::Text(compiled.text))
 }

@@ -25,12 +25,7 @@ pub record IsLargeAt (body : Exp) (at : ℕ) : Type 0 where
   pub large : most_nodes < program_size body
   pub at_is : at ≡ (span_of body).from
 
--- what a program that has no fault is compiled to, or that it is too large
-abbrev pub IsDelayed : Passes → SpillRule → List Note → Exp → Delayed → Type 0
-IsDelayed passes rule notes body (Text text) = CompilesSmall passes rule notes body text.items
-IsDelayed passes rule notes body (TooLarge at) = IsLargeAt body at
-
--- and what a source is
+-- what a source is compiled to, or that its program is too large
 abbrev pub IsDelayedOf : Passes → SpillRule → (text : List ℕ) → Delayed → Type 0
 IsDelayedOf passes rule text (Text delayed) = BuildsDelayed passes rule text delayed.items
 IsDelayedOf passes rule text (TooLarge at) = IsTooLargeAt text at
