@@ -12,7 +12,7 @@ use Rattle.tg_command.specs.Commands.{Ask, Asked, Blames, IsUsageFault, flags, h
 use Rattle.tg_command.specs.Sizes.{given_sizes_fit}
 use Rattle.tg_command.specs.declared.flags.Flags.{Flags}
 use Rattle.tg_command.specs.declared.modes.Mode.{Mode}
-use Rattle.tg_command.specs.declared.modes.Mode.TheVariants.{Check, Build, Run, Exec, Alloc, Show, Gen, Format}
+use Rattle.tg_command.specs.declared.modes.Mode.TheVariants.{Check, Build, Run, Exec, Alloc, Show, Gen, Format, Bare}
 
 given_once : (limits : Limits) (o : Option (List ℕ)) (m n : ℕ) → GivesCount limits o m → GivesCount limits o n → m ≡ n
 given_once limits None m n p q = p ∙ sym q
@@ -27,6 +27,7 @@ number_same Alloc file a b p q = p ∙ sym q
 number_same Show file a b p q = p ∙ sym q
 number_same Gen file a b p q = p.value ∙ sym q.value
 number_same Format file a b p q = p ∙ sym q
+number_same Bare file a b p q = p ∙ sym q
 
 number_once : (m n : Mode) (f g : List ℕ) (a b : ℕ) → m ≡ n → f ≡ g → GivesNumber m f a → GivesNumber n g b → a ≡ b
 number_once m n f g a b same_mode same_file p q =
@@ -34,15 +35,19 @@ number_once m n f g a b same_mode same_file p q =
     let Q : Mode → Type 0 = λ one. GivesNumber one g b in
     number_same m f a b p (subst P (sym same_file) (subst Q (sym same_mode) q))
 
--- the mode of a name, by its first byte
+-- the mode of a name, by its first byte; of two that begin alike by the second
+build_or_bare : List ℕ → Mode
+build_or_bare [] = Build
+build_or_bare (second ∷ rest) = if second == 97 then Bare else Build
+
 mode_named : List ℕ → Mode
 mode_named [] = Check
 mode_named (first ∷ rest) =
-    if first == 99 then Check else if first == 98 then Build else if first == 114 then Run else if first == 101 then Exec
+    if first == 99 then Check else if first == 98 then build_or_bare rest else if first == 114 then Run else if first == 101 then Exec
     else if first == 97 then Alloc else if first == 115 then Show else if first == 102 then Format else Gen
 
 mode_named-name_of : (m : Mode) → mode_named (mode_name m) ≡ m
-unfolding mode_named
+unfolding mode_named build_or_bare
 mode_named-name_of Check = refl
 mode_named-name_of Build = refl
 mode_named-name_of Run = refl
@@ -51,6 +56,7 @@ mode_named-name_of Alloc = refl
 mode_named-name_of Show = refl
 mode_named-name_of Gen = refl
 mode_named-name_of Format = refl
+mode_named-name_of Bare = refl
 
 pub name_once : (a b : Mode) → mode_name a ≡ mode_name b → a ≡ b
 name_once a b e = sym (mode_named-name_of a) ∙ ap mode_named e ∙ mode_named-name_of b

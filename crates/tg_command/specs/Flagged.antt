@@ -7,7 +7,7 @@ use Rattle.tg_command.specs.Simple.{value_of}
 use Rattle.tg_command.specs.declared.flags.Flags.{Flags}
 use Rattle.tg_command.specs.declared.modes.Mode.{Mode}
 use Rattle.tg_command.specs.declared.modes.Mode.TheVariants.{Check, Build, Run, Exec, Alloc, Gen}
-use Rattle.tg_command.specs.declared.modes.Mode.TheVariants.{Show, Format}
+use Rattle.tg_command.specs.declared.modes.Mode.TheVariants.{Show, Format, Bare}
 
 -- the words give the flag: the parser's value of one that stands there is the word `true`
 abbrev pub has_flag : Text → List Text → Bool
@@ -34,6 +34,7 @@ takes_fold Run = true
 takes_fold Alloc = true
 takes_fold Show = true
 takes_fold Gen = true
+takes_fold Bare = true
 takes_fold _ = false
 
 -- `--bare` is for the one that runs assembly text
@@ -49,6 +50,7 @@ takes_explain Run = true
 takes_explain Alloc = true
 takes_explain Show = true
 takes_explain Format = true
+takes_explain Bare = true
 takes_explain _ = false
 
 -- a mode takes the flags, and no run of the machine with delayed branches is watched

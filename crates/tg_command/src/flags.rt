@@ -48,7 +48,7 @@ fn takes_fold(mode: Mode) -> bool
     ensures { result ≡ takes_fold mode }
 {
     match mode {
-        Mode::Build | Mode::Run | Mode::Alloc | Mode::Show | Mode::Gen => true,
+        Mode::Build | Mode::Run | Mode::Alloc | Mode::Show | Mode::Gen | Mode::Bare => true,
         _ => false,
     }
 }
@@ -65,7 +65,8 @@ fn takes_explain(mode: Mode) -> bool
     ensures { result ≡ takes_explain mode }
 {
     match mode {
-        Mode::Check | Mode::Build | Mode::Run | Mode::Alloc | Mode::Show | Mode::Format => true,
+        Mode::Check | Mode::Build | Mode::Run | Mode::Alloc | Mode::Show => true,
+        Mode::Format | Mode::Bare => true,
         _ => false,
     }
 }

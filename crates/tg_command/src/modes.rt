@@ -20,6 +20,8 @@ pub enum Mode {
     Gen,
     /// Writes the canonical text of a source.
     Format,
+    /// Compiles a source and writes its assembly text for the machine with delayed branches.
+    Bare,
 }
 
 /// The mode of this name, in its one spelling. Here and in `mode_name` stand the names of the
@@ -37,6 +39,7 @@ pub(crate) fn named(name: &str) -> Option<Mode>
         "show" => Some(Mode::Show),
         "gen" => Some(Mode::Gen),
         "format" => Some(Mode::Format),
+        "bare" => Some(Mode::Bare),
         _ => None,
     }
 }

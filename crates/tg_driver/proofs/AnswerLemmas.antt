@@ -15,7 +15,7 @@ use Rattle.tg_isa.specs.declared.images.Image.{Image}
 use Rattle.tg_asm_text.specs.Assembly.{assembled}
 use Rattle.tg_asm.specs.Images.{image_of}
 use Rattle.tg_command.specs.declared.modes.Mode.{Mode}
-use Rattle.tg_command.specs.declared.modes.Mode.TheVariants.{Check, Build, Run, Exec, Alloc, Show, Gen, Format}
+use Rattle.tg_command.specs.declared.modes.Mode.TheVariants.{Check, Build, Run, Exec, Alloc, Show, Gen, Format, Bare}
 use Rattle.tg_command.specs.Commands.{Asked, Ask}
 use Rattle.tg_command.proofs.CommandLemmas.{asked_once}
 use Rattle.tg_driver.specs.declared.answers.Answer.{Answer}
@@ -208,7 +208,7 @@ by_check shelf s a OutOfMemory u h = u
 by_check shelf s a _ u h = (u, h)
 
 -- a sink that stays, and a source that does, are streams that do
-before_start : {I O : Type 0} (s : Streams I O) (answer : Answer) → Stays s.input → StaysBeforeStart s.out answer → UntouchedBeforeStart s answer
+pub before_start : {I O : Type 0} (s : Streams I O) (answer : Answer) → Stays s.input → StaysBeforeStart s.out answer → UntouchedBeforeStart s answer
 before_start s (Finished end) i o = tt
 before_start s Written i o = tt
 before_start s Unwritten i o = tt
@@ -277,6 +277,7 @@ left_in texts runs Alloc shelf s a answer b h = untouched s answer b h.1
 left_in texts runs Show shelf s a answer b h = untouched s answer b h.1
 left_in texts runs Gen shelf s a answer b h = untouched s answer b h.2
 left_in texts runs Format shelf s a answer b h = untouched s answer b h.1
+left_in texts runs Bare shelf s a answer b h = untouched s answer b h.1
 
 pub left_alone : {H I O : Type 0} (texts : Texts) (runs : Asked → RunRelation) (words : List (List ℕ)) (shelf : Shelved H) (s : Streams I O)
     (answer : Answer) → IsBeforeStart answer → IsDueBy texts runs words shelf s answer → Untouched s
@@ -335,3 +336,4 @@ no_gen Alloc other is = absurd (cc)
 no_gen Show other is = absurd (cc)
 no_gen Gen other is = absurd other
 no_gen Format other is = absurd (cc)
+no_gen Bare other is = absurd (cc)

@@ -8,7 +8,7 @@ use Rattle.tg_machine_state.specs.declared.ends.RunEnd.TheVariants.{BadService, 
 use Rattle.tg_isa.specs.declared.images.Image.{Image}
 use Rattle.tg_profiler.specs.Watching.{Report}
 use Rattle.tg_command.specs.declared.modes.Mode.{Mode}
-use Rattle.tg_command.specs.declared.modes.Mode.TheVariants.{Check, Build, Run, Exec, Alloc, Show, Gen, Format}
+use Rattle.tg_command.specs.declared.modes.Mode.TheVariants.{Check, Build, Run, Exec, Alloc, Show, Gen, Format, Bare}
 use Rattle.tg_command.specs.Commands.{Asked}
 use Rattle.tg_command.proofs.CommandLemmas.{asked_once, asked_no_fault}
 use Rattle.tg_driver.specs.declared.answers.Answer.{Answer}
@@ -35,6 +35,8 @@ use Rattle.tg_driver.proofs.ExactRuns.{ends_as_told, ends_faultless, exact_repor
 use Rattle.tg_driver.proofs.Watched.{run_more, exec_more}
 use Rattle.tg_driver.proofs.SourcesOnce.{meant_source, listed_source, shown_source}
 use Rattle.tg_driver.proofs.CanonicalTexts.{of_formatted}
+use Rattle.tg_driver.proofs.LargeSources.{meant_small}
+use Rattle.tg_driver.proofs.BareAnswers.{of_bare}
 
 -- the answer to the text of the file, where that can be read
 pub to_text : {H : Type 0} (shelf : Shelved H) (name : List ℕ) (most : ℕ) (due : List ℕ → Answer → Type 0) (file : List ℕ) (answer : Answer) →
@@ -166,6 +168,8 @@ settled c a file Show reports answer good reads h = of_written c.streams.out _ _
     (to_text c.shelf a.file 262145 _ file answer (good.there (reads tt)) good.readable h.2)
 settled c a file Gen reports answer good reads h = of_gen c.streams.out a answer good.all_written h.3
 settled c a file Format reports answer good reads h = of_formatted c.streams.out _ answer good.all_written
+    (to_text c.shelf a.file 262145 _ file answer (good.there (reads tt)) good.readable h.2)
+settled c a file Bare reports answer good reads h = of_bare c.streams.out _ _ answer good.all_written (meant_small _)
     (to_text c.shelf a.file 262145 _ file answer (good.there (reads tt)) good.readable h.2)
 
 -- a sink that is as it was took a text that is empty

@@ -29,7 +29,7 @@ use Rattle.tg_correctness.specs.Sources.{HasTokens, HasTree, IsSource}
 use Rattle.tg_explain_source.specs.Explained.{Explains}
 use Rattle.tg_explain_source.specs.Explained as explains
 use Rattle.tg_driver.specs.declared.faults.Rule.{Rule}
-use Rattle.tg_driver.specs.declared.faults.Rule.TheVariants.{Lexical, Syntactic, Typed}
+use Rattle.tg_driver.specs.declared.faults.Rule.TheVariants.{Lexical, Syntactic, Typed, Bare}
 use Rattle.tg_driver.specs.Faults.{HasFault, lexical, syntactic, ill_typed}
 use Rattle.tg_driver.specs.Explained.{TellsWhy, no_memory_line}
 use Rattle.tg_driver.specs.laws.Explanations.{ExpectedAreTold, TellsExpected}
@@ -130,6 +130,7 @@ AreLines : (text : List ℕ) → Rule → (at : ℕ) → (lines : List ℕ) → 
 AreLines text (Lexical rule) at lines = lines ≡ lexical_lines text rule at
 AreLines text (Syntactic rule) at lines = SyntaxLines text rule at lines
 AreLines text (Typed rule) at lines = TypeLines text rule at lines
+AreLines text Bare at lines = ⊥
 
 data AreOf (text lines : List ℕ) : Type 0 where
   fault : (rule : Rule) (at : ℕ) → HasFault text rule at → AreLines text rule at lines → AreOf text lines
@@ -168,6 +169,7 @@ lines_once text (Syntactic rule) at a b p q =
 lines_once text (Typed rule) at a b p q =
     let same = (tree_once text p.names q.names p.tokens q.tokens p.program q.program p.tree q.tree).same in
     p.lines_are ∙ ap (λ x. type_lines text at (explained text x rule at)) same ∙ sym q.lines_are
+lines_once text Bare at a b p q = absurd p
 
 -- a text has one explanation
 pub explained_once : (text a b : List ℕ) → Explains text a → Explains text b → a ≡ b

@@ -1,5 +1,5 @@
 -- From the text that is explained to what a call tells of its fault.
-use Rattle.std.proofs.Common.{ℕ, ◌≡◌, List, [], true, false, refl, sym, subst, ◌∙◌}
+use Rattle.std.proofs.Common.{ℕ, ◌≡◌, inl, List, [], true, false, refl, sym, subst, ◌∙◌}
 use Rattle.tg_base.specs.Files.{IsFilePrefix}
 use Rattle.tg_base.specs.declared.outside.ShelfFault.{ShelfFault}
 use Rattle.tg_base.specs.declared.outside.ShelfFault.TheVariants.{Failed, Memory}
@@ -31,22 +31,22 @@ use Rattle.tg_driver.proofs.Complete.{Summed, cut, summed, summed_by}
 -- of each mode that reads a source: the text is the one that has the fault that is answered
 pub gives_checked : {H : Type 0} (shelf : Shelved H) (name text : List ℕ) (answer : Answer) → IsFilePrefix (shelf.files shelf.before) name 262145 text →
     OrMemory (Unit {0}) (IsChecked text) answer → GivesText shelf name answer text
-gives_checked shelf name text (Faulty f) front h = (front, h)
+gives_checked shelf name text (Faulty f) front h = (front, inl h)
 gives_checked shelf name text _ front h = tt
 
 pub gives_written : {H O : Type 0} (shelf : Shelved H) (name : List ℕ) (out : Stream O) (writes : TextRelation) (text : List ℕ) (answer : Answer) →
     IsFilePrefix (shelf.files shelf.before) name 262145 text → OrMemory (Unit {0}) (IsWritten out writes text) answer → GivesText shelf name answer text
-gives_written shelf name out writes text (Faulty f) front h = (front, h)
+gives_written shelf name out writes text (Faulty f) front h = (front, inl h)
 gives_written shelf name out writes text _ front h = tt
 
 pub gives_run : {H : Type 0} (shelf : Shelved H) (name : List ℕ) (texts : TextRelation) (runs : RunRelation) (a : Asked) (text : List ℕ) (answer : Answer) →
     IsFilePrefix (shelf.files shelf.before) name 262145 text → OrMemory (Unit {0}) (IsRunBy texts runs a text) answer → GivesText shelf name answer text
-gives_run shelf name texts runs a text (Faulty f) front h = (front, h)
+gives_run shelf name texts runs a text (Faulty f) front h = (front, inl h)
 gives_run shelf name texts runs a text _ front h = tt
 
 pub gives_formatted : {H O : Type 0} (shelf : Shelved H) (name : List ℕ) (out : Stream O) (text : List ℕ) (answer : Answer) →
     IsFilePrefix (shelf.files shelf.before) name 262145 text → OrMemory (Unit {0}) (IsFormatted out text) answer → GivesText shelf name answer text
-gives_formatted shelf name out text (Faulty f) front h = (front, h.is_fault)
+gives_formatted shelf name out text (Faulty f) front h = (front, inl h.is_fault)
 gives_formatted shelf name out text _ front h = tt
 
 -- a file that wasn't read has no fault

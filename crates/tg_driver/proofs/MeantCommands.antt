@@ -3,7 +3,7 @@ use Rattle.std.proofs.Common.{ℕ, ◌≡◌, ◌⊎◌, inl, inr, Bool, true, L
 use Rattle.std.specs.Io.KnownBytes.{Appends}
 use Rattle.tg_machine_state.specs.declared.ends.RunEnd.TheVariants.{WriteFault}
 use Rattle.tg_command.specs.declared.modes.Mode.{Mode}
-use Rattle.tg_command.specs.declared.modes.Mode.TheVariants.{Check, Build, Run, Exec, Alloc, Show, Gen, Format}
+use Rattle.tg_command.specs.declared.modes.Mode.TheVariants.{Check, Build, Run, Exec, Alloc, Show, Gen, Format, Bare}
 use Rattle.tg_command.specs.Counts.{IsWithin, GivesCount, heap_limits, stack_limits}
 use Rattle.tg_command.specs.Commands.{Asked, Ask}
 use Rattle.tg_command.specs.Flagged.{flags_fit}
@@ -16,6 +16,7 @@ use Rattle.tg_driver.specs.Calls.{Stream, stream_of, HasFailed, Streams, Call, T
 use Rattle.tg_driver.specs.Runs.{HasRun, HasRunBy}
 use Rattle.tg_driver.specs.Watching.{if_watched}
 use Rattle.tg_driver.specs.Writing.{IsWritten}
+use Rattle.tg_driver.specs.BareMode.{IsMeantForBare, IsBareWritten}
 use Rattle.tg_driver.specs.laws.AsMeant.{IsRun}
 use Rattle.tg_driver.specs.laws.AsMeant.{IsGenerated}
 use Rattle.tg_driver.specs.Modes.{texts_meant}
@@ -23,7 +24,7 @@ use Rattle.tg_driver.specs.laws.OfTexts.{most_of}
 use Rattle.tg_driver.specs.laws.AsMeant.{InMode}
 use Rattle.tg_driver.specs.Answered.{told_runs, Answers}
 use Rattle.tg_driver.specs.laws.Laws.{ReadsFile, IsGood, Gives}
-use Rattle.tg_driver.specs.laws.MeantCommands.{BuildsByMeaning, RunsByMeaning, GeneratesByMeaning, ByMeaning, DoesAsMeant}
+use Rattle.tg_driver.specs.laws.MeantCommands.{BuildsByMeaning, DelaysByMeaning, RunsByMeaning, GeneratesByMeaning, ByMeaning, DoesAsMeant}
 use Rattle.tg_driver.proofs.Complete.{to_text, given, in_its_mode, none_taken, passed, rose_later, write_failed}
 use Rattle.tg_driver.proofs.ExactRuns.{run_of}
 use Rattle.tg_driver.proofs.FlagLemmas.{plain_in_run}
@@ -76,6 +77,13 @@ builds_so out text Written kept h = record { assembly = h.written; meant = h.is_
 builds_so out text Unwritten kept h = unwritten out h.written kept h.takes
 builds_so out text _ kept h = absurd h
 
+delays_so : {O : Type 0} (out : Stream O) (text : List ℕ) (answer : Answer) → (HasFailed out → ⊥) →
+    IsBareWritten out IsMeantForBare text answer → DelaysByMeaning out text answer
+delays_so out text (Faulty f) kept h = h
+delays_so out text Written kept h = record { assembly = h.written; meant = h.is_of.meant; writes = whole out h.written kept h.takes }
+delays_so out text Unwritten kept h = unwritten out h.written kept h.takes
+delays_so out text _ kept h = absurd h
+
 module _ (ends : EndedIsMeant) (goes_on : RunningIsMeant) where
   runs_so : {I O : Type 0} (s : Streams I O) (a : Asked) (text : List ℕ) (answer : Answer) → AreSizes a.heap a.stack →
       (HasFailed s.input → ⊥) → (HasFailed s.out → ⊥) → IsRun (HasRun s) a text answer → RunsByMeaning s a text answer
@@ -115,6 +123,8 @@ module _ (ends : EndedIsMeant) (goes_on : RunningIsMeant) where
   means c a file Alloc answer good reads fit h = tt
   means c a file Show answer good reads fit h = tt
   means c a file Format answer good reads fit h = tt
+  means c a file Bare answer good reads fit h = delays_so c.streams.out _ answer good.all_written
+      (to_text c.shelf a.file 262145 _ file answer (good.there (reads tt)) good.readable h.2)
   means c a file Gen answer good reads fit h = generates_so c.streams.out a answer (sizes_of c.words a good.ask) good.all_written h.3
 
   pub does_as_meant : {H I O E : Type 0} (c : Call H I O E) (status : ℕ) (a : Asked) (file : List ℕ) → Answers c status →

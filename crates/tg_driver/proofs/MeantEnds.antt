@@ -35,7 +35,7 @@ the_image : Result Assembled AsmFault → Assembled → Assembled
 the_image (Ok image) otherwise = image
 the_image (Err e) otherwise = otherwise
 
-one_image : (text : List ℕ) (i j : Assembled) → assembled text ≡ Ok i → assembled text ≡ Ok j → i ≡ j
+pub one_image : (text : List ℕ) (i j : Assembled) → assembled text ≡ Ok i → assembled text ≡ Ok j → i ≡ j
 unfolding the_image
 one_image text i j p q = ap (λ (r : Result Assembled AsmFault). the_image r i) (sym p ∙ q)
 

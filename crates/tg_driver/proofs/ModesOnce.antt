@@ -7,7 +7,7 @@ use Rattle.tg_asm_text.specs.Assembly.{Assembled, Fault as AsmFault, assembled}
 use Rattle.tg_asm.specs.Images.{image_of}
 use Rattle.tg_profiler.specs.Watching.{Report}
 use Rattle.tg_command.specs.declared.modes.Mode.{Mode}
-use Rattle.tg_command.specs.declared.modes.Mode.TheVariants.{Check, Build, Run, Exec, Alloc, Show, Gen, Format}
+use Rattle.tg_command.specs.declared.modes.Mode.TheVariants.{Check, Build, Run, Exec, Alloc, Show, Gen, Format, Bare}
 use Rattle.tg_command.specs.Commands.{Asked}
 use Rattle.tg_driver.specs.declared.answers.Answer.{Answer}
 use Rattle.tg_driver.specs.declared.answers.Answer.TheVariants.{Faulty, BadLine, TooLong, Accepted, Written, Unwritten, Finished}
@@ -26,6 +26,7 @@ use Rattle.tg_driver.proofs.ExactRuns.{FaultlessRun, run_of}
 use Rattle.tg_driver.proofs.FaultsOnce.{fault_once_told}
 use Rattle.tg_driver.proofs.SourcesOnce.{no_fault, no_fault_of_meant}
 use Rattle.tg_driver.proofs.CanonicalTexts.{formattable_alike}
+use Rattle.tg_driver.proofs.LargeSources.{bare_alike}
 
 checked_once : (text : List ℕ) (a b : Answer) → IsChecked text a → IsChecked text b → a ≡ b
 checked_once text (Faulty f) (Faulty g) p q = ap Faulty (fault_once_told text f g p q)
@@ -167,6 +168,7 @@ due_alike runs others Alloc one other text a b p q = written_alike text a b p q
 due_alike runs others Show one other text a b p q = written_alike text a b p q
 due_alike runs others Gen one other text a b p q = generated_alike a b p q
 due_alike runs others Format one other text a b p q = formattable_alike text a b p q
+due_alike runs others Bare one other text a b p q = bare_alike text a b p q
 
 pub exec_once : (runs others : RunRelation) (asked : Asked) (text : List ℕ) (a b : Answer) →
     ((image : Image) (d e : RunEnd) → runs image asked.heap asked.stack asked.steps d → others image asked.heap asked.stack asked.steps e → d ≡ e) →

@@ -3,10 +3,11 @@ use Rattle.std.proofs.Common.{ℕ, ◌+◌, ◌≡◌, ◌≤◌, ◌<◌, ◌^�
 use Rattle.std.specs.Prelude.{IsTrue, nat_le}
 use Rattle.std.proofs.lemmas.Bool.{le-leb, leb-true}
 use Rattle.tg_syntax.specs.declared.tokens.Spanned.{Spanned}
+use Rattle.tg_syntax.specs.Spans.{span_of}
 use Rattle.tg_syntax.specs.Tree.{Exp}
 use Rattle.tg_syntax.specs.Lexing.{Lexes, ends, blank, comment, token}
 use Rattle.tg_syntax.specs.Grammar.{IsProgram}
-use Rattle.tg_syntax_laws.proofs.ThroughProgram.{AllGive, through_program}
+use Rattle.tg_syntax_laws.proofs.ThroughProgram.{AllGive, at_start, through_program}
 use Rattle.tg_typecheck.specs.declared.faults.TypeRule.{TypeRule}
 use Rattle.tg_typecheck.specs.Accepted.{finding, at_fault}
 use Rattle.tg_typecheck.specs.BeginWithin.{IdentBegins, IsHere, BeginsWithin}
@@ -45,6 +46,15 @@ each_gives end (t ∷ tokens) h =
 
 of_program : (end : ℕ) {tokens : List Spanned} {e : Exp} → IsProgram tokens e → AreWithin end tokens → BeginsWithin (up_to end) e
 of_program end {tokens} is h = through_program (IdentBegins (up_to end)) (IsHere (up_to end)) is (each_gives end tokens h)
+
+-- so the program of a text begins within it
+pub program_within : (text : List ℕ) (names : List (List ℕ)) (tokens : List Spanned) (body : Exp) → HasTokens text names tokens →
+    IsProgram tokens body → (span_of body).from ≤ length text
+program_within text names tokens body has is =
+    let end : ℕ = 0 + length text in
+    let begins : BeginsWithin (up_to end) body = of_program end is (tokens_within has.lexed) in
+    let w = leb-true (span_of body).from end (at_start (IdentBegins (up_to end)) (IsHere (up_to end)) body begins) in
+    omega (arith, w)
 
 -- where the program's tokens are those of a text, a fault of its types stands within the text
 pub type_fault_within : (text : List ℕ) (names : List (List ℕ)) (tokens : List Spanned) (body : Exp) (rule : TypeRule) (at : ℕ) →

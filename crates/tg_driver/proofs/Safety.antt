@@ -22,7 +22,7 @@ use Rattle.tg_bare.specs.Ran.{BareStops, bare_standing}
 use Rattle.tg_bare.proofs.Runs as bare_runs
 use Rattle.tg_program_generator.specs.Generated.{generated}
 use Rattle.tg_command.specs.declared.modes.Mode.{Mode}
-use Rattle.tg_command.specs.declared.modes.Mode.TheVariants.{Check, Build, Run, Exec, Alloc, Show, Gen, Format}
+use Rattle.tg_command.specs.declared.modes.Mode.TheVariants.{Check, Build, Run, Exec, Alloc, Show, Gen, Format, Bare}
 use Rattle.tg_command.specs.Commands.{Asked, Ask}
 use Rattle.tg_command.specs.Flagged.{flags_fit}
 use Rattle.tg_command.proofs.CommandLemmas.{asked_once}
@@ -45,6 +45,7 @@ use Rattle.tg_driver.specs.ExecMode.{IsExecuted}
 use Rattle.tg_driver.specs.GenMode.{no_input, summary}
 use Rattle.tg_driver.specs.laws.AsMeant.{IsGenerated}
 use Rattle.tg_driver.specs.FormatMode.{Formats, IsFormatted}
+use Rattle.tg_driver.specs.BareMode.{IsMeantForBare, IsBareWritten}
 use Rattle.tg_driver.specs.Modes.{texts_meant}
 use Rattle.tg_driver.specs.glue.PrivateCalls.{ReadsNoInput}
 use Rattle.tg_driver.specs.laws.OfTexts.{most_of}
@@ -315,6 +316,14 @@ module _ {H I O : Type 0} (rule : SpillRule) (shelf : Shelved H) (s : Streams I 
       formatted Unwritten text front started h = wrote_text Format Formats Unwritten text (λ is. absurd (cc)) (λ written is. is) front started h
       formatted (Faulty f) text front started h = absurd started
       formatted _ text front started h = absurd h
+  wrote Bare answer fit started h = of_file shelf a.file 262145 _ answer started h.2 (λ text front due. delayed_text answer text front started due)
+    where
+      delayed_text : (answer : Answer) (text : List ℕ) → IsFilePrefix (shelf.files shelf.before) a.file 262145 text → HasStarted answer →
+          IsBareWritten s.out IsMeantForBare text answer → Wrote rule Bare shelf s a
+      delayed_text Written text front started h = wrote_text Bare IsMeantForBare Written text (λ is. absurd (cc)) (λ written is. is) front started h
+      delayed_text Unwritten text front started h = wrote_text Bare IsMeantForBare Unwritten text (λ is. absurd (cc)) (λ written is. is) front started h
+      delayed_text (Faulty f) text front started h = absurd started
+      delayed_text _ text front started h = absurd h
 
 -- what failed, by its count
 caused_end : {I O : Type 0} (s : Streams I O) (bare : Bool) (image : Image) (heap stack steps : ℕ) (end : RunEnd) →
@@ -355,6 +364,11 @@ caused_format : {I O : Type 0} (s : Streams I O) (text : List ℕ) (answer : Ans
 caused_format s text Unwritten h = failed_text s.out h.written h.takes
 caused_format s text (Finished end) h = absurd h
 caused_format s text _ h = tt
+
+caused_bare : {I O : Type 0} (s : Streams I O) (text : List ℕ) (answer : Answer) → IsBareWritten s.out IsMeantForBare text answer → IsCaused s answer
+caused_bare s text Unwritten h = failed_text s.out h.written h.takes
+caused_bare s text (Finished end) h = absurd h
+caused_bare s text _ h = tt
 
 -- of a run on no input none is a read
 own_end : {I O : Type 0} (s : Streams I O) (end : RunEnd) → (end ≡ ReadFault → ⊥) → (end ≡ WriteFault → ⊥) → IsCausedEnd s end
@@ -401,6 +415,7 @@ caused rule Alloc shelf s a answer h = for_file shelf a.file 262145 _ answer (Is
 caused rule Show shelf s a answer h = for_file shelf a.file 262145 _ answer (IsCaused s) tt h.2 (λ text due. caused_text s _ text answer due)
 caused rule Gen shelf s a answer h = caused_gen s a answer h.3
 caused rule Format shelf s a answer h = for_file shelf a.file 262145 _ answer (IsCaused s) tt h.2 (λ text due. caused_format s text answer due)
+caused rule Bare shelf s a answer h = for_file shelf a.file 262145 _ answer (IsCaused s) tt h.2 (λ text due. caused_bare s text answer due)
 
 -- an unreadable file, by its count
 file_of : {H : Type 0} (shelf : Shelved H) (name : List ℕ) (most : ℕ) (due : List ℕ → Answer → Type 0) → ((text : List ℕ) → due text Unreadable → ⊥) →
@@ -434,6 +449,7 @@ unread_in rule Alloc shelf s a h = record { reads = tt; unread = file_of shelf a
 unread_in rule Show shelf s a h = record { reads = tt; unread = file_of shelf a.file 262145 _ (λ text due. due) h.2 }
 unread_in rule Gen shelf s a h = absurd (no_generated s.out a h.3)
 unread_in rule Format shelf s a h = record { reads = tt; unread = file_of shelf a.file 262145 _ (λ text due. due) h.2 }
+unread_in rule Bare shelf s a h = record { reads = tt; unread = file_of shelf a.file 262145 _ (λ text due. due) h.2 }
 
 input_stays : {H I O : Type 0} (rule : SpillRule) (mode : Mode) (shelf : Shelved H) (s : Streams I O) (a : Asked) (answer : Answer) →
     ReadsNoInput mode → InMode rule (HasRunBy s a.flags.bare) mode shelf s a answer → Stays s.input
@@ -445,6 +461,7 @@ input_stays rule Alloc shelf s a answer none h = h.0
 input_stays rule Show shelf s a answer none h = h.0
 input_stays rule Gen shelf s a answer none h = h.1
 input_stays rule Format shelf s a answer none h = h.0
+input_stays rule Bare shelf s a answer none h = h.0
 
 -- statuses of faults
 break_other : (n : ℕ) → break_status n ≡ 74 → ⊥

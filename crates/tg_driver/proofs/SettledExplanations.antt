@@ -4,7 +4,7 @@ use Rattle.std.specs.Prelude.{not, ◌&&◌}
 use Rattle.tg_base.specs.Files.{Files, IsFilePrefix}
 use Rattle.tg_command.specs.declared.flags.Flags.{Flags}
 use Rattle.tg_command.specs.declared.modes.Mode.{Mode}
-use Rattle.tg_command.specs.declared.modes.Mode.TheVariants.{Check, Build, Run, Exec, Alloc, Show, Gen, Format}
+use Rattle.tg_command.specs.declared.modes.Mode.TheVariants.{Check, Build, Run, Exec, Alloc, Show, Gen, Format, Bare}
 use Rattle.tg_command.specs.Flagged.{flags_fit}
 use Rattle.tg_command.specs.Commands.{Asked}
 use Rattle.tg_driver.specs.declared.answers.Answer.{Answer}
@@ -68,6 +68,7 @@ settled_explanation c a file (Faulty f) explanation good h =
     in_mode Alloc is on e = read_in Alloc is tt e
     in_mode Show is on e = read_in Show is tt e
     in_mode Format is on e = read_in Format is tt e
+    in_mode Bare is on e = read_in Bare is tt e
     in_mode Exec is on e = absurd (no_explanation a.flags _ _ (fits Exec is) on)
     in_mode Gen is on e = absurd (no_explanation a.flags _ _ (fits Gen is) on)
 settled_explanation c a file _ explanation good h = h

@@ -24,6 +24,9 @@ use Rattle.tg_compile_proof.proofs.Building as built
 use Rattle.tg_driver.specs.AllocMode.{Lists}
 use Rattle.tg_stages.specs.Programs.{ShowsCompiled}
 use Rattle.tg_driver.specs.ShowMode.{Shows}
+use Rattle.tg_bare_compile_proof.specs.Builds.{BuildsDelayed}
+use Rattle.tg_driver.specs.LargePrograms.{IsTooLargeAt}
+use Rattle.tg_driver.specs.glue.Delays.{CompilesSmall, IsLargeAt}
 use Rattle.tg_driver.specs.declared.writing.Wanted.{Wanted}
 use Rattle.tg_driver.specs.declared.writing.Wanted.TheVariants.{Assembly, Allocations}
 use Rattle.tg_driver.specs.glue.Texts.{wanted_text, writes_of}
@@ -93,6 +96,39 @@ shows passes rule text names program sorted shown t h s =
       assembly = s.assembly;
       compiles = compiles_to passes rule text names program sorted s.allocations s.assembly t h s.compiles;
       is_shown = s.is_shown;
+    }
+
+pub named_source : (text : List ℕ) (names : List (List ℕ)) (program : Exp) (sorted : List Note) (t : HasNamedTree text names program) →
+    Accepts (finding names program) sorted → IsSourceOf text names t.tokens program
+named_source text names program sorted t h =
+    let n = noted (finding names program) sorted h in
+    source_of text names program t n.0 n.1.0
+
+-- what a source whose tree is accepted is compiled to with delay slots
+pub delays : (passes : Passes) (rule : SpillRule) (text : List ℕ) (names : List (List ℕ)) (program : Exp) (sorted : List Note)
+    (delayed : List ℕ) → HasNamedTree text names program → Accepts (finding names program) sorted →
+    CompilesSmall passes rule sorted program delayed → BuildsDelayed passes rule text delayed
+unfolding compiles_to
+delays passes rule text names program sorted delayed t h d =
+    record {
+      allocations = d.allocations;
+      plain = d.compiles.plain;
+      compiles = compiles_to passes rule text names program sorted d.allocations d.compiles.plain t h d.compiles.compiles;
+      few = d.small;
+      text_is = d.compiles.text_is;
+    }
+
+-- or that its program is too large
+pub is_too_large : (text : List ℕ) (names : List (List ℕ)) (program : Exp) (sorted : List Note) (at : ℕ) →
+    HasNamedTree text names program → Accepts (finding names program) sorted → IsLargeAt program at → IsTooLargeAt text at
+is_too_large text names program sorted at t h d =
+    record {
+      names = names;
+      tokens = t.tokens;
+      program = program;
+      source = named_source text names program sorted t h;
+      large = d.large;
+      at_is = d.at_is;
     }
 
 pub short_text : (text : List ℕ) (names : List (List ℕ)) (program : Exp) → HasNamedTree text names program → length text < 2147483648

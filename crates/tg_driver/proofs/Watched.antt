@@ -17,7 +17,7 @@ use Rattle.tg_profiler.specs.Watching.{Report}
 use Rattle.tg_profiler.specs.Watchers.{HaveSeen}
 use Rattle.tg_command.specs.declared.flags.Flags.{Flags}
 use Rattle.tg_command.specs.declared.modes.Mode.{Mode}
-use Rattle.tg_command.specs.declared.modes.Mode.TheVariants.{Check, Build, Run, Exec, Alloc, Show, Gen, Format}
+use Rattle.tg_command.specs.declared.modes.Mode.TheVariants.{Check, Build, Run, Exec, Alloc, Show, Gen, Format, Bare}
 use Rattle.tg_command.specs.Commands.{Asked, Ask}
 use Rattle.tg_command.specs.Flagged.{flags_fit}
 use Rattle.tg_command.proofs.CommandLemmas.{asked_once}
@@ -34,6 +34,7 @@ use Rattle.tg_driver.specs.Writing.{TextRelation, Texts, IsWritten}
 use Rattle.tg_driver.specs.Compiled.{texts_compiled}
 use Rattle.tg_compile.specs.declared.passes.Passes.{Passes}
 use Rattle.tg_compile_proof.specs.laws.TextLaws.{BuildIsCorrect}
+use Rattle.tg_bare_compile_proof.specs.laws.TextLaws.{BareBuildIsCorrect}
 use Rattle.tg_driver.specs.ExecMode.{IsExecuted}
 use Rattle.tg_driver.specs.Modes.{InModeBy, texts_meant}
 use Rattle.tg_driver.specs.glue.PrivateCalls.{ReadsNoInput}
@@ -43,6 +44,8 @@ use Rattle.tg_driver.specs.Explained.{IsExplained}
 use Rattle.tg_driver.specs.Watching.{HasToldRun, HasToldRunBy, NoneBeforeEnd, if_watched}
 use Rattle.tg_driver.specs.glue.Watched.{HasWatchedRun, HasWatchedRunBy, HasUnseenRun, Tell, TellAfter}
 use Rattle.tg_driver.proofs.AnswerLemmas.{answers_of, took_all}
+use Rattle.tg_driver.proofs.LargeSources.{meant_for_bare}
+use Rattle.tg_driver.proofs.BareAnswers.{bare_texts}
 use Rattle.tg_driver.proofs.FlagLemmas.{bare_unwatched, plain_in_run}
 
 -- what is said of the run of an answer
@@ -85,6 +88,7 @@ in_mode_more texts runs others Alloc shelf s a answer more h = h
 in_mode_more texts runs others Show shelf s a answer more h = h
 in_mode_more texts runs others Gen shelf s a answer more h = h
 in_mode_more texts runs others Format shelf s a answer more h = h
+in_mode_more texts runs others Bare shelf s a answer more h = h
 
 pub due_more : {H I O : Type 0} (texts : Texts) (runs others : Asked → RunRelation) (words : List (List ℕ)) (shelf : Shelved H) (s : Streams I O)
     (answer : Answer) → ((a : Asked) → SaidMore (runs a) (others a) a answer) → IsDueBy texts runs words shelf s answer →
@@ -210,6 +214,7 @@ module _ {W I O : Type 0} (stands : W → List Seen → ℕ → Type 0) (report 
   told_in texts Show shelf a end old others unwatched h = record { reports = []; in_mode = h; tell = tell_none (others tt); none = λ _. refl }
   told_in texts Gen shelf a end old others unwatched h = record { reports = []; in_mode = h; tell = tell_none (others tt); none = λ _. refl }
   told_in texts Format shelf a end old others unwatched h = record { reports = []; in_mode = h; tell = tell_none (others tt); none = λ _. refl }
+  told_in texts Bare shelf a end old others unwatched h = record { reports = []; in_mode = h; tell = tell_none (others tt); none = λ _. refl }
 
   -- of an answer: the reports, and who tells them
   pub record ToldDue {H : Type 0} (texts : Texts) (reporters : List Report) (words : List (List ℕ)) (shelf : Shelved H)
@@ -276,6 +281,7 @@ answers_by by rule c status reports answer explanation is due before_end unasked
 -- what is said of texts, more weakly
 module _ (texts others : Texts)
     (assembly : (passes : Passes) (source written : List ℕ) → texts.assembly passes source written → others.assembly passes source written)
+    (bare : (passes : Passes) (source written : List ℕ) → texts.bare passes source written → others.bare passes source written)
     (listing : (passes : Passes) (source written : List ℕ) → texts.listing passes source written → others.listing passes source written)
     (shown : (passes : Passes) (source written : List ℕ) → texts.shown passes source written → others.shown passes source written) where
   written_texts : {O : Type 0} (out : Stream O) (writes wider : TextRelation) →
@@ -327,6 +333,13 @@ module _ (texts others : Texts)
       )
   in_mode_texts runs Gen shelf s a answer h = (h.0, h.1, h.2, gen_texts s.out a answer h.3)
   in_mode_texts runs Format shelf s a answer h = h
+  in_mode_texts runs Bare shelf s a answer h =
+      let more = bare (passes_of a) in (
+        h.0,
+        h.1,
+        file_more shelf a.file 262145 _ _ answer
+            (λ text. bare_texts s.out (texts.bare (passes_of a)) (others.bare (passes_of a)) more text answer) h.2,
+      )
 
   pub due_texts : {H I O : Type 0} (runs : Asked → RunRelation) (words : List (List ℕ)) (shelf : Shelved H) (s : Streams I O)
       (answer : Answer) → IsDueBy texts runs words shelf s answer → IsDueBy others runs words shelf s answer
@@ -335,10 +348,11 @@ module _ (texts others : Texts)
   due_texts runs words shelf s answer (asked a ask h) = asked a ask (in_mode_texts (runs a) a.mode shelf s a answer h)
 
 -- what the source is compiled to does what it means
-pub due_as_meant : {H I O : Type 0} → BuildIsCorrect → (rule : SpillRule) (runs : Asked → RunRelation) (words : List (List ℕ)) (shelf : Shelved H)
+pub due_as_meant : {H I O : Type 0} → BuildIsCorrect → BareBuildIsCorrect → (rule : SpillRule) (runs : Asked → RunRelation) (words : List (List ℕ)) (shelf : Shelved H)
     (s : Streams I O) (answer : Answer) → IsDueBy (texts_compiled rule) runs words shelf s answer → IsDueBy (texts_meant rule) runs words shelf s answer
-due_as_meant correct rule runs words shelf s answer h =
-    due_texts (texts_compiled rule) (texts_meant rule) (λ passes. correct passes rule) (λ passes source written l. l) (λ passes source written l. l) runs words shelf s answer h
+due_as_meant correct delayed rule runs words shelf s answer h =
+    due_texts (texts_compiled rule) (texts_meant rule) (λ passes. correct passes rule) (λ passes. meant_for_bare delayed passes rule)
+    (λ passes source written l. l) (λ passes source written l. l) runs words shelf s answer h
 
 -- a machine that ran with nobody watching
 pub saw_nothing : {W I O : Type 0} (stands : W → List Seen → ℕ → Type 0) (report : W → Report) (watchers : List W)

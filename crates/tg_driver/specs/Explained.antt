@@ -9,7 +9,7 @@ use Rattle.tg_driver.specs.declared.answers.Answer.{Answer}
 use Rattle.tg_driver.specs.declared.answers.Answer.TheVariants.{Faulty}
 use Rattle.tg_driver.specs.declared.faults.Fault.{Fault}
 use Rattle.tg_driver.specs.Calls.{Shelved}
-use Rattle.tg_driver.specs.Faults.{IsFaultOf}
+use Rattle.tg_driver.specs.LargePrograms.{IsBareFaultOf}
 
 -- where memory ran out for the explanation
 abbrev pub no_memory_line : List ℕ
@@ -19,9 +19,10 @@ no_memory_line = explaining_line (codes "no memory to explain it")
 abbrev pub TellsWhy : (text explanation : List ℕ) → Type 0
 TellsWhy text explanation = Explains text explanation ⊎ (explanation ≡ no_memory_line)
 
--- the fault is the first one of the text, and this explains the text
+-- the fault is the first one of the text, or in `bare` that of its size, and this explains the text:
+-- of a fault of size there is nothing to tell, since the text is a program
 pub record IsExplanation (text : List ℕ) (fault : Fault) (explanation : List ℕ) : Type 0 where
-  pub is_fault : IsFaultOf text fault
+  pub is_fault : IsBareFaultOf text fault
   pub tells_why : TellsWhy text explanation
 
 -- so it is of the text that the shelf gave of a file

@@ -11,7 +11,7 @@ use Rattle.tg_typecheck.specs.declared.faults.TypeRule.{TypeRule}
 use Rattle.tg_typecheck.specs.Accepted.{finding, at_fault}
 use Rattle.tg_correctness.specs.Sources.{HasTokens, HasTree}
 use Rattle.tg_driver.specs.declared.faults.Rule.{Rule}
-use Rattle.tg_driver.specs.declared.faults.Rule.TheVariants.{Lexical, Syntactic, Typed}
+use Rattle.tg_driver.specs.declared.faults.Rule.TheVariants.{Lexical, Syntactic, Typed, Bare}
 use Rattle.tg_driver.specs.declared.faults.Fault.{Fault}
 
 -- The text's first fault, with its rule and its byte: that of its bytes, or where it is tokens that
@@ -35,6 +35,7 @@ abbrev pub IsUntyped : Rule → Type 0
 IsUntyped (Lexical rule) = Unit {0}
 IsUntyped (Syntactic rule) = Unit {0}
 IsUntyped (Typed rule) = ⊥
+IsUntyped Bare = ⊥
 
 -- the fault as it is told, with line and column of its byte
 pub record IsFaultOf (text : List ℕ) (fault : Fault) : Type 0 where

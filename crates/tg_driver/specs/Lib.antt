@@ -1,4 +1,5 @@
 pub mod Faults
+pub mod LargePrograms
 pub mod Statuses
 pub mod Calls
 pub mod Explained
@@ -15,6 +16,7 @@ pub mod ExecMode
 pub mod AllocMode
 pub mod ShowMode
 pub mod FormatMode
+pub mod BareMode
 pub mod GenMode
 pub mod Modes
 pub mod Answered

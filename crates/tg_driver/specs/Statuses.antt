@@ -13,7 +13,7 @@ use Rattle.tg_typecheck.specs.declared.faults.TypeRule.TheVariants.{T10, T11, T1
 use Rattle.tg_typecheck.specs.declared.faults.TypeRule.TheVariants.{T16}
 use Rattle.tg_typecheck.specs.declared.faults.TypeRule.TheVariants.{T17, T18, T19, T20, T21, T22}
 use Rattle.tg_driver.specs.declared.faults.Rule.{Rule}
-use Rattle.tg_driver.specs.declared.faults.Rule.TheVariants.{Lexical, Syntactic, Typed}
+use Rattle.tg_driver.specs.declared.faults.Rule.TheVariants.{Lexical, Syntactic, Typed, Bare}
 use Rattle.tg_driver.specs.declared.faults.Fault.{Fault}
 use Rattle.tg_driver.specs.declared.answers.Answer.{Answer}
 use Rattle.tg_driver.specs.declared.answers.Answer.TheVariants.{Usage, Unreadable, Faulty, BadLine}
@@ -71,6 +71,7 @@ rule_text (Lexical L7) = codes "L7 source too long"
 rule_text (Syntactic S1) = codes "S1 unexpected token"
 rule_text (Syntactic S2) = codes "S2 nesting too deep"
 rule_text (Typed rule) = type_text rule
+rule_text Bare = codes "T23 program too large for the bare machine"
 
 -- a rule of assembly text, likewise
 abbrev pub asm_text : AsmRule → List ℕ

@@ -17,10 +17,12 @@ TakesText out text answer = Takes out text Written Unwritten answer
 abbrev pub TextRelation : Type 1
 TextRelation = (source written : List ℕ) → Type 0
 
--- which assembly texts a source may have, which listings of what the allocator did, and which texts
--- of what each pass made, with the passes that are switched on
+-- which assembly texts a source may have, which of these for the machine with delayed branches,
+-- which listings of what the allocator did, and which texts of what each pass made, with the passes
+-- that are switched on
 pub record Texts : Type 1 where
   pub assembly : Passes → TextRelation
+  pub bare : Passes → TextRelation
   pub listing : Passes → TextRelation
   pub shown : Passes → TextRelation
 

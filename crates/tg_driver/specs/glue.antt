@@ -5,3 +5,4 @@ pub mod Found
 pub mod Watched
 pub mod PrivateCalls
 pub mod Explanations
+pub mod Delays

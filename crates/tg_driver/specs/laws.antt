@@ -1,4 +1,5 @@
 pub mod MeantEnds
+pub mod BareEnds
 pub mod Laws
 pub mod Safe
 pub mod MeantCommands

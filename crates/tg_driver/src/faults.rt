@@ -16,6 +16,8 @@ pub enum Rule {
     Lexical(LexRule),
     Syntactic(SyntaxRule),
     Typed(TypeRule),
+    /// T23, in `bare` alone: the program is too large for the machine with delayed branches.
+    Bare,
 }
 
 /// The first fault of a source.
@@ -40,6 +42,7 @@ pub(crate) fn rule_text(rule: Rule) -> &'static str
         Rule::Syntactic(SyntaxRule::S1) => "S1 unexpected token",
         Rule::Syntactic(SyntaxRule::S2) => "S2 nesting too deep",
         Rule::Typed(rule) => type_text(rule),
+        Rule::Bare => "T23 program too large for the bare machine",
     }
 }
 

@@ -25,6 +25,7 @@ ghost use Rattle.tg_driver.specs.glue.PrivateCalls.{HasStarted};
 ghost use Rattle.tg_driver.specs.Runs.{HasRunBy};
 ghost use Rattle.tg_driver.specs.laws.Settled.{IsExact, reports_on};
 ghost use Rattle.tg_driver.specs.Watching.{HasToldRunBy};
+ghost use Rattle.tg_driver.specs.laws.BareEnds.{BareRunsAreMeant};
 ghost use Rattle.tg_driver.specs.laws.Explanations.{ExpectedAreTold};
 ghost use Rattle.tg_driver.specs.laws.Laws.{Gives, IsFaultless, IsGood, IsSettled};
 ghost use Rattle.tg_driver.specs.laws.Meanings.{SourcesAreNeverStuck};
@@ -32,6 +33,7 @@ ghost use Rattle.tg_driver.specs.laws.MeantCommands.{DoesAsMeant};
 ghost use Rattle.tg_driver.specs.laws.MeantEnds.{GeneratedAreMeant, RunsAreMeant, StatusesAreMeant};
 ghost use Rattle.tg_driver.specs.laws.Safe.{IsSafe};
 
+use tg_bare_compile_proof::bare_ends_are_as_meant;
 use tg_compile_proof::{ends_are_as_meant, exits_are_words};
 use tg_explain::expected_is_all;
 
@@ -130,10 +132,21 @@ pub fn runs_are_as_meant<I, O>()
     exits_are_words();
 }
 
+/// The law of the ends of `exec --bare` on a text that `bare` writes: whatever the input tells, where
+/// no read or write ended the run, there are bytes on which the end, what was written and what was
+/// read of them are the meaning of the source, and at the limit of steps more than a quarter of them
+/// are allowed without delay slots for what it costs. It does nothing.
+pub fn bare_runs_are_as_meant<I, O>()
+    ensures { BareRunsAreMeant I O }
+{
+    bare_ends_are_as_meant();
+}
+
 /// The headline of commands: with good words for a file that is there, and where no count of faults
-/// rose, `build` writes an assembly text that does what its source means, and `run` and `gen` end by
-/// the meaning of theirs; a source with a fault is answered by its first; or memory ran out. It
-/// does nothing.
+/// rose, `build` writes an assembly text that does what its source means, `bare` one that does so on
+/// the machine with delayed branches, and `run` and `gen` end by the meaning of theirs; a source
+/// with a fault is answered by its first, and one that is too large for `bare` there by that; or
+/// memory ran out. It does nothing.
 pub fn commands_are_as_meant<H, I, O, E>()
     ensures { (c : Call H I O E) (status : ℕ) (asked : Asked) (file : List ℕ)
         → Answers c status → IsGood c asked file

@@ -7,6 +7,7 @@
 mod answers;
 mod checking;
 mod compiling;
+mod delaying;
 mod endings;
 mod executing;
 mod explaining;
@@ -29,9 +30,9 @@ pub use answers::usage;
 pub use compiling::compile;
 pub use faults::Rule;
 pub use laws::{
-    answers_are_complete, answers_are_exact, answers_are_safe, commands_are_as_meant,
-    expected_are_told, formats_once, one_answer, reports_are_exact, runs_are_as_meant,
-    runs_are_exact, sources_are_never_stuck,
+    answers_are_complete, answers_are_exact, answers_are_safe, bare_runs_are_as_meant,
+    commands_are_as_meant, expected_are_told, formats_once, one_answer, reports_are_exact,
+    runs_are_as_meant, runs_are_exact, sources_are_never_stuck,
 };
 pub use refusals::Refusal;
 pub use tg_compile::{Compiled, Passes};

@@ -31,6 +31,7 @@ ghost use Rattle.tg_driver.specs.Passes.{passes_of};
 
 use crate::answers::Answer;
 use crate::checking::answer_check;
+use crate::delaying::answer_bare;
 use crate::executing::answer_exec;
 use crate::explaining::{Explanation, explain, told};
 use crate::formatting::answer_format;
@@ -42,6 +43,7 @@ use crate::telling::report;
 use crate::tools::Tools;
 use crate::writing::{Wanted, answer_written};
 use std::alloc::Global;
+use tg_bare_compile_proof::bare_is_as_meant;
 use tg_base::{Shelf, Sink, Source};
 use tg_command::{Command, CommandFault, Flags, Mode, read_words};
 use tg_compile_proof::build_is_correct;
@@ -56,7 +58,8 @@ use tg_profiler::Watcher;
 ///
 /// The answer is due both by what sources mean and by what they are compiled to: what `build`
 /// writes, and what `run` and `gen` run, does what the source means, and is an assembly text that
-/// the source is compiled to with the passes that the words switch on, by the rule of the policy.
+/// the source is compiled to with the passes that the words switch on, by the rule of the policy;
+/// and so is what `bare` writes, on the machine with delayed branches.
 pub fn tiger<H: Shelf, I: Source, O: Sink, E: Sink>(
     alloc: Global,
     words: &[String],
@@ -82,6 +85,7 @@ pub fn tiger<H: Shelf, I: Source, O: Sink, E: Sink>(
     ensures err_later { E.faults err.old ≤ E.faults err.new }
 {
     build_is_correct();
+    bare_is_as_meant();
     let mut tools = tools;
     let streams = Streams { input, out };
     let mut explanation = Explanation::Nothing;
@@ -206,6 +210,7 @@ fn answer_command<H: Shelf, I: Source, O: Sink>(
         Mode::Show => answer_show(alloc, command, shelf, streams, policy, source),
         Mode::Gen => generate_to(alloc, command, streams, policy),
         Mode::Format => answer_format(alloc, command, shelf, streams, source),
+        Mode::Bare => answer_bare(alloc, command, shelf, streams, policy, source),
     }
 }
 

@@ -289,6 +289,7 @@ pub(crate) fn answers(
 pub(crate) fn refused(rt: &impl Abort, alloc: Global, text: &[u8], line: &str) -> Result<(), Fail> {
     answers(rt, alloc, "tiger|check|FILE", text, 65, line)?;
     answers(rt, alloc, "tiger|build|FILE", text, 65, line)?;
+    answers(rt, alloc, "tiger|bare|FILE", text, 65, line)?;
     answers(rt, alloc, "tiger|show|FILE", text, 65, line)?;
     answers(rt, alloc, "tiger|run|FILE", text, 65, line)
 }

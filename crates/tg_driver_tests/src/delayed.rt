@@ -48,6 +48,7 @@ fn other_commands_have_no_delay_slots(rt: HostRuntime) -> Result<(), Fail> {
         "tiger|check|FILE|--bare",
         "tiger|gen|3|--bare",
         "tiger|format|FILE|--bare",
+        "tiger|bare|FILE|--bare",
         "tiger|exec|FILE|--bare|--watch",
         "tiger|exec|--watch|--bare|FILE",
         "tiger|exec|FILE|--bare|--bare",

@@ -5,7 +5,7 @@ use std::rt::HostRuntime;
 use std::test::Fail;
 
 // The modes that explain the fault of a source.
-static MODES: [&str; 5] = ["check", "build", "run", "alloc", "show"];
+static MODES: [&str; 6] = ["check", "build", "run", "alloc", "show", "bare"];
 
 // A source, and what is told of it with `--explain`.
 static TOKENS: [(&str, &str); 16] = [

@@ -94,7 +94,7 @@ fn every_call_fails(
 }
 
 // The numbers of calls on shelf, input, output and error sink, the words, and the text of the file.
-static LINES: [((u64, u64, u64, u64), &str, &str); 26] = [
+static LINES: [((u64, u64, u64, u64), &str, &str); 28] = [
     ((1, 0, 0, 0), "tiger|check|FILE", "print(\"a\")"),
     ((1, 0, 0, 1), "tiger|check|FILE", "print(1)"),
     ((1, 0, 1, 0), "tiger|build|FILE", "print(\"a\")"),
@@ -103,6 +103,8 @@ static LINES: [((u64, u64, u64, u64), &str, &str); 26] = [
     ((1, 0, 0, 1), "tiger|run|FILE", "print(\"a"),
     ((1, 0, 1, 0), "tiger|alloc|FILE", "print(\"a\")"),
     ((1, 0, 0, 1), "tiger|alloc|FILE", "?"),
+    ((1, 0, 1, 0), "tiger|bare|FILE", "print(\"a\")"),
+    ((1, 0, 0, 1), "tiger|bare|FILE", "print(1)"),
     ((1, 0, 0, 0), "tiger|exec|FILE", "main: jr $ra"),
     ((1, 0, 0, 1), "tiger|exec|FILE", "main: jr $32"),
     ((0, 0, 15, 0), "tiger|gen|3", ""),

@@ -6,7 +6,7 @@ use tg_command::{Command, Mode, read_words};
 use tg_driver::usage;
 
 // Command lines, with a `|` between their words, that are usage faults. FILE is there.
-static REFUSED: [&str; 100] = [
+static REFUSED: [&str; 104] = [
     "tiger",
     "tiger|run",
     "tiger|FILE",
@@ -19,6 +19,10 @@ static REFUSED: [&str; 100] = [
     "tiger|ru|FILE",
     "tiger||FILE",
     "tiger|builds|FILE",
+    "tiger|bares|FILE",
+    "tiger|ba|FILE",
+    "tiger|bare|FILE|--watch",
+    "tiger|bare|FILE|FILE",
     "tiger|gen|0",
     "tiger|gen|1001",
     "tiger|gen|x",
@@ -111,7 +115,7 @@ static REFUSED: [&str; 100] = [
 
 // A status, a blank, and a command line that has it, where FILE holds `exit(7)` and the output
 // takes 64 bytes.
-static LINES: [&str; 46] = [
+static LINES: [&str; 49] = [
     "7 tiger|run|FILE",
     "7 |run|FILE",
     "0 tiger|check|FILE",
@@ -137,6 +141,9 @@ static LINES: [&str; 46] = [
     "0 tiger|check|FILE|--steps|1",
     "74 tiger|build|FILE|--steps|1",
     "66 tiger|build|MISSING",
+    "74 tiger|bare|FILE|--steps|1",
+    "74 tiger|bare|FILE|--fold",
+    "66 tiger|bare|MISSING",
     "74 tiger|alloc|FILE|--steps|1",
     "66 tiger|alloc|MISSING",
     "74 tiger|show|FILE",
@@ -162,11 +169,12 @@ static LINES: [&str; 46] = [
 
 // The mode, the heap, the stack, the steps and the file that a command line asks for, with blanks
 // between them, a `|`, and the line.
-static TAKEN: [&str; 27] = [
+static TAKEN: [&str; 28] = [
     "run 16777216 67108864 1000000000 a.tig|tiger|run|a.tig",
     "check 16777216 67108864 1000000000 a.tig|tiger|check|a.tig",
     "exec 16777216 67108864 10 a.s|tiger|exec|a.s|--steps|10",
     "build 16777216 67108864 1000000000 a|tiger|build|a",
+    "bare 16777216 67108864 1000000000 a|tiger|bare|a",
     "alloc 16777216 67108864 1000000000 a|tiger|alloc|a",
     "show 16777216 67108864 1000000000 a|tiger|show|a",
     "format 16777216 67108864 1000000000 a|tiger|format|a",
@@ -233,6 +241,7 @@ fn told(alloc: Global, command: &Command) -> Result<String, AllocError> {
         Mode::Show => "show",
         Mode::Gen => "gen",
         Mode::Format => "format",
+        Mode::Bare => "bare",
     };
     let file = command.file.as_str();
     let (heap, stack, steps) = (command.heap, command.stack, command.steps);

@@ -13,7 +13,7 @@ use Rattle.tg_command.specs.declared.modes.Mode.{Mode}
 use Rattle.tg_command.specs.declared.modes.Mode.TheVariants.{Run, Exec, Gen}
 use Rattle.tg_driver.specs.Telling.{IsTold}
 use Rattle.tg_driver.specs.FormatMode.{IsUntypedFault}
-use Rattle.tg_driver.specs.Faults.{IsFaultOf}
+use Rattle.tg_driver.specs.LargePrograms.{IsBareFaultOf}
 use Rattle.tg_base.specs.Files.{IsFilePrefix}
 use Rattle.tg_machine_state.specs.declared.ends.RunEnd.{RunEnd}
 use Rattle.tg_driver.specs.GenMode.{SumsUp}
@@ -109,5 +109,5 @@ EndsAssembled runs assembly heap stack steps _ = ⊥
 abbrev pub GivesText :
     {H : Type 0} → Shelved H → (name : List ℕ) → Answer → (text : List ℕ) → Type 0
 GivesText shelf name (Faulty fault) text =
-    IsFilePrefix (shelf.files shelf.before) name 262145 text × IsFaultOf text fault
+    IsFilePrefix (shelf.files shelf.before) name 262145 text × IsBareFaultOf text fault
 GivesText shelf name answer text = Unit {0}

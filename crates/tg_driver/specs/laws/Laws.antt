@@ -8,13 +8,14 @@ use Rattle.tg_profiler.specs.Watching.{Report}
 use Rattle.tg_program_generator.specs.Generated.{generated}
 use Rattle.tg_command.specs.declared.modes.Mode.{Mode}
 use Rattle.tg_command.specs.declared.modes.Mode.TheVariants.{Check, Build, Run, Exec, Alloc, Gen}
-use Rattle.tg_command.specs.declared.modes.Mode.TheVariants.{Show, Format}
+use Rattle.tg_command.specs.declared.modes.Mode.TheVariants.{Show, Format, Bare}
 use Rattle.tg_command.specs.Commands.{Asked, Ask}
 use Rattle.tg_driver.specs.declared.answers.Answer.{Answer}
 use Rattle.tg_driver.specs.declared.answers.Answer.TheVariants.{Faulty, Written, Finished}
 use Rattle.tg_driver.specs.Calls.{HasFailed, Shelved, IsUnread, Call}
 use Rattle.tg_correctness.specs.Sources.{IsSource}
 use Rattle.tg_driver.specs.Faults.{IsFaultOf}
+use Rattle.tg_driver.specs.LargePrograms.{IsBareFaultOf, IsSmallSource}
 use Rattle.tg_driver.specs.laws.AsMeant.{EndsAsMeant}
 use Rattle.tg_driver.specs.Runs.{RunRelation}
 use Rattle.tg_driver.specs.laws.Settled.{end_in, outcome_on}
@@ -89,6 +90,12 @@ IsFaultyOrWritten text (Faulty fault) = IsFaultOf text fault
 IsFaultyOrWritten text Written = IsSource text
 IsFaultyOrWritten text _ = ⊥
 
+-- in `bare`: a fault that it tells, or that a text was written of a source that isn't too large
+abbrev pub IsFaultyOrDelayed : List ℕ → Answer → Type 0
+IsFaultyOrDelayed text (Faulty fault) = IsBareFaultOf text fault
+IsFaultyOrDelayed text Written = IsSmallSource text
+IsFaultyOrDelayed text _ = ⊥
+
 -- the end of a run of what does what a generated source means, on an empty input
 abbrev pub EndsGenerated : Asked → Answer → Type 0
 EndsGenerated asked (Finished end) =
@@ -106,6 +113,7 @@ Settles runs Alloc asked text answer = IsFaultyOrWritten text answer
 Settles runs Show asked text answer = IsFaultyOrWritten text answer
 Settles runs Gen asked text answer = EndsGenerated asked answer
 Settles runs Format asked text answer = IsFaultyOrFormatted text answer
+Settles runs Bare asked text answer = IsFaultyOrDelayed text answer
 
 -- what text and input settle of a run of the call whose reports are these
 abbrev pub settled_runs : {H I O E : Type 0} → Call H I O E → (reports : List ℕ) → Asked → RunRelation

@@ -1,17 +1,19 @@
--- What `build`, `run` and `gen` do by the meaning of their source, where no count of faults rose.
+-- What `build`, `bare`, `run` and `gen` do by the meaning of their source, where no count of faults rose.
 use Rattle.std.specs.Prelude.{ℕ, List, []}
 use Rattle.std.specs.Io.KnownBytes.{Appends}
 use Rattle.tg_machine_state.specs.declared.ends.RunEnd.{RunEnd}
 use Rattle.tg_base.specs.PlainBytes.{PlainBytes}
 use Rattle.tg_program_generator.specs.Generated.{generated}
 use Rattle.tg_command.specs.declared.modes.Mode.{Mode}
-use Rattle.tg_command.specs.declared.modes.Mode.TheVariants.{Build, Run, Gen}
+use Rattle.tg_command.specs.declared.modes.Mode.TheVariants.{Build, Run, Gen, Bare}
 use Rattle.tg_command.specs.Commands.{Asked}
 use Rattle.tg_correctness.specs.Assemblies.{IsAsMeant}
+use Rattle.tg_bare_compile_proof.specs.Assemblies.{BareIsAsMeant}
 use Rattle.tg_driver.specs.declared.answers.Answer.{Answer}
 use Rattle.tg_driver.specs.declared.answers.Answer.TheVariants.{Faulty, Written, Finished}
 use Rattle.tg_driver.specs.Calls.{Stream, Streams, Call}
 use Rattle.tg_driver.specs.Faults.{IsFaultOf}
+use Rattle.tg_driver.specs.LargePrograms.{IsBareFaultOf}
 use Rattle.tg_driver.specs.laws.Laws.{Gives}
 use Rattle.tg_driver.specs.laws.MeantEnds.{EndsByMeaning, EndsOnInput, streams_until}
 
@@ -26,6 +28,19 @@ abbrev pub BuildsByMeaning : {O : Type 0} → Stream O → (text : List ℕ) →
 BuildsByMeaning out text (Faulty fault) = IsFaultOf text fault
 BuildsByMeaning out text Written = WritesAsMeant out text
 BuildsByMeaning out text _ = ⊥
+
+-- the output took one that does so on the machine with delayed branches
+pub record WritesForBare {O : Type 0} (out : Stream O) (text : List ℕ) : Type 0 where
+  pub assembly : List ℕ
+  pub meant : BareIsAsMeant text assembly
+  pub writes : Appends (out.told out.before) (out.told out.after) assembly
+
+-- `bare` answers the first fault of its source, or that its program is too large, or writes what
+-- does there what the source means
+abbrev pub DelaysByMeaning : {O : Type 0} → Stream O → (text : List ℕ) → Answer → Type 0
+DelaysByMeaning out text (Faulty fault) = IsBareFaultOf text fault
+DelaysByMeaning out text Written = WritesForBare out text
+DelaysByMeaning out text _ = ⊥
 
 -- `run` answers the first fault of its source, or ends by the meaning of the source on the bytes of
 -- its input
@@ -53,6 +68,7 @@ GeneratesByMeaning out asked _ = ⊥
 abbrev pub ByMeaning :
     {I O : Type 0} → Streams I O → Mode → Asked → (text : List ℕ) → Answer → Type 0
 ByMeaning s Build asked text answer = BuildsByMeaning s.out text answer
+ByMeaning s Bare asked text answer = DelaysByMeaning s.out text answer
 ByMeaning s Run asked text answer = RunsByMeaning s asked text answer
 ByMeaning s Gen asked text answer = GeneratesByMeaning s.out asked answer
 ByMeaning s _ asked text answer = Unit {0}

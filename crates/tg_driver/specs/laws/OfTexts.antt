@@ -5,6 +5,7 @@ use Rattle.tg_driver.specs.declared.answers.Answer.TheVariants.{Faulty, Written,
 use Rattle.tg_driver.specs.declared.answers.Answer.TheVariants.{Finished}
 use Rattle.tg_correctness.specs.Sources.{IsSource, HasTree}
 use Rattle.tg_driver.specs.Faults.{IsFaultOf}
+use Rattle.tg_driver.specs.LargePrograms.{IsBareFaultOf, IsSmallSource}
 use Rattle.tg_syntax.specs.declared.tokens.Spanned.{Spanned}
 use Rattle.tg_syntax.specs.Tree.{Exp}
 use Rattle.tg_driver.specs.Calls.{Stream}
@@ -12,7 +13,7 @@ use Rattle.tg_driver.specs.Writing.{TakesText}
 use Rattle.tg_driver.specs.FormatMode.{IsUntypedFault}
 use Rattle.tg_command.specs.declared.modes.Mode.{Mode}
 use Rattle.tg_command.specs.declared.modes.Mode.TheVariants.{Check, Build, Run, Exec, Alloc, Gen}
-use Rattle.tg_command.specs.declared.modes.Mode.TheVariants.{Show, Format}
+use Rattle.tg_command.specs.declared.modes.Mode.TheVariants.{Show, Format, Bare}
 use Rattle.tg_command.specs.Commands.{Asked}
 use Rattle.tg_driver.specs.Runs.{RunRelation}
 use Rattle.tg_driver.specs.CheckMode.{IsChecked}
@@ -25,6 +26,13 @@ IsWritable source (Faulty fault) = IsFaultOf source fault
 IsWritable source Written = IsSource source
 IsWritable source Unwritten = IsSource source
 IsWritable source _ = ⊥
+
+-- in `bare` that it is a source whose program isn't too large, or is
+abbrev pub IsBareWritable : List ℕ → Answer → Type 0
+IsBareWritable source (Faulty fault) = IsBareFaultOf source fault
+IsBareWritable source Written = IsSmallSource source
+IsBareWritable source Unwritten = IsSmallSource source
+IsBareWritable source _ = ⊥
 
 -- whatever the sink takes: an end of the run, or that the summary failed
 abbrev pub IsGenerable : Answer → Type 0
@@ -68,6 +76,7 @@ IsDueOfText runs Alloc asked text answer = IsWritable text answer
 IsDueOfText runs Show asked text answer = IsWritable text answer
 IsDueOfText runs Gen asked text answer = IsGenerable answer
 IsDueOfText runs Format asked text answer = IsFormattable text answer
+IsDueOfText runs Bare asked text answer = IsBareWritable text answer
 
 -- the bytes that a mode asks the shelf for: one more than its file may have
 abbrev pub most_of : Mode → ℕ

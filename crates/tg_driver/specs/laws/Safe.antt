@@ -12,7 +12,7 @@ use Rattle.tg_irc_definition.specs.Policies.{Rule as SpillRule}
 use Rattle.tg_program_generator.specs.Generated.{generated}
 use Rattle.tg_command.specs.declared.modes.Mode.{Mode}
 use Rattle.tg_command.specs.declared.modes.Mode.TheVariants.{Check, Build, Run, Exec, Alloc, Gen}
-use Rattle.tg_command.specs.declared.modes.Mode.TheVariants.{Show, Format}
+use Rattle.tg_command.specs.declared.modes.Mode.TheVariants.{Show, Format, Bare}
 use Rattle.tg_command.specs.Commands.{Asked, Ask}
 use Rattle.tg_correctness.specs.Assemblies.{IsAsMeant}
 use Rattle.tg_driver.specs.declared.answers.Answer.{Answer}
@@ -23,6 +23,7 @@ use Rattle.tg_driver.specs.Passes.{passes_of}
 use Rattle.tg_driver.specs.AllocMode.{Lists}
 use Rattle.tg_driver.specs.ShowMode.{Shows}
 use Rattle.tg_driver.specs.FormatMode.{Formats}
+use Rattle.tg_driver.specs.BareMode.{IsMeantForBare}
 use Rattle.tg_driver.specs.GenMode.{summary}
 use Rattle.tg_driver.specs.glue.PrivateCalls.{ReadsNoInput}
 use Rattle.tg_driver.specs.laws.OfTexts.{most_of}
@@ -87,6 +88,7 @@ HasToWrite rule told Alloc asked text written = Lists (passes_of asked) rule tex
 HasToWrite rule told Show asked text written = Shows (passes_of asked) rule text written
 HasToWrite rule told Gen asked text written = IsSummed asked text written
 HasToWrite rule told Format asked text written = Formats text written
+HasToWrite rule told Bare asked text written = IsMeantForBare text written
 
 -- The output took a prefix of what the mode has to write, of the prefix of its file that it reads,
 -- or of what `gen` generates.

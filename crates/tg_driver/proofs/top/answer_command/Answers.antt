@@ -1,14 +1,16 @@
 use Rattle.std.proofs.Common.{refl}
-use Rattle.tg_command.specs.declared.modes.Mode.TheVariants.{Check, Build, Run, Exec, Alloc, Show, Gen, Format}
+use Rattle.tg_command.specs.declared.modes.Mode.TheVariants.{Check, Build, Run, Exec, Alloc, Show, Gen, Format, Bare}
 use Rattle.tg_command.specs.Commands.{asked_of}
 use Rattle.tg_driver.specs.Calls.{shelf_of, stream_of, streams_of}
 use Rattle.tg_compile_proof.specs.Builds.{Builds}
+use Rattle.tg_bare_compile_proof.specs.Builds.{BuildsDelayed}
 use Rattle.tg_driver.specs.AllocMode.{Lists}
 use Rattle.tg_driver.specs.ShowMode.{Shows}
 use Rattle.tg_driver.specs.Compiled.{texts_compiled}
 use Rattle.tg_driver.specs.Watching.{if_watched}
 use Rattle.tg_driver.specs.glue.Watched.{HasWatchedRunBy}
 use Rattle.tg_driver.proofs.AnswerLemmas.{by_check, by_writing, by_run, by_exec, by_gen, by_format, in_mode, no_gen}
+use Rattle.tg_driver.proofs.BareAnswers.{by_bare}
 use Rattle.tg_driver.proofs.Watched.{run_by_flag}
 use Rattle.tg_driver.proofs.GivenTexts.{gives_executed, gives_generated}
 use Rattle.tg_driver.proofs.top.answer_command.Goals as goal
@@ -109,6 +111,20 @@ returns-in-Format-clause-due g c =
     c.args.command.now.flags.bare (if_watched c.args.command.now.flags c.args.watchers.now.items) c.keep_asked.new.watchers.items streams in
     in_mode texts runs Format shelf streams asked c.answer_format.result (no_gen Format tt) c.in-Format.is
     (by_format shelf streams asked c.answer_format.result c.answer_format.ensures.unread c.answer_format.ensures.before_start c.answer_format.ensures.due)
+
+pub returns-in-Bare-clause-due : goal.returns-in-Bare-clause-due
+returns-in-Bare-clause-due g c =
+    let shelf = shelf_of g.H.Shelf.files g.H.Shelf.faults c.args.shelf.now c.answer_bare.new.shelf in
+    let streams = streams_of
+    (stream_of g.I.Source.left g.I.Source.faults c.args.streams.input.now c.answer_bare.new.streams.0)
+    (stream_of g.O.Sink.taken g.O.Sink.faults c.args.streams.out.now c.answer_bare.new.streams.1.0) in
+    let asked = asked_of c.args.command.now in
+    let texts = texts_compiled ((goal.SpillPolicy-dyn g c.args.policy.now).rule c.args.policy.now.1) in
+    let runs = HasWatchedRunBy (λ b. (goal.Watcher-dyn g (b.vtable, b.value)).stands b.value) (λ b. (goal.Watcher-dyn g (b.vtable, b.value)).report b.value)
+    c.args.command.now.flags.bare (if_watched c.args.command.now.flags c.args.watchers.now.items) c.keep_asked.new.watchers.items streams in
+    in_mode texts runs Bare shelf streams asked c.answer_bare.result (no_gen Bare tt) c.in-Bare.is
+    (by_bare shelf streams (BuildsDelayed _ _) asked c.answer_bare.result c.answer_bare.ensures.unread
+    c.answer_bare.ensures.before_start c.answer_bare.ensures.due)
 
 pub returns-in-Gen-clause-due : goal.returns-in-Gen-clause-due
 returns-in-Gen-clause-due g c =
