@@ -7,3 +7,5 @@ pub mod Telling
 pub mod Counts
 pub mod Routines
 pub mod Joined
+pub mod LaterRounds
+pub mod Allocating

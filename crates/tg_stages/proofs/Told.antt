@@ -9,15 +9,14 @@ use Rattle.tg_trace_schedule.specs.Block.{Block}
 use Rattle.tg_trace_schedule.specs.mirror.Cutting.{blocks_of}
 use Rattle.tg_trace_schedule.specs.mirror.Laying.{traced}
 use Rattle.tg_canon_trace_proof.specs.Flattened.{flattened}
-use Rattle.tg_munch.specs.mirror.Bodies.{munched}
-use Rattle.tg_redundancy.specs.mirror.Known.{known_code}
+use Rattle.tg_irc_definition.specs.declared.rounds.Round.{Round}
 use Rattle.tg_regalloc.specs.declared.allocations.Allocation.{Allocation}
 use Rattle.tg_compile.specs.declared.passes.Passes.{Passes}
 use Rattle.tg_compile.specs.Prepared.{prepared_function}
 use Rattle.tg_show.specs.declared.variables.FunctionVariables.{FunctionVariables}
 use Rattle.tg_show.specs.Stages.{canonical_stage, blocks_stage, traces_stage}
 use Rattle.tg_stages.specs.declared.headings.Heading.{Heading}
-use Rattle.tg_stages.specs.Shown.{heading_text, variables_text, temp_names, trees_text, flat_text, allocated_text, TellsCode, TellsFunction}
+use Rattle.tg_stages.specs.Shown.{heading_text, variables_text, temp_names, trees_text, flat_text, allocated_text, first_code, TellsCode, TellsFunction}
 use Rattle.tg_stages.specs.glue.Putting.{Puts}
 
 abbrev of_statements : (before : List ℕ) → Stms → List ℕ
@@ -40,19 +39,20 @@ flat_told frame body statements next blocks flat t u v w draws cut laid p q r =
     ∙ ap (λ (d : Drawn Stms). of_statements t d.it) (sym draws.is)
 
 pub function_told : (passes : Passes) (long : Bool) (h : Heading) (own : Option FunctionVariables) (names : List (List ℕ)) (f g : Function Ts)
-    (one : Function (List Linear)) (a : Allocation) (t h_end u v w x y : List ℕ) → names ≡ temp_names own → g ≡ prepared_function passes f →
-    one ≡ flattened g → h_end ≡ t ++ heading_text f.label h → u ≡ h_end ++ variables_text own → v ≡ u ++ trees_text passes f → w ≡ v ++ flat_text g →
-    Puts w x (TellsCode names (known_code (munched one).code) (munched one).drawn.temp) → y ≡ x ++ allocated_text names long a →
+    (one : Function (List Linear)) (a : Allocation) (rounds : List Round) (t h_end u v w x y : List ℕ) → names ≡ temp_names own → g ≡ prepared_function passes f →
+    one ≡ flattened g → rounds ≡ a.rounds → h_end ≡ t ++ heading_text f.label h → u ≡ h_end ++ variables_text own → v ≡ u ++ trees_text passes f → w ≡ v ++ flat_text g →
+    Puts w x (TellsCode names (first_code one) rounds) → y ≡ x ++ allocated_text names long a →
     Puts t y (TellsFunction passes long h own f a)
-function_told passes long h own names f g one a t h_end u v w x y named prepared flat p o q r s last =
+function_told passes long h own names f g one a rounds t h_end u v w x y named prepared flat counted p o q r s last =
     let head = heading_text f.label h in
     let mine = variables_text own in
     let trees = trees_text passes f in
     let code = s.told in
     let end = allocated_text (temp_names own) long a in
     let N : List (List ℕ) → Type 0 = λ ns. y ≡ x ++ allocated_text ns long a in
-    let M : List (List ℕ) → Type 0 = λ ns. TellsCode ns (known_code (munched one).code) (munched one).drawn.temp code in
-    let P : Function (List Linear) → Type 0 = λ m. TellsCode (temp_names own) (known_code (munched m).code) (munched m).drawn.temp code in
+    let M : List (List ℕ) → Type 0 = λ ns. TellsCode ns (first_code one) rounds code in
+    let P : Function (List Linear) → Type 0 = λ m. TellsCode (temp_names own) (first_code m) rounds code in
+    let R : List Round → Type 0 = λ rs. TellsCode (temp_names own) (first_code (flattened (prepared_function passes f))) rs code in
     let all : y ≡ (((((t ++ head) ++ mine) ++ trees) ++ flat_text g) ++ code) ++ end =
     subst N named last
     ∙ ap (λ z. z ++ end) (s.is_behind
@@ -63,7 +63,7 @@ function_told passes long h own names f g one a t h_end u v w x y named prepared
       is_behind = joined ∙ ap (λ m. t ++ (head ++ (mine ++ (trees ++ (flat_text m ++ (code ++ end)))))) prepared;
       holds = record {
         code = code;
-        tells_code = subst P (flat ∙ ap flattened prepared) (subst M named s.holds);
+        tells_code = subst R counted (subst P (flat ∙ ap flattened prepared) (subst M named s.holds));
         text_is = refl;
       };
     }

@@ -1,19 +1,21 @@
 -- The text of `show`: of each function what each pass made of it, in the order in which the compiler
 -- works (Appel, chapters 6 to 12).
 use Rattle.std.specs.Prelude.{ℕ, ◌≡◌, List, [], ◌++◌, Bool, Option, Some, None, if◌then◌else◌}
-use Rattle.tg_tree.specs.Tree.{Ts, Function}
+use Rattle.tg_tree.specs.Tree.{Ts, Linear, Function}
 use Rattle.tg_fold.specs.laws.Laws.{folded_function}
 use Rattle.tg_canon.specs.laws.Meaning.{canonical}
 use Rattle.tg_trace_schedule.specs.laws.Carried.{in_blocks}
 use Rattle.tg_canon_trace_proof.specs.Flattened.{flattened}
 use Rattle.tg_instr.specs.declared.instr.Instr.{Instr}
+use Rattle.tg_munch.specs.mirror.Bodies.{munched}
 use Rattle.tg_live.specs.Live.{Sets, AreLiveSets}
 use Rattle.tg_graph.specs.Interference.{Interference}
 use Rattle.tg_interference.specs.Pairs.{IsInterference}
 use Rattle.tg_interference.specs.Moves.{moves_of}
 use Rattle.tg_redundancy.specs.mirror.Known.{known_code}
+use Rattle.tg_irc_definition.specs.declared.rounds.Round.{Round}
+use Rattle.tg_regalloc.specs.Rounds.{BetweenRounds}
 use Rattle.tg_regalloc.specs.declared.allocations.Allocation.{Allocation}
-use Rattle.tg_code_bounds.specs.Allocating.{chosen}
 use Rattle.tg_emit.specs.mirror.Lines.{function_lines}
 use Rattle.tg_compile.specs.declared.passes.Passes.{Passes}
 use Rattle.tg_compile.specs.Prepared.{prepared_function}
@@ -23,6 +25,7 @@ use Rattle.tg_show.specs.Stages.{function_line, variables_stage, tree_stage, fol
 use Rattle.tg_show.specs.Stages.{canonical_stage, blocks_stage, traces_stage, instructions_stage}
 use Rattle.tg_show.specs.Stages.{live_stage, graph_stage, registers_stage, assembly_stage}
 use Rattle.tg_stages.specs.declared.headings.Heading.{Heading}
+use Rattle.tg_stages.specs.LaterRounds.{TellLater}
 
 -- trees and flat code tell no temporary by a name
 abbrev unnamed : List (List ℕ)
@@ -67,14 +70,30 @@ allocated_text names long a =
 abbrev pub heading_text : (label : ℕ) → Heading → List ℕ
 heading_text label h = function_line label h.name h.place
 
--- the text of a code from its instructions to its graph
-pub record TellsCode (names : List (List ℕ)) (code : List Instr) (temps : ℕ) (text : List ℕ) :
-    Type 0 where
+-- the instructions that are chosen for flat code, with known words and tests
+abbrev pub first_code : Function (List Linear) → BetweenRounds
+first_code f = record {
+  list = known_code (munched f).code;
+  temps = (munched f).drawn.temp;
+  slots = f.slots;
+}
+
+-- the text of a code from its instructions to the graph of the first round
+pub record TellsFirst (names : List (List ℕ)) (s : BetweenRounds) (text : List ℕ) : Type 0 where
   pub live : Sets
   pub graph : Interference
-  pub are_live : AreLiveSets code live
-  pub interferes : IsInterference code temps graph
-  pub text_is : text ≡ code_text names code live graph
+  pub are_live : AreLiveSets s.list live
+  pub interferes : IsInterference s.list s.temps graph
+  pub text_is : text ≡ code_text names s.list live graph
+
+-- and then the graphs of later rounds of its allocation
+pub record TellsCode (names : List (List ℕ)) (s : BetweenRounds) (rounds : List Round)
+    (text : List ℕ) : Type 0 where
+  pub first : List ℕ
+  pub later : List ℕ
+  pub tells_first : TellsFirst names s first
+  pub tells_later : TellLater names s.temps 1 s rounds later
+  pub text_is : text ≡ first ++ later
 
 -- the text of a function that has this heading, these variables if the source declares it, and this
 -- allocation
@@ -83,8 +102,7 @@ pub record TellsFunction (passes : Passes) (long : Bool) (h : Heading)
     Type 0 where
   pub code : List ℕ
   pub tells_code :
-      let g = chosen (prepared_function passes f) in
-      TellsCode (temp_names own) (known_code g.code) g.drawn.temp code
+      TellsCode (temp_names own) (first_code (flattened (prepared_function passes f))) a.rounds code
   pub text_is :
       text ≡ heading_text f.label h ++
       (variables_text own ++

@@ -5,25 +5,29 @@ ghost use Rattle.tg_tree.specs.Shapes.{IsWellMarked};
 ghost use Rattle.tg_tree.specs.glue.Lists.{code_of};
 ghost use Rattle.tg_tree.specs.glue.Plain.{plain_fragment, plain_function, plain_ts};
 ghost use Rattle.tg_canon_trace_proof.specs.Flattened.{flattened};
-ghost use Rattle.tg_munch.specs.mirror.Bodies.{munched};
-ghost use Rattle.tg_redundancy.specs.mirror.Known.{known_code};
+ghost use Rattle.tg_instr.specs.Codes.{has_slots_below, names_registers};
+ghost use Rattle.tg_regalloc.specs.Conditions.{is_fixed};
+ghost use Rattle.tg_regalloc.specs.Rounds.{stage_of};
 ghost use Rattle.tg_emit.specs.Conditions.{has_labels, is_emittable};
 ghost use Rattle.tg_emit.specs.mirror.Lines.{function_lines};
 ghost use Rattle.tg_compile.specs.glue.Passes.{IsWellFormed, prepared_fragment};
 ghost use Rattle.tg_stages.specs.Shown as shown;
+ghost use Rattle.tg_stages.specs.glue.Allocating.{HasAllocation, HasRounds};
 ghost use Rattle.tg_stages.specs.glue.Putting.{Puts};
 
 use crate::headings::Heading;
 use crate::laws::{flat_code_is_well_marked, prepared_is_well_formed};
+use crate::rounds::put_later_rounds;
 use std::alloc::Global;
 use tg_base::{Bytes, Label, Memory};
 use tg_canon::linearize;
-use tg_compile::Passes;
+use tg_compile::{Passes, instructions_name_their_own};
 use tg_emit::{Line, function};
 use tg_fold::fold;
 use tg_frame::Frame;
 use tg_instr::{Allocated, Code};
 use tg_interference::{interference, moves_of};
+use tg_irc_definition::Round;
 use tg_live::{flow, live};
 use tg_munch::munch;
 use tg_redundancy::known;
@@ -51,12 +55,14 @@ pub fn put_stages(
 ) -> Result<(), Memory>
     requires formed { IsWellFormed (plain_fragment one) }
     requires emittable { IsTrue (is_emittable allocation.now.done) }
+    requires allocated { HasAllocation (prepared_fragment passes one) allocation.now }
     ensures { OnOk result (Puts text.old.items text.new.items
         (shown.TellsFunction passes long heading.now (slice_get own.now at) (plain_fragment one)
         allocation.now)) }
 {
     prepared_is_well_formed();
     flat_code_is_well_marked();
+    instructions_name_their_own();
     put_heading(text, one.frame.label, heading)?;
     let names = put_own(alloc, text, own, at)?;
     let names = names.as_slice();
@@ -64,7 +70,8 @@ pub fn put_stages(
     let Fragment { frame, body } = prepared;
     let mut frame = frame;
     let flat = put_flat(alloc, text, &mut frame, body)?;
-    put_instructions(alloc, text, names, &mut frame, &flat)?;
+    let rounds = allocation.rounds.as_slice();
+    put_instructions(alloc, text, names, &mut frame, &flat, rounds)?;
     Ok(put_allocated(alloc, text, names, allocation, long)?)
 }
 
@@ -150,25 +157,57 @@ fn put_instructions(
     names: &[Bytes],
     frame: &mut Frame,
     flat: &[Linear],
+    rounds: &[Round],
 ) -> Result<(), Memory>
     requires marked { IsWellMarked (code_of flat.now) }
     requires drawn { HasItsTemps (λ e. named_flat e [])
         (plain_function frame.old (code_of flat.now)) }
-    ensures { OnOk result (Puts text.old.items text.new.items
-        (shown.TellsCode names.now
-        (known_code (munched (plain_function frame.old (code_of flat.now))).code)
-        (munched (plain_function frame.old (code_of flat.now))).drawn.temp)) }
+    requires registers { IsTrue (list_all (names_registers is_fixed)
+        (shown.first_code (plain_function frame.old (code_of flat.now))).list) }
+    requires slots_below { IsTrue (list_all (has_slots_below frame.old.slots)
+        (shown.first_code (plain_function frame.old (code_of flat.now))).list) }
+    requires rounds { HasRounds
+        (shown.first_code (plain_function frame.old (code_of flat.now))).temps
+        (shown.first_code (plain_function frame.old (code_of flat.now))) rounds.now }
+    ensures { OnOk result (Puts text.old.items text.new.items (shown.TellsCode names.now
+        (shown.first_code (plain_function frame.old (code_of flat.now))) rounds.now)) }
 {
     let chosen = munch(alloc, flat, frame)?;
     let code = known(alloc, &chosen)?;
-    put_graphs(alloc, text, names, &code)
+    Ok(put_code_with_graphs(alloc, text, names, &code, frame.slots, rounds)?)
 }
 
-/// Puts a code at the end, with what is live and what interferes.
-fn put_graphs(alloc: Global, text: &mut Vec<u8>, names: &[Bytes], code: &Code) -> Result<(), Memory>
+/// Puts a code at the end, with what is live, and what interferes in each round of its allocation.
+fn put_code_with_graphs(
+    alloc: Global,
+    text: &mut Vec<u8>,
+    names: &[Bytes],
+    code: &Code,
+    slots: u32,
+    rounds: &[Round],
+) -> Result<(), Memory>
+    requires few { code.now.temps < 2 ^ 24 }
+    requires registers { IsTrue (list_all (names_registers is_fixed) code.now.list) }
+    requires slots_below { IsTrue (list_all (has_slots_below slots) code.now.list) }
+    requires rounds { HasRounds code.now.temps (stage_of code.now slots) rounds.now }
+    ensures { OnOk result (Puts text.old.items text.new.items
+        (shown.TellsCode names.now (stage_of code.now slots) rounds.now)) }
+{
+    put_first_round(alloc, text, names, code, slots)?;
+    Ok(put_later_rounds(alloc, text, names, code, slots, rounds)?)
+}
+
+/// Puts a code at the end, with what is live, and what interferes before the first round.
+fn put_first_round(
+    alloc: Global,
+    text: &mut Vec<u8>,
+    names: &[Bytes],
+    code: &Code,
+    slots: u32,
+) -> Result<(), Memory>
     requires { code.now.temps < 2 ^ 24 }
     ensures { OnOk result (Puts text.old.items text.new.items
-        (shown.TellsCode names.now code.now.list code.now.temps)) }
+        (shown.TellsFirst names.now (stage_of code.now slots))) }
 {
     let list = code.list.as_slice();
     put_code(alloc, text, names, list)?;

@@ -9,6 +9,7 @@ mod functions;
 mod headings;
 mod laws;
 mod programs;
+mod rounds;
 
 pub use headings::Heading;
 pub use programs::show_checked;

@@ -5,7 +5,9 @@ ghost use Rattle.tg_regalloc.specs.Allocations.{codes_of};
 ghost use Rattle.tg_emit.specs.Conditions.{is_emittable};
 ghost use Rattle.tg_emit.specs.mirror.Lines.{is_long};
 ghost use Rattle.tg_compile.specs.Compiling.{LiteralsFit, fragments_of};
+ghost use Rattle.tg_compile.specs.Prepared.{prepared};
 ghost use Rattle.tg_stages.specs.Programs.{IsShown, ShowsCompiled};
+ghost use Rattle.tg_stages.specs.glue.Allocating.{HaveAllocations};
 
 use crate::functions::put_stages;
 use crate::headings::{heading_at, headings, undeclared};
@@ -51,6 +53,8 @@ fn show(
     requires each { length allocations.now ≡
         length (fragments_of checked.now.notes (plain checked.now.program.body)).functions }
     requires emittable { IsTrue (list_all is_emittable (codes_of allocations.now)) }
+    requires allocated { HaveAllocations (prepared passes (fragments_of checked.now.notes
+        (plain checked.now.program.body))).functions allocations.now }
     ensures { IfOk result (λ shown. IsShown passes text.now checked.now.names checked.now.notes
         (plain checked.now.program.body) allocations.now shown.items) }
 {

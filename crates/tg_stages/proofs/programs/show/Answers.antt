@@ -1,4 +1,4 @@
-use Rattle.std.proofs.Common.{◌≡◌, ◌<◌, List, [], refl, sym, subst, ◌∙◌, arith, length, rules}
+use Rattle.std.proofs.Common.{ℕ, ◌≡◌, ◌<◌, List, [], refl, sym, subst, ◌∙◌, arith, get_or, length, rules}
 use Rattle.std.specs.Prelude.{All, map}
 use Rattle.std.proofs.IntoIterSteps.{All-taken}
 use Rattle.std.proofs.lemmas.List.{length_push}
@@ -15,6 +15,7 @@ use Rattle.tg_compile.proofs.WellFormed.{one_is}
 use Rattle.tg_variables.specs.Variables.{variables}
 use Rattle.tg_stages.specs.Headings.{headings}
 use Rattle.tg_stages.specs.Programs.{TellFrom, nothing}
+use Rattle.tg_stages.proofs.Allocating.{allocation_at}
 use Rattle.tg_stages.proofs.Counts.{emittable_at, within}
 use Rattle.tg_stages.proofs.Telling.{tell_next, all_told}
 use Rattle.tg_stages.proofs.programs.show.Goals as goal
@@ -51,6 +52,20 @@ put_stages-requires-clause-emittable c =
     (length c.loop-one.yielded) c.in_ok-functions.ensures.fragments c.requires.each (subst P given turn.0) in
     emittable_at c.args.allocations.now c.loop-one.at c.index-allocations-at.result (omega (arith, inside, c.loop-one.invariant.at))
     c.index-allocations-at.is c.requires.emittable
+
+pub put_stages-requires-clause-allocated : goal.put_stages-requires-clause-allocated
+put_stages-requires-clause-allocated c =
+    let first = c.into_iter-one-iterator.result in
+    let given = c.into_iter-one-iterator.ensures.into_iter_gives.0 in
+    let turn = YieldsList-turn (YieldsList-from_vec first.rest.items refl first.rest.ok.0) c.loop-one.yielded c.loop-one.one-iterator c.loop-one.yielded_by c.next.result c.next.new.self c.in-Some.one c.in-Some.is c.next.ensures.steps in
+    let P : List Fragment → Type 0 = λ xs. length c.loop-one.yielded < length xs in
+    let Q : List Fragment → Type 0 = λ xs. c.in-Some.one ≡ get_or xs (length c.loop-one.yielded) c.in-Some.one in
+    let R : ℕ → Type 0 = λ n. c.index-allocations-at.result ≡ get_or c.args.allocations.now n c.index-allocations-at.result in
+    let checked = c.args.checked.now in
+    let all = c.in_ok-functions.field-0 in
+    allocation_at c.args.passes all.functions.items all.literals.items (fragments_of checked.notes (plain checked.program.body)) c.args.allocations.now
+    (length c.loop-one.yielded) c.in-Some.one c.index-allocations-at.result c.in_ok-functions.ensures.fragments c.requires.allocated
+    (subst P given turn.0) (subst Q given turn.1) (subst R c.loop-one.invariant.at c.index-allocations-at.is)
 
 pub loop-one-init : goal.loop-one-init
 loop-one-init c =

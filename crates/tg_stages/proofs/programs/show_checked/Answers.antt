@@ -12,6 +12,10 @@ show-requires-clause-each g c =
 pub show-requires-clause-emittable : goal.show-requires-clause-emittable
 show-requires-clause-emittable g c = rw c.deref.ensures.value c.in_ok-compiled.ensures.compiles.program.emittable
 
+pub show-requires-clause-allocated : goal.show-requires-clause-allocated
+show-requires-clause-allocated g c =
+    rw c.deref.ensures.value (record { rule = _; are_allocations = c.in_ok-compiled.ensures.compiles.functions_are })
+
 pub returns-clause-shows : goal.returns-clause-shows
 returns-clause-shows g c = record {
   allocations = c.in_ok-compiled.compiled.allocations.items;

@@ -3,7 +3,7 @@ use Rattle.tg_interference.specs.Moves.{moves_of}
 use Rattle.tg_show.specs.Stages.{instructions_stage, live_stage, graph_stage}
 use Rattle.tg_stages.specs.Shown.{code_text}
 use Rattle.tg_stages.proofs.Joined.{three_told}
-use Rattle.tg_stages.proofs.functions.put_graphs.Goals as goal
+use Rattle.tg_stages.proofs.functions.put_first_round.Goals as goal
 
 pub returns : goal.returns
 returns c =
