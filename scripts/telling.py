@@ -17,7 +17,7 @@ LINK = re.compile(r"\[[^\]]*\]\(([^)#]+)[^)]*\)")
 NAMED = {"T1", "T2", "T3", "T4", "T5", "T7", "T8", "T10", "T11", "T15", "T16", "T17", "T18", "S1", "L1"}
 
 # The modes of which the program explains the faults.
-EXPLAINED = {"check", "build", "run", "alloc", "show", "format"}
+EXPLAINED = {"check", "build", "bare", "run", "alloc", "show", "format"}
 
 # Slips from other languages, of examples/slips.md: the rule, what stands before the mark, what stands at it, and the slip that
 # is shown. What else is wrong the program says itself.
