@@ -1,18 +1,16 @@
 -- What the instructions of a code define.
-use Rattle.std.proofs.Common.{◌≡◌, ℕ, Bool, nat_eq, ◌||◌, List, [], ◌∷◌, ◌++◌, map, take, get_or, Some, slice_get, refl, sym, ap, ◌∙◌, ⊎_elim}
+use Rattle.std.proofs.Common.{◌≡◌, ℕ, nat_eq, ◌||◌, List, [], ◌∷◌, Some, slice_get, refl, sym, ap, ◌∙◌, ⊎_elim}
 use Rattle.std.specs.List.{list_any}
 use Rattle.std.proofs.lemmas.Bool.{cases_eq, eq-eqb, ne_eqb}
-use Rattle.std.proofs.lemmas.List.{map-append, take_more}
 use Rattle.tg_base.specs.declared.ids.Label.{Label}
 use Rattle.tg_instr.specs.declared.instr.Instr.{Instr}
 use Rattle.tg_instr.specs.declared.instr.Instr.TheVariants.{Call}
 use Rattle.tg_instr.specs.declared.operands.Opnd.{Opnd}
 use Rattle.tg_instr.specs.declared.operands.Opnd.TheVariants.{Reg}
-use Rattle.tg_instr.specs.Operands.{is_same, registers}
+use Rattle.tg_instr.specs.Operands.{registers}
 use Rattle.tg_instr.specs.Uses.{defs_of}
 use Rattle.tg_live.specs.Live.{is_among}
 use Rattle.tg_live.specs.glue.Definitions.{first_in, operands_in}
-use Rattle.tg_live.specs.declared.definitions.Defined.{Defined}
 
 -- each instruction but a call defines one operand at most
 pub first_alone : (one : Instr) → ((label : Label) → one ≡ Call label → ⊥) →

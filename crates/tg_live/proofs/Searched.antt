@@ -1,19 +1,18 @@
 -- What the search for the places of one operand keeps, and what it ends with.
-use Rattle.std.proofs.Common.{◌≡◌, ◌<◌, ◌≤◌, ◌+◌, ◌-◌, ◌⊎◌, ℕ, zero, suc, Bool, true, false, not, nat_eq, ◌&&◌, ◌||◌, cond, List, [], ◌∷◌, ◌++◌, length}
+use Rattle.std.proofs.Common.{◌≡◌, ◌<◌, ◌≤◌, ◌+◌, ◌-◌, ◌⊎◌, ℕ, zero, suc, Bool, true, false, not, nat_eq, ◌&&◌, ◌||◌, List, [], ◌∷◌, ◌++◌, length}
 use Rattle.std.proofs.Common.{get_or, drop, refl, sym, ap, ◌∙◌, subst, arith, ⊎_elim, inl, inr, append-nil, append_assoc}
 use Rattle.std.specs.List.{list_any}
-use Rattle.std.proofs.lemmas.Bool.{cases_eq, cases_lt, cases_Bool, and_parts, and_from, false≢true, or_left, or_right, or_cases, eq-eqb, eqb-true, ne_eqb, both_ways, not_from_false}
+use Rattle.std.proofs.lemmas.Bool.{cases_eq, cases_lt, cases_Bool, and_from, false≢true, or_left, or_right, or_cases, eq-eqb, eqb-true, ne_eqb, both_ways, not_from_false}
 use Rattle.std.proofs.lemmas.List.{drop_more, drop_all, drop-append-le, length-append}
 use Rattle.std.proofs.lemmas.List.Folds.{list_any-append}
 use Rattle.tg_instr.specs.declared.instr.Instr.{Instr}
 use Rattle.tg_instr.specs.declared.operands.Opnd.{Opnd}
 use Rattle.tg_live.specs.Flow.{goes_on}
 use Rattle.tg_live.specs.Live.{is_used, is_defined, IsLiveOut}
-use Rattle.tg_live.specs.glue.Tables.{Table, row, IsBefore}
+use Rattle.tg_live.specs.glue.Tables.{Table, IsBefore}
 use Rattle.tg_live.specs.mirror.Search.{Found, found, stamp_at, has_stamp, has_stamp_before, has, one_unless, unmarked}
 use Rattle.tg_live.specs.mirror.Search.{IsPassed, IsFound, IsClosed, AreEntered, IsSearched}
 use Rattle.tg_live.proofs.Reach.{live_before, least}
-use Rattle.tg_live.proofs.Places.{goes_within}
 
 -- Booleans.
 

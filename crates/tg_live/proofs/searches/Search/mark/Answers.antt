@@ -1,5 +1,4 @@
-use Rattle.std.proofs.Common.{◌≡◌, ◌<◌, ◌≤◌, ◌+◌, ◌⊎◌, ℕ, length, get_or, slice_set, refl, sym, ap, ◌∙◌, arith, ⊎_elim, inl, inr, rules}
-use Rattle.std.proofs.lemmas.Bool.{cases_eq}
+use Rattle.std.proofs.Common.{length, ap, arith}
 use Rattle.tg_live.specs.mirror.Search.{Found, stamp_at}
 use Rattle.tg_live.proofs.searches.Search.mark.Goals as goal
 

@@ -1,5 +1,5 @@
 -- The search from its start to its end.
-use Rattle.std.proofs.Common.{◌≡◌, ◌<◌, ◌≤◌, ℕ, not, ◌&&◌, length, get_or, sym, ap, ◌∙◌, subst, arith}
+use Rattle.std.proofs.Common.{◌<◌, ◌≤◌, ℕ, not, ◌&&◌, length, sym, ap, ◌∙◌, subst, arith}
 use Rattle.std.specs.List.{list_any}
 use Rattle.tg_live.specs.Flow.{goes_on}
 use Rattle.tg_live.specs.Live.{is_defined, IsLiveOut}
