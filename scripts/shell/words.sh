@@ -7,7 +7,7 @@ modes='check|FILE|tells the first fault of a Tiger source|explain|examples/fault
 run|FILE|compiles a source and runs it|heap stack steps watch fold explain|examples/merge.tig <examples/merge.in|with the code of the program modulo 256, 65 at a fault of the source, 101 to 110 at an end by a fault
 show|FILE|tells what each stage makes of each function|fold explain out|examples/sum.tig|with 0 where it is told, 65 at a fault of the source
 build|FILE|writes the MIPS assembly text of a source|fold explain out|examples/sum.tig -o sum.s|with 0 where the text is written, 65 at a fault of the source
-bare|FILE|writes the assembly text of a source with delay slots|fold explain out|examples/sum.tig -o slots.s|with 0 where the text is written, 65 at a fault of the source or where it is too large
+bare|FILE|writes the text for a machine with delayed branches|fold explain out|examples/sum.tig -o sum.s|with 0 where the text is written, 65 at a fault of the source
 alloc|FILE|tells the steps of the register allocator|fold explain out|examples/sum.tig|with 0 where they are written, 65 at a fault of the source
 exec|FILE|assembles a text and runs it|heap stack steps watch bare|examples/hello.s|with the code of the program modulo 256, 65 at a fault of the text, 101 to 111 at an end by a fault
 format|FILE|writes a source in its one layout|explain out|examples/crooked.tig|with 0 where the source is written, 65 at a fault of tokens or grammar
@@ -72,7 +72,7 @@ page_of_options() {
         fold) printf '  %-15s build, bare, run, show, alloc and gen fold the trees before they go on\n' --fold ;;
         bare) printf '  %-15s exec runs a machine with delayed branches, unwatched\n' --bare ;;
         explain) printf '  %-15s what explains a fault of a source stands behind its line; not in exec and gen\n' --explain ;;
-        out) printf '  %-15s build, bare, show, alloc and format write OUT, where they end with 0, not standard output\n' '-o OUT' ;;
+        out) printf '  %-15s build, bare, show, alloc and format write OUT, where they end with 0, in place of standard output\n' '-o OUT' ;;
         gnu) printf '  %-15s FILE:LINE:COLUMN: stands before a fault, as it does on a terminal\n' --gnu ;;
         *)
             row "$option" "$options" its value is_for least most absent
