@@ -1,5 +1,6 @@
 """The program that the benchmarks run, the time that it takes, and the source of the generator's program."""
 import collections
+import functools
 import os
 import re
 import resource
@@ -7,11 +8,15 @@ import subprocess
 import sys
 import tempfile
 
+sys.path.insert(0, os.path.join(os.path.dirname(os.path.abspath(__file__)), "..", "scripts"))
+from answering import LAUNCHER, program  # noqa: E402
 
+
+@functools.cache
 def tiger():
     """The program that TIGER names, or the one that the launcher runs, so that the launcher's start isn't timed."""
-    program = os.environ.get("TIGER")
-    return program or subprocess.run(["./tiger", "--program"], stdout=subprocess.PIPE, text=True, check=True).stdout.strip()
+    path = program()
+    return path if path != LAUNCHER else subprocess.check_output([path, "--program"], text=True).strip()
 
 
 def generated(count):

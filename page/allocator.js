@@ -91,7 +91,7 @@ function bow({ x: x1, y: y1 }, { x: x2, y: y2 }) {
 function open_round(step) {
   const one = allocator.functions[at("round_function").value], number = Number(at("round").value), round = one.rounds[number];
   const steps = steps_of(one, round, number === one.rounds.length - 1);
-  const near = (number === 0 && allocator.graphs.get(one.number)) || null, is_last = number === one.rounds.length - 1;
+  const near = allocator.graphs.get(one.number)?.[number] ?? null, is_last = number === one.rounds.length - 1;
   const told = [...steps.flatMap(({ a, b }) => [a, b]), ...(is_last ? Object.keys(one.homes) : []), ...(near ? near.keys() : [])];
   const nodes = [...new Set(told.filter((it) => it && /^[$t]/.test(it)))];
   const { places, width, height } = places_of(columns_of(steps, nodes), (at("picture").clientWidth || 700) - 12);
@@ -153,7 +153,7 @@ async function open_allocator() {
   const source = at("source").value, alloc = await asked("alloc", { tell: true });
   if (!alloc || alloc.status !== 0) return at("picture").replaceChildren(TEXTS.no_stages);
   const show = shell.has.show && (await asked("show", {})), shown = show ? shown_functions(decoded(show.out)) : [];
-  allocator.graphs = new Map(shown.map(({ number, stages }) => [number, neighbours_of(stages.get("graph") ?? [])]));
+  allocator.graphs = new Map(shown.map(({ number, stages }) => [number, graphs_of(stages.get("graph") ?? [])]));
   allocator.functions = allocations_of(decoded(alloc.out)).filter((it) => it.rounds.length);
   const labels = allocator.functions.map((it) => `f${it.number}:`).join("\n"), names = named_labels(labels.replace("f32:", "main:"), source);
   fill_options(at("round_function"), allocator.functions.map((it, place) => [place, (names.get(it.number === 32 ? "main" : `f${it.number}`) ?? { name: it.number }).name]));

@@ -117,13 +117,22 @@ function shown_functions(text) {
   return found;
 }
 
-// The neighbours of each node of the first round's graph, as the stage `graph` tells them: a name, what its degree is, and the others.
-function neighbours_of(lines) {
-  const near = new Map(), bare = (it) => it.split(":")[0];
-  const of = (it) => near.get(bare(it)) ?? near.set(bare(it), new Set()).get(bare(it));
+// The operands of a list of `show`: those of a run, as t5..t13, each by itself.
+function members_of(words) {
+  return words.flatMap((word) => {
+    const [, stem, first, last] = /^(\$?[a-z])(\d+)\.\.\$?[a-z](\d+)$/.exec(word) ?? [];
+    return stem ? Array.from({ length: last - first + 1 }, (_, at) => stem + (Number(first) + at)) : [word];
+  });
+}
+
+// The neighbours of each node of the graph of each round, as the stage `graph` tells them: a name, what its degree is, and the others;
+// in front of a later round stands its number.
+function graphs_of(lines) {
+  const graphs = [new Map()], bare = (it) => it.split(":")[0];
+  const of = (it) => graphs.at(-1).get(bare(it)) ?? graphs.at(-1).set(bare(it), new Set()).get(bare(it));
   for (const [name, , ...others] of lines.map((it) => it.split(" ")).filter(([word]) => word !== "move")) {
-    of(name);
-    for (const other of others) of(name).add(bare(other)), of(other).add(bare(name));
+    if (name === "round") graphs.push(new Map());
+    else for (const other of (of(name), members_of(others))) of(name).add(bare(other)), of(other).add(bare(name));
   }
-  return near;
+  return graphs;
 }

@@ -2,7 +2,7 @@
 the tree of dominators, which are computed from these."""
 import re
 
-from stages import one_named, show
+from stages import graphs_of, members, one_named, show
 
 MARK = re.compile(r"\.(\d+)")
 BARS = "the bars beside the code: what is live, a column for each temporary"
@@ -43,7 +43,7 @@ def live_sets(function):
             live = live | {it[1:] for it in words[1:] if it[0] == "+"}
             live = live - {it[1:] for it in words[1:] if it[0] == "-"}
         else:
-            live = set(words)
+            live = set(members(words))
         yield code, frozenset(live)
 
 
@@ -142,28 +142,22 @@ def homes(function):
 
 
 def interference(function):
-    found, moves = {}, []
-    for words in map(str.split, function.part("graph")):
-        if words[0] == "move":
-            moves.append(words[1:])
-        else:
-            found[words[0]] = words[1:]
-    registers = homes(function)
-    others = {it for row in [*(row[1:] for row in found.values()), *moves] for it in row} - set(found)
-    named = [*found, *sorted(others, key=COLOURS.index)]
+    graph, registers = graphs_of(function)[0], homes(function)
+    others = {it for row in [*graph.near.values(), *graph.moves] for it in row} - set(graph.near)
+    named = [*graph.near, *sorted(others, key=COLOURS.index)]
     yield f'graph "{quoted(function.head)}" {{'
     yield f'  label="{quoted(function.head)}\\nthe first round; filled by the last"; overlap=false; layout=neato;'
     for name in named:
         colour = name if name[0] == "$" else registers.get(name.split(":")[0])
         fill = PALETTE[COLOURS.index(colour)] if colour in COLOURS else "white"
-        text = name if name[0] == "$" else f"{name}\\n{found[name][0]}" + (f", {colour}" if colour else "")
+        text = name if name[0] == "$" else f"{name}\\n{graph.degrees[name]}" + (f", {colour}" if colour else "")
         shape = "box" if name[0] == "$" else "ellipse"
         yield f'  "{name}" [label="{text}", shape={shape}, style=filled, fillcolor="{fill}"];'
-    for name, (_, *near) in found.items():
+    for name, near in graph.near.items():
         for other in near:
             if other[0] == "$" or number(other) < number(name):
                 yield f'  "{name}" -- "{other}";'
-    for to, source in moves:
+    for to, source in graph.moves:
         yield f'  "{to}" -- "{source}" [style=dotted, color=blue];'
     yield "}"
 

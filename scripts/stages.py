@@ -7,6 +7,7 @@ from answering import program, stop
 # In the order in which the compiler works.
 STAGES = ("variables tree folded canonical blocks traces instructions live graph registers assembly").split()
 HEAD = re.compile(r"function (\d+) (\S+)(?: (\d+):(\d+))?$")
+RUN = re.compile(r"(\$?[a-z])(\d+)\.\.\1(\d+)")
 
 
 class Function:
@@ -23,6 +24,41 @@ class Function:
         if stage not in self.stages:
             stop(f"function {self.label} {self.name} has no stage {stage}")
         return [line[2:] for line in self.stages[stage]]
+
+
+def members(words):
+    """The operands of a list: those of a run, as t5..t13, each by itself."""
+    for word in words:
+        run = RUN.fullmatch(word)
+        if run:
+            yield from (f"{run[1]}{it}" for it in range(int(run[2]), int(run[3]) + 1))
+        else:
+            yield word
+
+
+class Graph:
+    """The graph of a round: for each temporary `low` or `high` and its neighbours, and the moves between nodes."""
+
+    def __init__(self):
+        self.degrees, self.near, self.moves = {}, {}, []
+
+    def take(self, words):
+        """A line of the stage `graph`."""
+        if words[0] == "move":
+            self.moves.append(tuple(words[1:]))
+        else:
+            self.degrees[words[0]], self.near[words[0]] = words[1], [*members(words[2:])]
+
+
+def graphs_of(function):
+    """The graphs of a function's rounds, the first round's first."""
+    found = [Graph()]
+    for words in map(str.split, function.part("graph")):
+        if words[0] == "round":
+            found.append(Graph())
+        else:
+            found[-1].take(words)
+    return found
 
 
 def functions_of(text):

@@ -1,5 +1,5 @@
 -- The text of some trees, computed.
-use Rattle.std.specs.Prelude.{ℕ, ◌≡◌, List, [], ◌∷◌, Some, None, codes, map, refl}
+use Rattle.std.specs.Prelude.{ℕ, ◌≡◌, List, [], ◌∷◌, ◌++◌, Some, None, codes, map, refl}
 use Rattle.std.specs.Fmt.{digits}
 use Rattle.std.specs.List.{range_with_len}
 use Rattle.tg_frame.specs.declared.accesses.Access.TheVariants.{InTemp, InFrame}
@@ -10,11 +10,14 @@ use Rattle.tg_tree.specs.Tree.{Compare, Not, Both, Ts, Move, If, Break, Seq, Ret
 use Rattle.tg_instr.specs.declared.operands.Opnd.{Opnd}
 use Rattle.tg_instr.specs.declared.operands.Opnd.TheVariants as operand
 use Rattle.tg_instr.specs.declared.instr.Instr.TheVariants as instr
+use Rattle.tg_instr.specs.Uses.{defs_of}
 use Rattle.tg_show.specs.Trees.{ts_text}
-use Rattle.tg_show.specs.Layout.{laid}
+use Rattle.tg_show.specs.Layout.{new_line, laid}
 use Rattle.tg_show.specs.declared.variables.FunctionVariables.{FunctionVariables}
 use Rattle.tg_show.specs.Variables.{variables_lines}
 use Rattle.tg_show.specs.Names.{names_of}
+use Rattle.tg_show.specs.Runs.{operands_text}
+use Rattle.tg_show.specs.Instructions.{told}
 use Rattle.tg_show.specs.Live.{live_lines, live_text}
 use Rattle.tg_show.specs.Stages.{function_line}
 
@@ -38,6 +41,10 @@ on_lines : laid 0 (ts_text names long) ≡
     codes "SEQ(\n  MOVE(TEMP t3:sum, BINOP(PLUS, MEM(TEMP t1), CONST -4)),\n  IF(\n    AND(REL(LT, TEMP t3:sum, CONST 0), NOT(REL(LT, CONST 7, TEMP t4))),\n    SEQ(),\n    BREAK 0),\n  RETURN(CALL(NAME f33, FP, NAME s40)))\n"
 unfolding digits
 on_lines = refl
+
+-- Behind 40 levels a line is indented by 64 blanks.
+indented : new_line 40 ≡ codes "\n                                                                "
+indented = refl
 
 -- a function at level 1 whose `b` is used by functions `g` and `h` in it; no type of `sum` is written
 abbrev of_level_1 : FunctionVariables
@@ -69,11 +76,28 @@ t n = operand.Temp (record { 0 = n })
 -- t3, which is the home of `sum`, lives across the call, whose result doesn't
 live : live_lines names ((t 3 ∷ []) ∷ (operand.Reg 2 ∷ t 3 ∷ []) ∷ (operand.Reg 2 ∷ []) ∷ [] ∷ []) [] 0
     (instr.Mark 0 ∷ instr.Call (record { 0 = 33 }) ∷ instr.Sw (t 3) 4 (operand.Reg 2) ∷ instr.Return ∷ []) ≡
-    codes "  .0:  # live t3:sum\n    jal f33  # live $v0 t3:sum  # across t3:sum\n    sw t3:sum, 4($v0)  # live $v0\n    return\n"
+    codes "  .0:  # live t3:sum\n    jal f33  # live $v0 t3:sum  # crosses 1\n    sw t3:sum, 4($v0)  # live $v0\n    return\n"
 unfolding digits
 live = refl
 
--- 25 temporaries of which one is another than before
-live_in_numbers : live_text names (t 3 ∷ map t (range_with_len 5 24)) (map t (range_with_len 4 25)) ≡ codes "  # live 25 +t4 -t3:sum"
+-- 13 temporaries of which one is another than before
+live_in_numbers : live_text names (t 3 ∷ map t (range_with_len 5 12)) (map t (range_with_len 4 13)) instr.Return ≡ codes "  # live 13 +t4 -t3:sum"
 unfolding digits
 live_in_numbers = refl
+
+-- Out of a label they are told.
+live_out_of_label : live_text names (t 3 ∷ []) (map t (range_with_len 4 13)) (instr.Mark 0) ≡ codes "  # live t4..t16"
+unfolding digits
+live_out_of_label = refl
+
+-- Two that follow each other are no run, nor is one in which t3 stands, which has a name, and $t0 doesn't follow $a3.
+runs : operands_text names (map operand.Reg (range_with_len 2 8) ++ (map t (range_with_len 2 5) ++ (t 7 ∷ t 9 ∷ t 8 ∷ []))) ≡
+    codes " $v0 $v1 $a0..$a3 $t0 $t1 t2 t3:sum t4..t7 t9 t8"
+unfolding digits
+runs = refl
+
+-- what a call defines
+call_defines : told names (codes "  # defines") (defs_of (instr.Call (record { 0 = 33 }))) ≡
+    codes "  # defines $v0 $v1 $a0..$a3 $t0..$t9 $ra"
+unfolding digits
+call_defines = refl

@@ -9,7 +9,7 @@ use Rattle.tg_graph.specs.Interference.{Interference, bare, with_edge}
 use Rattle.tg_regalloc.specs.declared.allocations.Location.TheVariants.{Colour, Slot}
 use Rattle.tg_emit.specs.declared.assembly.Line.TheVariants.{Label, One, La}
 use Rattle.tg_show.specs.Blocks.{blocks_lines}
-use Rattle.tg_show.specs.Graph.{graph_lines}
+use Rattle.tg_show.specs.Graph.{graph_lines, round_lines}
 use Rattle.tg_show.specs.Registers.{placed_lines}
 use Rattle.tg_show.specs.Assembly.{assembly_lines}
 
@@ -35,6 +35,10 @@ graph_and_move : graph_lines names graph (record { to = 25; from = 4 } ∷ []) �
     codes "  t0 low t1 $a0\n  t1 low t0\n  move t0 $a2\n"
 unfolding digits
 graph_and_move = refl
+
+second_round : round_lines names 2 graph [] ≡ codes "  round 2\n  t0 low t1 $a0\n  t1 low t0\n"
+unfolding digits
+second_round = refl
 
 homes : placed_lines names false (Colour 0 ∷ Slot 2 ∷ Colour 24 ∷ Colour 16 ∷ []) ≡
     codes "  colour t0 $v0\n  slot t1 2\n  colour t2 $ra\n  colour t3:sum $s0\n"

@@ -2,9 +2,7 @@
 -- assembly text, and then the operands that each defines and uses.
 use Rattle.std.specs.Prelude.{ℕ, nat_lt, ◌-◌, List, [], ◌∷◌, ◌++◌, codes, if◌then◌else◌}
 use Rattle.std.specs.Fmt.{decimal}
-use Rattle.tg_isa.specs.Names.{register_name}
 use Rattle.tg_instr.specs.declared.operands.Opnd.{Opnd}
-use Rattle.tg_instr.specs.declared.operands.Opnd.TheVariants.{Temp, Reg}
 use Rattle.tg_instr.specs.declared.instr.Test.{Test}
 use Rattle.tg_instr.specs.declared.instr.Instr.{Instr}
 use Rattle.tg_instr.specs.declared.instr.Instr.TheVariants.{Sll, Srl, Sra, Mfhi, Mflo, Mult, Div}
@@ -16,13 +14,10 @@ use Rattle.tg_instr.specs.declared.instr.Instr.TheVariants.{FrameAddress, Addres
 use Rattle.tg_instr.specs.declared.instr.Instr.TheVariants.{Branch, Call, Service, Fault, Return}
 use Rattle.tg_instr.specs.Uses.{uses_of, defs_of}
 use Rattle.tg_show.specs.Layout.{blanks}
-use Rattle.tg_show.specs.Words.{temp_text, rel_word}
+use Rattle.tg_show.specs.Words.{rel_word}
 use Rattle.tg_show.specs.Trees.{two, three}
 use Rattle.tg_show.specs.Flat.{mark_text}
-
-abbrev pub operand_text : (names : List (List ℕ)) → Opnd → List ℕ
-operand_text names (Temp t) = temp_text names t.0
-operand_text names (Reg r) = register_name r
+use Rattle.tg_show.specs.Runs.{operand_text, operands_text}
 
 -- a field of 16 bits, with its sign
 abbrev pub signed_text : (field : ℕ) → List ℕ
@@ -116,14 +111,10 @@ module _ (names : List (List ℕ)) where
   instruction_text (Fault n) = codes "break " ++ decimal n
   instruction_text Return = codes "return"
 
-  abbrev pub operands_text : List Opnd → List ℕ
-  operands_text [] = []
-  operands_text (x ∷ rest) = codes " " ++ (o x ++ operands_text rest)
-
   -- behind a word, where there are any
   abbrev pub told : (word : List ℕ) → List Opnd → List ℕ
   told word [] = []
-  told word (x ∷ rest) = word ++ operands_text (x ∷ rest)
+  told word (x ∷ rest) = word ++ operands_text names (x ∷ rest)
 
   abbrev pub instruction_line : Instr → List ℕ
   instruction_line one =

@@ -1,7 +1,9 @@
 -- How a nested text is laid on lines. In a nested text parts stand between parentheses, and a comma
--- and a blank between two parts. A part of at most 72 bytes stands on one line. Of a longer one
--- each part begins a line, which is indented by two blanks more.
-use Rattle.std.specs.Prelude.{ℕ, zero, suc, ◌+◌, ◌-◌, ◌==◌, ◌&&◌, ◌||◌, Bool, if◌then◌else◌}
+-- and a blank between two parts. A part of at most 72 bytes stands on one line, however far that is
+-- indented. Of a longer one each part begins a line, a level deeper. A line is indented by two
+-- blanks a level, but by at most 64.
+use Rattle.std.specs.Prelude.{ℕ, zero, suc, ◌+◌, ◌-◌, ◌==◌, nat_lt, ◌&&◌, ◌||◌, Bool}
+use Rattle.std.specs.Prelude.{if◌then◌else◌}
 use Rattle.std.specs.Prelude.{List, [], ◌∷◌, ◌++◌}
 use Rattle.tg_show.specs.declared.modes.Mode.{Mode}
 use Rattle.tg_show.specs.declared.modes.Mode.TheVariants.{Kept, Broken, Between}
@@ -35,8 +37,12 @@ abbrev pub blanks : (depth : ℕ) → List ℕ
 blanks zero = []
 blanks (suc d) = 32 ∷ 32 ∷ blanks d
 
+-- the levels by which a line is indented
+abbrev pub capped : (depth : ℕ) → ℕ
+capped depth = if nat_lt 32 depth then 32 else depth
+
 abbrev pub new_line : (depth : ℕ) → List ℕ
-new_line depth = 10 ∷ blanks depth
+new_line depth = 10 ∷ blanks (capped depth)
 
 abbrev pub written : (depth : ℕ) → Mode → (byte : ℕ) → List ℕ
 written depth (Kept n) c = c ∷ []
@@ -63,4 +69,4 @@ laid_from depth mode (c ∷ rest) =
 
 -- a nested text on lines of its own, of which the first is indented by so many levels
 abbrev pub laid : (margin : ℕ) → List ℕ → List ℕ
-laid margin text = blanks margin ++ (laid_from margin (mode_of text) text ++ 10 ∷ [])
+laid margin text = blanks (capped margin) ++ (laid_from margin (mode_of text) text ++ 10 ∷ [])

@@ -2,6 +2,7 @@ pub mod Layout
 pub mod Words
 pub mod Variables
 pub mod Names
+pub mod Runs
 pub mod Trees
 pub mod Flat
 pub mod Blocks

@@ -1,15 +1,16 @@
 -- The lines of liveness (Appel, chapter 10): each instruction with what is live out of it, and each
--- call with what lives across it.
-use Rattle.std.specs.Prelude.{ℕ, suc, ◌==◌, nat_lt, Bool, false, if◌then◌else◌}
+-- call with how many registers and temporaries live across it.
+use Rattle.std.specs.Prelude.{ℕ, suc, ◌==◌, nat_lt, Bool, true, false, if◌then◌else◌}
 use Rattle.std.specs.Prelude.{List, [], ◌∷◌, ◌++◌, length, codes}
 use Rattle.std.specs.Fmt.{decimal}
 use Rattle.tg_instr.specs.declared.operands.Opnd.{Opnd}
 use Rattle.tg_instr.specs.declared.instr.Instr.{Instr}
-use Rattle.tg_instr.specs.declared.instr.Instr.TheVariants.{Call}
+use Rattle.tg_instr.specs.declared.instr.Instr.TheVariants.{Mark, Call}
 use Rattle.tg_instr.specs.Uses.{defs_of}
 use Rattle.tg_live.specs.Live.{Sets, number_of, set_at}
 use Rattle.tg_show.specs.Layout.{blanks}
-use Rattle.tg_show.specs.Instructions.{operand_text, told, instruction_margin, instruction_text}
+use Rattle.tg_show.specs.Runs.{operand_text}
+use Rattle.tg_show.specs.Instructions.{told, instruction_margin, instruction_text}
 
 -- Sets of operands are rising lists. Such a list without those at its front that are below one:
 abbrev pub not_below : Opnd → List Opnd → List Opnd
@@ -31,34 +32,41 @@ abbrev pub across : Instr → (live : List Opnd) → List Opnd
 across (Call label) live = beyond live (defs_of (Call label))
 across _ live = []
 
--- a set of more than 24 members is told by their number
-abbrev pub is_large : List Opnd → Bool
-is_large set = nat_lt 24 (length set)
+-- how many live across a call: what is live out of it, but for what it defines
+abbrev pub crossing : (count : ℕ) → List ℕ
+crossing n = if n == 0 then [] else codes "  # crosses " ++ decimal n
+
+-- whether an instruction is a label, or nothing was live before it, as in front of the first
+abbrev pub is_fresh : (before : List Opnd) → Instr → Bool
+is_fresh before (Mark m) = true
+is_fresh before _ = length before == 0
+
+-- the most members that a set has that is told by them
+abbrev pub most_told : (before : List Opnd) → Instr → ℕ
+most_told before one = if is_fresh before one then 24 else 12
 
 module _ (names : List (List ℕ)) where
-  abbrev pub set_text : (word : List ℕ) → List Opnd → List ℕ
-  set_text word set =
-      if is_large set then word ++ (codes " " ++ decimal (length set)) else told names word set
-
   abbrev pub signed : (sign : List ℕ) → List Opnd → List ℕ
   signed sign [] = []
   signed sign (x ∷ rest) = sign ++ (operand_text names x ++ signed sign rest)
 
-  -- what came since the instruction before, and what went
+  -- how many are live, what came since the instruction before, and what went
   abbrev pub changes_text : (before now : List Opnd) → List ℕ
   changes_text before now =
-      signed (codes " +") (beyond now before) ++ signed (codes " -") (beyond before now)
+      codes "  # live " ++ (decimal (length now) ++
+      (signed (codes " +") (beyond now before) ++ signed (codes " -") (beyond before now)))
 
-  -- Behind the number of a large set stand its changes since the instruction before: so the text
-  -- doesn't grow with the product of a code's length and of what is live.
-  abbrev pub live_text : (before now : List Opnd) → List ℕ
-  live_text before now =
-      set_text (codes "  # live") now ++ (if is_large now then changes_text before now else [])
+  -- A larger set is told by its changes: so the text doesn't grow with the product of a code's
+  -- length and of what is live.
+  abbrev pub live_text : (before now : List Opnd) → Instr → List ℕ
+  live_text before now one =
+      if nat_lt (most_told before one) (length now) then changes_text before now
+      else told names (codes "  # live") now
 
   abbrev pub live_line : (before now : List Opnd) → Instr → List ℕ
   live_line before now one =
       blanks (instruction_margin one) ++ (instruction_text names one ++
-      (live_text before now ++ (set_text (codes "  # across") (across one now) ++ 10 ∷ [])))
+      (live_text before now one ++ (crossing (length (across one now)) ++ 10 ∷ [])))
 
   -- of the instructions from a place on
   abbrev pub live_lines : Sets → (before : List Opnd) → (at : ℕ) → List Instr → List ℕ

@@ -4,12 +4,13 @@ ghost use Rattle.tg_show.specs.Flat.{mark_text};
 ghost use Rattle.tg_show.specs.Instructions as instructions;
 
 use crate::layouts::put_blanks;
+use crate::runs::{put_operand, put_operands};
 use crate::trees::{put_comma, put_end};
-use crate::words::{put, put_byte, put_number, put_numbered, put_temp, rel_word};
+use crate::words::{put, put_byte, put_number, put_numbered, rel_word};
 use std::alloc::Global;
 use tg_base::{Bytes, Memory};
 use tg_instr::{Instr, Opnd, Test};
-use tg_isa::{Bits, name};
+use tg_isa::Bits;
 
 /// Puts the lines of instructions at the end: each with the operands that it defines and uses.
 pub fn put_instructions(
@@ -72,18 +73,6 @@ pub fn put_told(
     put_operands(text, names, operands)
 }
 
-/// Puts operands at the end, each behind a blank.
-pub fn put_operands(text: &mut Vec<u8>, names: &[Bytes], operands: &[Opnd]) -> Result<(), Memory>
-    ensures { OnOk result (text.new.items
-        ≡ text.old.items ++ instructions.operands_text names.now operands.now) }
-{
-    for &operand in operands.iter() {
-        text.push(b' ')?;
-        put_operand(text, names, operand)?;
-    }
-    Ok(())
-}
-
 /// Puts the text of an instruction at the end.
 pub fn put_instruction(text: &mut Vec<u8>, names: &[Bytes], one: &Instr) -> Result<(), Memory>
     ensures { OnOk result (text.new.items
@@ -132,17 +121,6 @@ pub fn put_instruction(text: &mut Vec<u8>, names: &[Bytes], one: &Instr) -> Resu
         Instr::Service => put(text, b"syscall"),
         Instr::Fault(code) => put_numbered(text, b"break ", *code),
         Instr::Return => put(text, b"return"),
-    }
-}
-
-/// Puts an operand at the end: a temporary, or a register's name.
-pub fn put_operand(text: &mut Vec<u8>, names: &[Bytes], operand: Opnd) -> Result<(), Memory>
-    ensures { OnOk result (text.new.items
-        ≡ text.old.items ++ instructions.operand_text names.now operand) }
-{
-    match operand {
-        Opnd::Temp(temp) => put_temp(text, names, temp),
-        Opnd::Reg(reg) => put(text, name(reg).as_bytes()),
     }
 }
 

@@ -2,6 +2,7 @@ ghost use Rattle.std.specs.Prelude.{◌≡◌, ◌<◌, ◌≤◌, ◌+◌, ◌^
 ghost use Rattle.tg_show.specs.Layout as layout;
 ghost use Rattle.tg_show.specs.Layout.{
   blanks,
+  capped,
   deeper,
   ends_at,
   kept,
@@ -19,14 +20,18 @@ use tg_base::Memory;
 /// The most bytes of a part that stands on one line.
 pub const WIDTH: usize = 72;
 
-/// Puts a nested text at the end, on lines that are indented by two blanks a level: a part of at
-/// most 72 bytes stands on one line, and of a longer one each part begins a line, a level deeper.
+/// The most levels by which a line is indented.
+const MOST_LEVELS: usize = 32;
+
+/// Puts a nested text at the end, on lines that are indented by two blanks a level, and by at most
+/// 64: a part of at most 72 bytes stands on one line, and of a longer one each part begins a line,
+/// a level deeper.
 pub fn put_laid(text: &mut Vec<u8>, margin: u8, line: &[u8]) -> Result<(), Memory>
     ensures { OnOk result (text.new.items ≡ text.old.items ++ laid margin line.now) }
 {
     let mut depth = margin as usize;
     let mut mode = mode_of(line);
-    put_blanks(text, depth)?;
+    put_blanks(text, capped(depth))?;
     for at in 0..line.len() {
         let byte = line[at];
         put_byte(text, depth, mode, byte)?;
@@ -70,7 +75,18 @@ fn put_new_line(text: &mut Vec<u8>, depth: usize) -> Result<(), Memory>
     ensures { OnOk result (text.new.items ≡ text.old.items ++ new_line depth) }
 {
     text.push(b'\n')?;
-    put_blanks(text, depth)
+    put_blanks(text, capped(depth))
+}
+
+/// The levels by which a line is indented.
+fn capped(depth: usize) -> usize
+    ensures { result ≡ capped depth }
+{
+    if depth > MOST_LEVELS {
+        MOST_LEVELS
+    } else {
+        depth
+    }
 }
 
 /// Puts an indentation of so many levels at the end.

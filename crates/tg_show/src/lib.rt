@@ -14,6 +14,7 @@ mod liveness;
 mod modes;
 mod names;
 mod registers;
+mod runs;
 mod stages;
 mod trees;
 mod variables;
@@ -22,6 +23,6 @@ mod words;
 pub use names::names_of;
 pub use stages::{
     put_assembly, put_blocks, put_canonical, put_code, put_folded, put_function, put_graph,
-    put_live, put_registers, put_traces, put_tree, put_variables,
+    put_live, put_registers, put_round, put_traces, put_tree, put_variables,
 };
 pub use variables::{FunctionVariables, Variable};

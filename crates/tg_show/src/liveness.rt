@@ -2,16 +2,21 @@ ghost use Rattle.std.specs.Prelude.{◌≡◌, ◌<◌, ◌^◌, [], length, ◌
 ghost use Rattle.tg_live.specs.Live.{number_of};
 ghost use Rattle.tg_show.specs.Live as live;
 
-use crate::instructions::{instruction_margin, put_instruction, put_operand, put_told};
+use crate::instructions::{instruction_margin, put_instruction, put_told};
 use crate::layouts::put_blanks;
+use crate::runs::put_operand;
 use crate::words::{put, put_byte, put_count};
 use std::alloc::Global;
 use tg_base::{Bytes, Memory};
 use tg_instr::{Instr, Opnd};
 use tg_live::LiveSets;
 
-/// A set with more members is told by their number.
-const MOST_TOLD: usize = 24;
+/// The most members of a set that is told by them: of what is live out of a label, or where nothing
+/// was live before.
+const MOST_TOLD_FRESH: usize = 24;
+
+/// The most members of another set that is told by them.
+const MOST_TOLD: usize = 12;
 
 /// Puts the lines of instructions at the end, each with what is live out of it.
 pub fn put_live_lines(
@@ -50,50 +55,61 @@ fn put_live_line(
 {
     put_blanks(text, instruction_margin(one))?;
     put_instruction(text, names, one)?;
-    put_live(alloc, text, names, before, now)?;
+    put_live(alloc, text, names, before, now, one)?;
     let over = across(alloc, one, now)?;
-    put_set(text, names, b"  # across", &over)?;
+    put_crossing(text, over.len())?;
     put_byte(text, b'\n')
 }
 
-/// Puts what is live at the end, given what was before.
+/// Puts what is live out of an instruction at the end, given what was before.
 fn put_live(
     alloc: Global,
     text: &mut Vec<u8>,
     names: &[Bytes],
     before: &[Opnd],
     now: &[Opnd],
+    one: &Instr,
 ) -> Result<(), Memory>
     ensures { OnOk result (text.new.items
-        ≡ text.old.items ++ live.live_text names.now before.now now.now) }
+        ≡ text.old.items ++ live.live_text names.now before.now now.now one.now) }
 {
-    put_set(text, names, b"  # live", now)?;
-    if is_large(now) {
+    if now.len() > most_told(before, one) {
         return put_changes(alloc, text, names, before, now);
     }
-    Ok(())
+    put_told(text, names, b"  # live", now)
 }
 
-/// Puts a set at the end behind a word: its members, or their number.
-fn put_set(text: &mut Vec<u8>, names: &[Bytes], word: &[u8], set: &[Opnd]) -> Result<(), Memory>
-    ensures { OnOk result (text.new.items
-        ≡ text.old.items ++ live.set_text names.now word.now set.now) }
+fn most_told(before: &[Opnd], one: &Instr) -> usize
+    ensures { result ≡ live.most_told before.now one.now }
 {
-    if is_large(set) {
-        put(text, word)?;
-        put_byte(text, b' ')?;
-        return put_count(text, set.len());
+    if is_fresh(before, one) {
+        MOST_TOLD_FRESH
+    } else {
+        MOST_TOLD
     }
-    put_told(text, names, word, set)
 }
 
-fn is_large(set: &[Opnd]) -> bool
-    ensures { result ≡ live.is_large set.now }
+fn is_fresh(before: &[Opnd], one: &Instr) -> bool
+    ensures { result ≡ live.is_fresh before.now one.now }
 {
-    set.len() > MOST_TOLD
+    match one {
+        Instr::Mark(_) => true,
+        _ => before.is_empty(),
+    }
 }
 
-/// Puts what came since the instruction before at the end, and what went.
+/// Puts how many live across a call at the end, where any do.
+fn put_crossing(text: &mut Vec<u8>, count: usize) -> Result<(), Memory>
+    ensures { OnOk result (text.new.items ≡ text.old.items ++ live.crossing count) }
+{
+    if count == 0 {
+        return Ok(());
+    }
+    put(text, b"  # crosses ")?;
+    put_count(text, count)
+}
+
+/// Puts how many are live at the end, what came since the instruction before, and what went.
 fn put_changes(
     alloc: Global,
     text: &mut Vec<u8>,
@@ -104,6 +120,8 @@ fn put_changes(
     ensures { OnOk result (text.new.items
         ≡ text.old.items ++ live.changes_text names.now before.now now.now) }
 {
+    put(text, b"  # live ")?;
+    put_count(text, now.len())?;
     let come = beyond(alloc, now, before)?;
     put_signed(text, names, b" +", &come)?;
     let gone = beyond(alloc, before, now)?;

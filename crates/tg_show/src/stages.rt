@@ -4,12 +4,13 @@ ghost use Rattle.tg_tree.specs.glue.Lists.{code_of, stms_of};
 ghost use Rattle.tg_tree.specs.glue.Plain.{plain_ts};
 ghost use Rattle.tg_trace_schedule.specs.glue.Plains.{plain_blocks};
 ghost use Rattle.tg_emit.specs.Conditions.{has_labels};
+ghost use Rattle.tg_show.specs.Graph.{round_lines};
 ghost use Rattle.tg_show.specs.Stages as stages;
 
 use crate::assembly::put_assembly_lines;
 use crate::blocks::put_blocks_lines;
 use crate::flat::{put_elements, put_statement, put_statements};
-use crate::graphs::put_graph_lines;
+use crate::graphs::{put_graph_lines, put_round_lines};
 use crate::instructions::put_instructions;
 use crate::liveness::put_live_lines;
 use crate::registers::put_allocation_lines;
@@ -167,6 +168,7 @@ pub fn put_live(
 
 /// Puts the stage of an interference graph and the moves between its nodes at the end.
 pub fn put_graph(
+    alloc: Global,
     text: &mut Vec<u8>,
     names: &[Bytes],
     graph: &Graph,
@@ -176,7 +178,23 @@ pub fn put_graph(
         ≡ text.old.items ++ stages.graph_stage names.now graph.now moves.now) }
 {
     put_line(text, b"graph")?;
-    put_graph_lines(text, names, graph, moves)
+    put_graph_lines(alloc, text, names, graph, moves)
+}
+
+/// Puts the lines of a round behind the first at the end, which stand below those of the stage of
+/// the interference graph: its number, from 2 on, its graph and the moves between its nodes.
+pub fn put_round(
+    alloc: Global,
+    text: &mut Vec<u8>,
+    names: &[Bytes],
+    round: usize,
+    graph: &Graph,
+    moves: &[Move],
+) -> Result<(), Memory>
+    ensures { OnOk result (text.new.items
+        ≡ text.old.items ++ round_lines names.now round graph.now moves.now) }
+{
+    put_round_lines(alloc, text, names, round, graph, moves)
 }
 
 /// Puts the stage of an allocation at the end.

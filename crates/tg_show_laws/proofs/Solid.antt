@@ -5,7 +5,7 @@ use Rattle.std.proofs.lemmas.Bool.{eqb-true}
 use Rattle.std.proofs.lemmas.List.{append-nil}
 use Rattle.tg_show.specs.declared.modes.Mode.{Mode}
 use Rattle.tg_show.specs.declared.modes.Mode.TheVariants.{Kept, Broken, Between}
-use Rattle.tg_show.specs.Layout.{deeper, ends_at, kept, measured, mode_of, blanks, new_line}
+use Rattle.tg_show.specs.Layout.{deeper, ends_at, kept, measured, mode_of, blanks, capped, new_line}
 use Rattle.tg_show.specs.Layout.{after_broken, laid_from, laid}
 
 abbrev pub is_blank : ℕ → Bool
@@ -29,7 +29,7 @@ solid_blanks zero = refl
 solid_blanks (suc n) = solid_blanks n
 
 solid_line : (n : ℕ) → solid (new_line n) ≡ []
-solid_line n = solid_blanks n
+solid_line n = solid_blanks (capped n)
 
 -- each comma has a blank behind it
 abbrev blank_first : List ℕ → Bool
@@ -118,5 +118,5 @@ solid_laid margin text rest h =
     let from = laid_from margin (mode_of text) text in
     solid_append (laid margin text) rest
     ∙ ap (λ x. x ++ solid rest)
-    (solid_append (blanks margin) (from ++ 10 ∷ []) ∙ ap (λ x. x ++ solid (from ++ 10 ∷ [])) (solid_blanks margin)
+    (solid_append (blanks (capped margin)) (from ++ 10 ∷ []) ∙ ap (λ x. x ++ solid (from ++ 10 ∷ [])) (solid_blanks (capped margin))
     ∙ solid_append from (10 ∷ []) ∙ append-nil (solid from) ∙ solid_from margin (mode_of text) text h (measured_ready 0 0 text text))

@@ -14,7 +14,8 @@ use Rattle.tg_instr.specs.declared.instr.Instr.TheVariants.{Branch, Call, Servic
 use Rattle.tg_show.specs.Layout.{blanks}
 use Rattle.tg_show.specs.Trees.{two, three}
 use Rattle.tg_show.specs.Flat.{mark_text}
-use Rattle.tg_show.specs.Instructions.{operand_text, signed_text, instruction_margin, instruction_text}
+use Rattle.tg_show.specs.Runs.{operand_text}
+use Rattle.tg_show.specs.Instructions.{signed_text, instruction_margin, instruction_text}
 use Rattle.tg_show_laws.specs.Fields.{FieldsFit}
 use Rattle.tg_show_laws.proofs.Numbers.{ends}
 use Rattle.tg_show_laws.proofs.Trees.{byte}

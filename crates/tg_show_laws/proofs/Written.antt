@@ -13,7 +13,8 @@ use Rattle.tg_instr.specs.declared.operands.Opnd.TheVariants.{Temp, Reg}
 use Rattle.tg_instr.specs.declared.instr.Test.{Test}
 use Rattle.tg_instr.specs.Operands.{is_one_row}
 use Rattle.tg_show.specs.Words.{name_text, rel_word}
-use Rattle.tg_show.specs.Instructions.{operand_text, signed_text}
+use Rattle.tg_show.specs.Runs.{operand_text}
+use Rattle.tg_show.specs.Instructions.{signed_text}
 use Rattle.tg_show_laws.specs.Fitting.{IsWord}
 use Rattle.tg_show_laws.specs.Fields.{IsField, OperandFits}
 use Rattle.tg_show_laws.proofs.Solid.{and_true}

@@ -177,7 +177,7 @@ fn put_graphs(alloc: Global, text: &mut Vec<u8>, names: &[Bytes], code: &Code) -
     put_live(alloc, text, names, list, &sets)?;
     let graph = interference(alloc, code, &sets)?;
     let moves = moves_of(alloc, code)?;
-    Ok(put_graph(text, names, &graph, moves.as_slice())?)
+    Ok(put_graph(alloc, text, names, &graph, moves.as_slice())?)
 }
 
 /// Puts an allocation at the end, and its lines of assembly.

@@ -1,0 +1,5 @@
+mod Orders
+mod Nest
+mod Covered
+mod Seen
+mod Growing

@@ -1,0 +1,3 @@
+pub mod Spans
+pub mod Seen
+pub mod First

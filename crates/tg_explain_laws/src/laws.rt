@@ -1,0 +1,22 @@
+ghost use Rattle.tg_explain_laws.specs.laws.First.{FirstStays};
+ghost use Rattle.tg_explain_laws.specs.laws.Seen.{DeclaredWithin};
+ghost use Rattle.tg_explain_laws.specs.laws.Spans.{NamesAreCovered, SpansNest};
+
+/// Laws of spans: in the tree of a text the spans of a part's parts stand within its own, one after
+/// another, so an expression's covers all names in it. It does nothing.
+pub fn spans_nest()
+    ensures nest { SpansNest }
+    ensures names { NamesAreCovered }
+{}
+
+/// A law: what is declared in an expression whose parts nest is seen only within its span, so no
+/// name outside is taken for it. It does nothing.
+pub fn declared_within()
+    ensures { DeclaredWithin }
+{}
+
+/// A law: what is found broken among the facts before a part is what is found behind it, so the
+/// types that are told are the first in the order in which a program is checked. It does nothing.
+pub fn first_stays()
+    ensures { FirstStays }
+{}
