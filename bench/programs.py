@@ -53,6 +53,17 @@ def least_times(commands, turns):
     return [min(times) for times in zip(*([accepted_time(command) for command in commands] for _ in range(turns)))]
 
 
+def most_memory(command):
+    """The most bytes that are resident of a command that ends with 0, and whose output is dropped."""
+    with open(os.devnull, "r+b") as nowhere:
+        one = subprocess.Popen(command, stdin=nowhere, stdout=nowhere, stderr=nowhere)
+        _, status, used = os.wait4(one.pid, 0)
+    one.returncode = os.waitstatus_to_exitcode(status)
+    if one.returncode != 0:
+        sys.exit(f"{' '.join(command)}: status {one.returncode}")
+    return used.ru_maxrss * 1024
+
+
 def counted(command):
     """The processor's instructions that a command takes, counted by valgrind's callgrind: the same in every run; and how
     often each function is called that the program has a name for."""
