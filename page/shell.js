@@ -1,5 +1,5 @@
 // The page itself: calls in a worker, modes, settings, the link, tabs.
-const MODES = ["run", "check", "build", "alloc", "format", "exec"], SETTINGS = ["heap", "stack", "steps"];
+const MODES = ["run", "check", "build", "bare", "alloc", "format", "exec"], SETTINGS = ["heap", "stack", "steps"];
 const DEFAULTS = { heap: 16777216, stack: 67108864, steps: 1000000000 };
 const TABS = { answer: () => {}, stages: () => open_stages(), allocator: () => open_allocator(), simulator: () => open_simulator() };
 const FIRST_LEG = 2 ** 24, OF_STEPS = /^tiger: step limit$/m;
@@ -49,8 +49,10 @@ function words_for(mode, steps) {
     const said = it === "steps" && steps ? String(steps) : at(it).value.trim();
     if (said !== String(DEFAULTS[it])) words.push(`--${it}`, said);
   }
-  if (at("watch").checked && (mode === "run" || mode === "exec")) words.push("--watch");
-  if (at("fold").checked && ["run", "build", "alloc", "show"].includes(mode)) words.push("--fold");
+  const is_bare = at("bare").checked && mode === "exec";
+  if (at("watch").checked && (mode === "run" || mode === "exec") && !is_bare) words.push("--watch");
+  if (at("fold").checked && ["run", "build", "bare", "alloc", "show"].includes(mode)) words.push("--fold");
+  if (is_bare) words.push("--bare");
   return words;
 }
 
@@ -90,7 +92,7 @@ async function press(mode) {
   at("state").textContent = text_of("status", { mode, status, bytes: grouped(out.length), time: seconds(time) });
   at("out").textContent = decoded(out);
   at("err").textContent = decoded(err) || TEXTS.none;
-  at("take").hidden = !["build", "format"].includes(mode) || status !== 0;
+  at("take").hidden = !["build", "bare", "format"].includes(mode) || status !== 0;
   at("profile").hidden = !watched;
   if (watched) await tell_profile(decoded(err));
 }
