@@ -14,6 +14,12 @@ use tg_base::{add, exact_difference, exact_sum, less_signed, less_unsigned, sub}
 use tg_isa::{Bits, Reg};
 use tg_machine_state::RunEnd;
 
+/// The loop of steps up to a service.
+pub(crate) const ALONE: u32 = 0;
+
+/// A loop of another crate.
+const ELSEWHERE: u32 = 1;
+
 /// What rows do. `next` is the place of the next instruction, and the one to go on at is answered:
 /// the one in the core isn't read.
 impl Core {
@@ -153,6 +159,16 @@ impl Core {
     /// place to go on at. The place in the core isn't read, and may be left as any.
     #[inline(always)]
     pub fn execute(&mut self, one: Row, next: u32) -> Result<u32, RunEnd>
+        requires { one ≢ Row.Syscall }
+        ensures { RowIsDone (rows.does one (state.go self.old next)) result self.new }
+    {
+        self.execute_in::<ELSEWHERE>(one, next)
+    }
+
+    /// Does the same, with code of its own for each loop that calls it. It is too large for LLVM to
+    /// put it into two loops, and a call at each step takes as long as the step.
+    #[inline(always)]
+    pub(crate) fn execute_in<const LOOP: u32>(&mut self, one: Row, next: u32) -> Result<u32, RunEnd>
         requires { one ≢ Row.Syscall }
         ensures { RowIsDone (rows.does one (state.go self.old next)) result self.new }
     {

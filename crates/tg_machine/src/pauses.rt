@@ -3,6 +3,7 @@
 ghost use Rattle.tg_machine.specs.glue.Pauses.{Pauses};
 
 use crate::cores::Core;
+use crate::effects::ALONE;
 use crate::rows::Row;
 use tg_machine_state::RunEnd;
 
@@ -18,9 +19,9 @@ pub(crate) enum Pause {
 }
 
 impl Core {
-    /// Makes at most so many steps, up to a service. Where one is due, its place was passed. The
-    /// only caller of `execute` here, and without type parameters, so that a program has one such
-    /// loop.
+    /// Makes at most so many steps, up to a service. Where one is due, its place was passed. It
+    /// has no type parameters, so that a program has one such loop, and no other calls
+    /// `execute_in::<ALONE>`, which is then put into it.
     #[inline(never)]
     pub(crate) fn run_alone(&mut self, steps: u64) -> Pause
         ensures { Pauses steps self.old self.new result }
@@ -35,7 +36,7 @@ impl Core {
                 self.place = next;
                 return Pause::Due(made);
             }
-            match self.execute(one, next) {
+            match self.execute_in::<ALONE>(one, next) {
                 Ok(to) => place = to,
                 Err(end) => return Pause::Ended(end),
             }
