@@ -11,6 +11,7 @@ ghost use Rattle.tg_machine_state.specs.State as state;
 
 use crate::rows::Row;
 use crate::stacks::Stack;
+use crate::strides::{Stride, alone};
 use crate::words::{offset, remainder, set_word, word_at};
 use std::marker::Model;
 use tg_base::{product, quot};
@@ -26,6 +27,7 @@ pub struct Core {
     pub(crate) place: u32,
     pub(crate) code: Vec<u32>,
     pub(crate) rows: Vec<Row>,
+    pub(crate) strides: Vec<Stride>,
     pub(crate) statics: Vec<u8>,
     pub(crate) heap: Vec<u8>,
     pub(crate) room: u32,
@@ -184,6 +186,26 @@ impl Core {
         } else {
             None
         }
+    }
+
+    #[inline(always)]
+    pub(crate) fn stride_at(&self, place: u32, left: u64) -> Option<Stride> {
+        let above = place.wrapping_sub(CODE_BASE);
+        let index = (above / 4 + above % 4 * 1073741824) as usize;
+        if index < self.strides.len() {
+            if left > 1 {
+                Some(self.strides[index])
+            } else {
+                Some(self.alone_at(index))
+            }
+        } else {
+            None
+        }
+    }
+
+    #[inline(never)]
+    fn alone_at(&self, index: usize) -> Stride {
+        alone(self.rows[index])
     }
 
     /// How a run ends at a place outside the code. Place 0 ends it with exit code 0.

@@ -25,7 +25,7 @@ const ELSEWHERE: u32 = 1;
 impl Core {
     /// Puts a value into a register.
     #[inline(always)]
-    fn put(&mut self, number: Reg, value: u32, next: u32) -> Result<u32, RunEnd>
+    pub(crate) fn put(&mut self, number: Reg, value: u32, next: u32) -> Result<u32, RunEnd>
         ensures { RowIsDone (Goes (state.set_register (state.go self.old next) number value))
             result self.new }
     {
@@ -35,7 +35,12 @@ impl Core {
 
     /// Puts an exact result into a register.
     #[inline(always)]
-    fn put_exact(&mut self, number: Reg, value: Option<u32>, next: u32) -> Result<u32, RunEnd>
+    pub(crate) fn put_exact(
+        &mut self,
+        number: Reg,
+        value: Option<u32>,
+        next: u32,
+    ) -> Result<u32, RunEnd>
         ensures { RowIsDone (effects.put_exact (state.go self.old next) number value)
             result self.new }
     {
@@ -47,7 +52,7 @@ impl Core {
 
     /// Puts the word at an address into a register.
     #[inline(always)]
-    fn put_word(&mut self, number: Reg, address: u32, next: u32) -> Result<u32, RunEnd>
+    pub(crate) fn put_word(&mut self, number: Reg, address: u32, next: u32) -> Result<u32, RunEnd>
         ensures { RowIsDone (effects.put (state.go self.old next) number
             (state.load_word (state.go self.old next) address)) result self.new }
     {
@@ -59,7 +64,7 @@ impl Core {
 
     /// Puts the byte at an address into a register.
     #[inline(always)]
-    fn put_byte(&mut self, number: Reg, address: u32, next: u32) -> Result<u32, RunEnd>
+    pub(crate) fn put_byte(&mut self, number: Reg, address: u32, next: u32) -> Result<u32, RunEnd>
         ensures { RowIsDone (effects.put (state.go self.old next) number
             (state.load_byte (state.go self.old next) address)) result self.new }
     {
@@ -71,7 +76,12 @@ impl Core {
 
     /// Puts the byte at an address into a register, with its sign.
     #[inline(always)]
-    fn put_signed_byte(&mut self, number: Reg, address: u32, next: u32) -> Result<u32, RunEnd>
+    pub(crate) fn put_signed_byte(
+        &mut self,
+        number: Reg,
+        address: u32,
+        next: u32,
+    ) -> Result<u32, RunEnd>
         ensures { RowIsDone (effects.put (state.go self.old next) number
             (effects.extended_load (state.load_byte (state.go self.old next) address)))
             result self.new }
@@ -84,7 +94,7 @@ impl Core {
 
     /// Stores a word.
     #[inline(always)]
-    fn keep_word(&mut self, address: u32, value: u32, next: u32) -> Result<u32, RunEnd>
+    pub(crate) fn keep_word(&mut self, address: u32, value: u32, next: u32) -> Result<u32, RunEnd>
         ensures { RowIsDone
             (effects.stored (state.store_word (state.go self.old next) address value))
             result self.new }
@@ -97,7 +107,7 @@ impl Core {
 
     /// Stores the low byte of a word.
     #[inline(always)]
-    fn keep_byte(&mut self, address: u32, value: u32, next: u32) -> Result<u32, RunEnd>
+    pub(crate) fn keep_byte(&mut self, address: u32, value: u32, next: u32) -> Result<u32, RunEnd>
         ensures { RowIsDone
             (effects.stored (state.store_byte (state.go self.old next) address value))
             result self.new }
@@ -110,7 +120,7 @@ impl Core {
 
     /// Puts the product of two registers into hi and lo.
     #[inline(always)]
-    fn multiply_to(&mut self, left: Reg, right: Reg, next: u32) -> Result<u32, RunEnd>
+    pub(crate) fn multiply_to(&mut self, left: Reg, right: Reg, next: u32) -> Result<u32, RunEnd>
         ensures { RowIsDone (effects.effect (mips.Mult left right) (state.go self.old next))
             result self.new }
     {
@@ -120,7 +130,7 @@ impl Core {
 
     /// Puts the quotient and the remainder of two registers into lo and hi.
     #[inline(always)]
-    fn divide_to(&mut self, left: Reg, right: Reg, next: u32) -> Result<u32, RunEnd>
+    pub(crate) fn divide_to(&mut self, left: Reg, right: Reg, next: u32) -> Result<u32, RunEnd>
         ensures { RowIsDone (effects.effect (mips.Div left right) (state.go self.old next))
             result self.new }
     {
@@ -132,7 +142,7 @@ impl Core {
     /// that a compiler leaves the branch, which a processor foresees, and doesn't select a place,
     /// which waits for the test.
     #[inline(always)]
-    fn go_if(&mut self, holds: bool, next: u32, bytes: u32) -> Result<u32, RunEnd>
+    pub(crate) fn go_if(&mut self, holds: bool, next: u32, bytes: u32) -> Result<u32, RunEnd>
         ensures { RowIsDone (rows.further_if holds (state.go self.old next) bytes) result self.new }
     {
         if holds {
@@ -146,7 +156,7 @@ impl Core {
 
     /// Puts the next place into a register and goes to another.
     #[inline(always)]
-    fn call(&mut self, link: Reg, place: u32, next: u32) -> Result<u32, RunEnd>
+    pub(crate) fn call(&mut self, link: Reg, place: u32, next: u32) -> Result<u32, RunEnd>
         ensures { RowIsDone
             (Goes (state.go (state.set_register (state.go self.old next) link next) place))
             result self.new }
@@ -266,7 +276,7 @@ impl Core {
 
 /// The place of a jump.
 #[inline(always)]
-fn jump(next: u32, target: Bits<28>) -> u32
+pub(crate) fn jump(next: u32, target: Bits<28>) -> u32
     ensures { result ≡ next / 2 ^ 28 * 2 ^ 28 + target }
 {
     next / 268435456 * 268435456 + target.get()
@@ -274,7 +284,7 @@ fn jump(next: u32, target: Bits<28>) -> u32
 
 /// A word shifted to the right with its sign.
 #[inline(always)]
-fn shift_signed(word: u32, shamt: Bits<5>) -> u32
+pub(crate) fn shift_signed(word: u32, shamt: Bits<5>) -> u32
     ensures { result ≡ words.shift_signed word shamt }
 {
     (word.cast_signed() >> shamt.get()).cast_unsigned()

@@ -18,6 +18,7 @@ mod services;
 mod stacks;
 mod status;
 mod steps;
+mod strides;
 mod words;
 
 pub use cores::Core;

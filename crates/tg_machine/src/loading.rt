@@ -22,6 +22,7 @@ use crate::machines::Machine;
 use crate::preparing::row_of;
 use crate::rows::Row;
 use crate::stacks::Stack;
+use crate::strides::{Stride, alone, joined};
 use std::alloc::Global;
 use tg_base::Memory;
 use tg_isa::Image;
@@ -71,6 +72,7 @@ impl Core {
             place: image.entry,
             code: words.to_vec(alloc)?,
             rows: rows_of(alloc, words)?,
+            strides: strides_of(alloc, words)?,
             statics: padded(alloc, image.statics.as_slice())?,
             heap: Vec::with_capacity(alloc, heap as usize)?,
             room: heap,
@@ -100,4 +102,17 @@ fn rows_of(alloc: Global, code: &[u32]) -> Result<Vec<Row>, Memory>
         rows.push(row_of(*word))?;
     }
     Ok(rows)
+}
+
+fn strides_of(alloc: Global, code: &[u32]) -> Result<Vec<Stride>, Memory> {
+    let mut strides = Vec::with_capacity(alloc, code.len())?;
+    for at in 0..code.len() {
+        let row = row_of(code[at]);
+        if at + 1 < code.len() {
+            strides.push(joined(row, row_of(code[at + 1])))?;
+        } else {
+            strides.push(alone(row))?;
+        }
+    }
+    Ok(strides)
 }

@@ -3,8 +3,7 @@
 ghost use Rattle.tg_machine.specs.glue.Pauses.{Pauses};
 
 use crate::cores::Core;
-use crate::effects::ALONE;
-use crate::rows::Row;
+use crate::strides::Stride;
 use tg_machine_state::RunEnd;
 
 /// How steps without a service come to a pause.
@@ -27,17 +26,21 @@ impl Core {
         ensures { Pauses steps self.old self.new result }
     {
         let mut place = self.place;
-        for made in 0..steps {
-            let Some(one) = self.row_at(place) else {
+        let mut left = steps;
+        while left > 0 {
+            let Some(one) = self.stride_at(place, left) else {
                 return Pause::Ended(self.outside(place));
             };
             let next = place.wrapping_add(4);
-            if let Row::Syscall = one {
+            if let Stride::Syscall = one {
                 self.place = next;
-                return Pause::Due(made);
+                return Pause::Due(steps - left);
             }
-            match self.execute_in::<ALONE>(one, next) {
-                Ok(to) => place = to,
+            match self.stride(one, next, left) {
+                Ok(there) => {
+                    place = there.place;
+                    left = there.left;
+                }
                 Err(end) => return Pause::Ended(end),
             }
         }
