@@ -133,25 +133,28 @@ fn faulty_sources_have_no_text(rt: HostRuntime) -> Result<(), Fail> {
     )
 }
 
-// A program of 16,384 nodes, and so many: three functions of 4,096 nodes, one of three, and the body
-// around them, which begins with `first`.
-fn program(alloc: Global, first: &[u8], more: usize) -> Result<Vec<u8>, AllocError> {
+// With so many zeros in its body `program` has 16,384 nodes.
+const MOST_ZEROS: usize = 4070;
+
+// A program of three functions of 4,096 nodes, a small one, and the body around them, which begins
+// with `first` and has so many zeros behind it, a node each.
+fn program(alloc: Global, first: &[u8], zeros: usize) -> Result<Vec<u8>, AllocError> {
     let start = b"let var x:=0 function f()=(";
     let sums = repeated(alloc, start, b"x:=x+1;", 681, b"")?;
     let function = repeated(alloc, &sums, b"0;", 8, b"()) in f() end;")?;
     let small = repeated(alloc, start, b"0;", 1, b"()) in f() end;")?;
     let functions = repeated(alloc, first, &function, 3, &small)?;
-    repeated(alloc, &functions, b"0;", 4070 + more, b"exit(7))")
+    repeated(alloc, &functions, b"0;", zeros, b"exit(7))")
 }
 
 // The output takes 64 bytes, so a source whose text is written has 74.
 #[test]
 fn large_programs_have_no_text(rt: HostRuntime) -> Result<(), Fail> {
     let alloc = rt.alloc();
-    let largest = program(alloc, b"\n (", 0)?;
+    let largest = program(alloc, b"\n (", MOST_ZEROS)?;
     let small = call(alloc, "tiger|bare|FILE", Outside::of(&largest))?;
     assert_eq!(rt; small.status, 74);
-    let large = program(alloc, b"\n (", 1)?;
+    let large = program(alloc, b"\n (", MOST_ZEROS + 1)?;
     let told = "2:2: T23 program too large for the bare machine";
     answers(&rt, alloc, "tiger|bare|FILE", &large, 65, told)?;
     answers(&rt, alloc, "tiger|bare|FILE|--fold", &large, 65, told)?;
@@ -164,7 +167,7 @@ fn large_programs_have_no_text(rt: HostRuntime) -> Result<(), Fail> {
 fn large_programs_have_other_faults_first(rt: HostRuntime) -> Result<(), Fail> {
     let alloc = rt.alloc();
     let words = "tiger|bare|FILE";
-    let ill_typed = program(alloc, b"(a;", 1)?;
+    let ill_typed = program(alloc, b"(a;", MOST_ZEROS + 1)?;
     answers(
         &rt,
         alloc,
@@ -173,6 +176,6 @@ fn large_programs_have_other_faults_first(rt: HostRuntime) -> Result<(), Fail> {
         65,
         "1:2: T1 unknown variable",
     )?;
-    let unread = program(alloc, b"(1 1;", 1)?;
+    let unread = program(alloc, b"(1 1;", MOST_ZEROS + 1)?;
     answers(&rt, alloc, words, &unread, 65, "1:4: S1 unexpected token")
 }
