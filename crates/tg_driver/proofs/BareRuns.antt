@@ -19,7 +19,7 @@ use Rattle.tg_bare_compile_proof.specs.Images.{slot_times, as_execution, as_prog
 use Rattle.tg_bare_compile_proof.specs.laws.TextLaws.{BareEndedIsMeant, BareRunningIsMeant}
 use Rattle.tg_driver.specs.Calls.{Streams}
 use Rattle.tg_driver.specs.Runs.{HasBareRun}
-use Rattle.tg_driver.specs.laws.BareEnds.{BareEndsByMeaning, BareRunsAreMeant}
+use Rattle.tg_driver.specs.laws.MeantEnds.{EndsByMeaning, BareRunsAreMeant}
 use Rattle.tg_driver.proofs.MeantEnds.{one_image}
 use Rattle.tg_driver.proofs.ToldInputs.{on_input}
 
@@ -50,7 +50,8 @@ module _ (ends : BareEndedIsMeant) (goes_on : BareRunningIsMeant) where
       (bytes left : List ℕ) → bytes ≡ h.ran.read ++ left →
       BareStops steps (bare_begun (initial_bare image.code image.statics image.entry heap stack) bytes) end
       (bare_standing h.ran.last left h.ran.output) h.ran.front →
-      AreBytes bytes → AreSizes heap stack → (end ≡ ReadFault → ⊥) → (end ≡ WriteFault → ⊥) → BareEndsByMeaning s text heap stack steps end bytes
+      AreBytes bytes → AreSizes heap stack → (end ≡ ReadFault → ⊥) → (end ≡ WriteFault → ⊥) →
+      EndsByMeaning (EndIsMeantWithin slot_times) s text heap stack steps end bytes
   on_bytes s text assembly m image heap stack steps end assembles h bytes left whole stopped are sizes read written =
       let r = h.ran in
       let last = bare_standing r.last left r.output in

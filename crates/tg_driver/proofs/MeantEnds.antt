@@ -65,7 +65,7 @@ module _ (ends : EndedIsMeant) (goes_on : RunningIsMeant) where
       (heap stack steps : ℕ) (end : RunEnd) → assembled assembly ≡ Ok (image_of image) → (h : HasRun s image heap stack steps end) →
       (bytes left : List ℕ) → bytes ≡ h.ran.read ++ left →
       Stops steps (begun_on (initial_machine image.code image.statics image.entry heap stack) bytes) end (standing h.ran.last left h.ran.output) h.ran.front →
-      AreBytes bytes → AreSizes heap stack → (end ≡ ReadFault → ⊥) → (end ≡ WriteFault → ⊥) → EndsByMeaning s text heap stack steps end bytes
+      AreBytes bytes → AreSizes heap stack → (end ≡ ReadFault → ⊥) → (end ≡ WriteFault → ⊥) → EndsByMeaning EndIsMeant s text heap stack steps end bytes
   on_bytes s text assembly m image heap stack steps end assembles h bytes left whole stopped are sizes read written =
       let r = h.ran in
       let last = standing r.last left r.output in
@@ -92,7 +92,7 @@ module _ (ends : EndedIsMeant) (goes_on : RunningIsMeant) where
   by_run : {I O : Type 0} (s : Streams I O) (text assembly : List ℕ) (m : IsAsMeant text assembly) (image : Image)
       (heap stack steps : ℕ) (end : RunEnd) → assembled assembly ≡ Ok (image_of image) →
       HasRun s image heap stack steps end → AreSizes heap stack →
-      (end ≡ ReadFault → ⊥) → (end ≡ WriteFault → ⊥) → EndsOnInput s text heap stack steps end
+      (end ≡ ReadFault → ⊥) → (end ≡ WriteFault → ⊥) → EndsOnInput EndIsMeant s text heap stack steps end
   by_run s text assembly m image heap stack steps end assembles h sizes read written =
       let r = h.ran in
       let first = initial_machine image.code image.statics image.entry heap stack in
@@ -121,7 +121,7 @@ module _ (ends : EndedIsMeant) (goes_on : RunningIsMeant) where
       let t = streams_until out sums.input sums.between in
       let on = by_run t text g.ends.assembly g.ends.meant g.ends.ran.image heap stack steps g.end
       g.ends.ran.assembles sums.run sizes (λ is. no_read (sums.run.ran.read_cause is)) written in
-      let P : List ℕ → Type 0 = λ b. AreBytes b → EndsByMeaning t text heap stack steps g.end b in
+      let P : List ℕ → Type 0 = λ b. AreBytes b → EndsByMeaning EndIsMeant t text heap stack steps g.end b in
       subst P on.tells on.ends no_bytes
 
 -- each ending whose code is a word has its status

@@ -1,5 +1,4 @@
 pub mod MeantEnds
-pub mod BareEnds
 pub mod Laws
 pub mod Safe
 pub mod MeantCommands

@@ -25,12 +25,16 @@ ghost use Rattle.tg_driver.specs.glue.PrivateCalls.{HasStarted};
 ghost use Rattle.tg_driver.specs.Runs.{HasRunBy};
 ghost use Rattle.tg_driver.specs.laws.Settled.{IsExact, reports_on};
 ghost use Rattle.tg_driver.specs.Watching.{HasToldRunBy};
-ghost use Rattle.tg_driver.specs.laws.BareEnds.{BareRunsAreMeant};
 ghost use Rattle.tg_driver.specs.laws.Explanations.{ExpectedAreTold};
 ghost use Rattle.tg_driver.specs.laws.Laws.{Gives, IsFaultless, IsGood, IsSettled};
 ghost use Rattle.tg_driver.specs.laws.Meanings.{SourcesAreNeverStuck};
 ghost use Rattle.tg_driver.specs.laws.MeantCommands.{DoesAsMeant};
-ghost use Rattle.tg_driver.specs.laws.MeantEnds.{GeneratedAreMeant, RunsAreMeant, StatusesAreMeant};
+ghost use Rattle.tg_driver.specs.laws.MeantEnds.{
+  BareRunsAreMeant,
+  GeneratedAreMeant,
+  RunsAreMeant,
+  StatusesAreMeant,
+};
 ghost use Rattle.tg_driver.specs.laws.Safe.{IsSafe};
 
 use tg_bare_compile_proof::bare_ends_are_as_meant;

@@ -1,4 +1,5 @@
--- What `build`, `bare`, `run` and `gen` do by the meaning of their source, where no count of faults rose.
+-- What `build`, `bare`, `run` and `gen` do by the meaning of their source, where no count of faults
+-- rose.
 use Rattle.std.specs.Prelude.{ℕ, List, []}
 use Rattle.std.specs.Io.KnownBytes.{Appends}
 use Rattle.tg_machine_state.specs.declared.ends.RunEnd.{RunEnd}
@@ -8,6 +9,7 @@ use Rattle.tg_command.specs.declared.modes.Mode.{Mode}
 use Rattle.tg_command.specs.declared.modes.Mode.TheVariants.{Build, Run, Gen, Bare}
 use Rattle.tg_command.specs.Commands.{Asked}
 use Rattle.tg_correctness.specs.Assemblies.{IsAsMeant}
+use Rattle.tg_correctness.specs.Ends.{EndIsMeant}
 use Rattle.tg_bare_compile_proof.specs.Assemblies.{BareIsAsMeant}
 use Rattle.tg_driver.specs.declared.answers.Answer.{Answer}
 use Rattle.tg_driver.specs.declared.answers.Answer.TheVariants.{Faulty, Written, Finished}
@@ -48,7 +50,7 @@ abbrev pub RunsByMeaning :
     {I O : Type 0} → Streams I O → Asked → (text : List ℕ) → Answer → Type 0
 RunsByMeaning s asked text (Faulty fault) = IsFaultOf text fault
 RunsByMeaning s asked text (Finished end) =
-    EndsOnInput s text asked.heap asked.stack asked.steps end
+    EndsOnInput EndIsMeant s text asked.heap asked.stack asked.steps end
 RunsByMeaning s asked text _ = ⊥
 
 -- before its summary, `gen` ends by the meaning of the source that it generates, on no input
@@ -57,7 +59,7 @@ pub record EndsGeneratedByMeaning {O : Type 0} (out : Stream O)
   pub input : PlainBytes
   pub between : O
   pub meant :
-      EndsByMeaning (streams_until out input between) (generated asked.number)
+      EndsByMeaning EndIsMeant (streams_until out input between) (generated asked.number)
       asked.heap asked.stack asked.steps end []
 
 abbrev pub GeneratesByMeaning : {O : Type 0} → Stream O → Asked → Answer → Type 0
