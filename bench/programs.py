@@ -1,5 +1,6 @@
 """The program that the benchmarks run, the time that it takes, and the source of the generator's program."""
 import collections
+import ctypes
 import functools
 import os
 import re
@@ -7,9 +8,13 @@ import resource
 import subprocess
 import sys
 import tempfile
+import typing
 
 sys.path.insert(0, os.path.join(os.path.dirname(os.path.abspath(__file__)), "..", "scripts"))
 from answering import LAUNCHER, program  # noqa: E402
+
+# Of prctl: what a process leaves behind becomes the caller's.
+PR_SET_CHILD_SUBREAPER = 36
 
 
 @functools.cache
@@ -53,15 +58,36 @@ def least_times(commands, turns):
     return [min(times) for times in zip(*([accepted_time(command) for command in commands] for _ in range(turns)))]
 
 
+class Use(typing.NamedTuple):
+    """What a command came to: its status, the seconds of the processor and the most bytes of memory that it took, how many
+    bytes it wrote, and what it told."""
+
+    status: int
+    seconds: float
+    memory: int
+    written: int
+    told: bytes
+
+
+def measured(command):
+    """Runs a command without input, and drops what it writes. A shell begins it and hands it to this process: to what a
+    process takes at most the system counts what its maker had when it made it, and that is a tenth as much of a shell."""
+    ctypes.CDLL(None).prctl(PR_SET_CHILD_SUBREAPER, 1)
+    with tempfile.TemporaryFile() as written, tempfile.TemporaryFile() as told:
+        begin = ["sh", "-c", '"$@" &', "sh", *command]
+        subprocess.run(begin, stdin=subprocess.DEVNULL, stdout=written, stderr=told, check=True)
+        _, ended, used = os.wait4(-1, 0)
+        told.seek(0)
+        status, seconds = os.waitstatus_to_exitcode(ended), used.ru_utime + used.ru_stime
+        return Use(status, seconds, used.ru_maxrss * 1024, os.fstat(written.fileno()).st_size, told.read())
+
+
 def most_memory(command):
-    """The most bytes that are resident of a command that ends with 0, and whose output is dropped."""
-    with open(os.devnull, "r+b") as nowhere:
-        one = subprocess.Popen(command, stdin=nowhere, stdout=nowhere, stderr=nowhere)
-        _, status, used = os.wait4(one.pid, 0)
-    one.returncode = os.waitstatus_to_exitcode(status)
-    if one.returncode != 0:
-        sys.exit(f"{' '.join(command)}: status {one.returncode}")
-    return used.ru_maxrss * 1024
+    """The most bytes that are resident of a command that ends with 0."""
+    used = measured(command)
+    if used.status != 0:
+        sys.exit(f"{' '.join(command)}: status {used.status}")
+    return used.memory
 
 
 def counted(command):

@@ -1,5 +1,7 @@
 """Assembly texts that `bench/exec` and `bench/compare` run, each for a number that its time grows with."""
+import os
 import re
+import subprocess
 
 # A line that branches or jumps, and whose delay slot isn't named as filled.
 CONTROLS = re.compile(r"(?m)^((?:\w+:)?\s*(?:j|jal|jr|jalr|beq|bne|blez|bgtz|bltz|bgez)\s[^#\n]*)$")
@@ -152,3 +154,32 @@ SHORT = {
     "output": output(4096),
     "single bytes": single_bytes(65536),
 }
+
+# Six of the programs of bench/run, which make millions of steps: their built texts are run as those above are.
+NUMBER = 'function put(n:int)=(if n>9 then put(n/10); print(chr(ord("0")+n-n/10*10))) '
+COMPILED = {
+    "calls": "function fib(n:int):int=if n<2 then n else fib(n-1)+fib(n-2) in put(fib(27))",
+    "loops": "var s:=0 in for i:=1 to 1000 do for j:=1 to 1000 do s:=s+i-j*(i/1000); put(s)",
+    "array sum": "type t=array of int var a:=t[1000] of 3 var s:=0 in for k:=1 to 1200 do"
+    " for i:=0 to 999 do s:=s+a[i]; put(s)",
+    "matrices": "type r=array of int type m=array of r var n:=64 var a:=m[n] of r[0] of 0 var b:=m[n] of r[0] of 0"
+    " var c:=m[n] of r[0] of 0 in for i:=0 to n-1 do (a[i]:=r[n] of i; b[i]:=r[n] of 2; c[i]:=r[n] of 0);"
+    " for i:=0 to n-1 do for j:=0 to n-1 do for k:=0 to n-1 do c[i][j]:=c[i][j]+a[i][k]*b[k][j]; put(c[63][63])",
+    "sorting": "type t=array of int var n:=1600 var a:=t[n] of 0 var x:=7 in for i:=0 to n-1 do (x:=x*31+11;"
+    " x:=x-x/997*997; a[i]:=x); for i:=1 to n-1 do let var v:=a[i] var j:=i-1 in"
+    " while if j>=0 then a[j]>v else 0 do (a[j+1]:=a[j]; j:=j-1); a[j+1]:=v end; put(a[0]); put(a[n-1])",
+    "queens": "var N:=10 type t=array of int var row:=t[N] of 0 var d1:=t[N+N-1] of 0 var d2:=t[N+N-1] of 0 var found:=0"
+    " function try(c:int)=if c=N then found:=found+1 else for r:=0 to N-1 do if row[r]=0 & d1[r+c]=0 & d2[r+N-1-c]=0"
+    " then (row[r]:=1; d1[r+c]:=1; d2[r+N-1-c]:=1; try(c+1); row[r]:=0; d1[r+c]:=0; d2[r+N-1-c]:=0)"
+    " in try(0); put(found)",
+}
+
+
+def compiled(program, name, folder):
+    """The path of the built text of one of them."""
+    source, path = os.path.join(folder, "source.tig"), os.path.join(folder, f"{name}, built.s")
+    with open(source, "w", encoding="latin-1") as file:
+        file.write(f"let {NUMBER}{COMPILED[name]} end\n")
+    with open(path, "wb") as file:
+        subprocess.run([program, "build", source], stdin=subprocess.DEVNULL, stdout=file, check=True)
+    return path
