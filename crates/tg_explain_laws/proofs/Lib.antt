@@ -3,3 +3,4 @@ mod Nest
 mod Covered
 mod Seen
 mod Growing
+mod Asked

@@ -1,3 +1,4 @@
 pub mod Spans
 pub mod Seen
 pub mod First
+pub mod Asked

@@ -1,3 +1,4 @@
+ghost use Rattle.tg_explain_laws.specs.laws.Asked.{FaultsAreAsked};
 ghost use Rattle.tg_explain_laws.specs.laws.First.{FirstStays};
 ghost use Rattle.tg_explain_laws.specs.laws.Seen.{DeclaredWithin};
 ghost use Rattle.tg_explain_laws.specs.laws.Spans.{NamesAreCovered, SpansNest};
@@ -20,3 +21,11 @@ pub fn declared_within()
 pub fn first_stays()
     ensures { FirstStays }
 {}
+
+/// A law: a fault of types that don't go together, of a value that isn't there or of a nil alone is
+/// of a part of which typing asks something, and its type breaks that. It does nothing.
+pub fn faults_are_asked()
+    ensures { FaultsAreAsked }
+{
+    tg_explain_types::types_are_told();
+}
