@@ -1,2 +1,3 @@
 pub mod Nested
+pub mod Agreeing
 pub mod laws
