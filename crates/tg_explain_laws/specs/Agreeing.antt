@@ -1,7 +1,7 @@
 -- What a name means to typing it means among the facts: for names that stand in a region of the
 -- text, where no later fact is seen.
 use Rattle.std.specs.Prelude.{ℕ, zero, suc, ◌≡◌, ◌<◌, ◌≤◌, List, [], ◌∷◌, length, Option, Some}
-use Rattle.std.specs.Prelude.{None, Bool, false}
+use Rattle.std.specs.Prelude.{None, false, ◌⊎◌}
 use Rattle.std.specs.List.{slice_get}
 use Rattle.tg_syntax.specs.declared.tokens.Ident.{Ident}
 use Rattle.tg_symbols.specs.Tables.{looked_up}
@@ -61,9 +61,9 @@ Spelled names text x = slice_get names (name_of x) ≡ Some (spelled text x.span
 
 -- a name that stands in a region
 pub record Stands (names : List (List ℕ)) (text : List ℕ) (from to : ℕ) (x : Ident) : Type 0 where
-  pub spelled : Spelled names text x
-  pub from : from ≤ x.span.from
-  pub to : x.span.from < to
+  pub is_spelled : Spelled names text x
+  pub after : from ≤ x.span.from
+  pub before : x.span.from < to
 
 -- what a type's name means where it stands
 abbrev pub meaning_at : (text : List ℕ) → List Fact → Ident → Meaning
@@ -142,5 +142,5 @@ pub record ShapesAgree (text : List ℕ) (before : ℕ) (facts : List Fact) (not
 pub record Agrees
     (names : List (List ℕ)) (text : List ℕ) (from to : ℕ) (facts : List Fact) (scope : Scope)
     (noted : Noted) : Type 0 where
-  pub names : NamesAgree names text from to facts scope
-  pub shapes : ShapesAgree text from facts noted
+  pub named : NamesAgree names text from to facts scope
+  pub shaped : ShapesAgree text from facts noted
