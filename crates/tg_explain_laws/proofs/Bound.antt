@@ -8,6 +8,7 @@ use Rattle.tg_symbols.specs.Tables.{looked_up}
 use Rattle.tg_semantics.specs.declared.standards.Standard.{Standard}
 use Rattle.tg_semantics.specs.Environments.{name_of}
 use Rattle.tg_typecheck.specs.Types as typing
+use Rattle.tg_typecheck.specs.Checks.{Noted}
 use Rattle.tg_typecheck.specs.Scopes.{Signature, Binding, variable_at, function_at, standard_one, Scope, at_of, bound, binding}
 use Rattle.tg_typecheck.specs.Groups.{with_params}
 use Rattle.tg_explain_typing.specs.declared.types.Ty.{Ty}
@@ -17,9 +18,9 @@ use Rattle.tg_explain_typing.specs.declared.facts.Fact.TheVariants as fact
 use Rattle.tg_explain_typing.specs.Lookups.{covers, variable_type, named_type}
 use Rattle.tg_explain_typing.specs.Facts.{variables_facts, opened_facts}
 use Rattle.tg_explain_types.specs.laws.Types.{told_type}
-use Rattle.tg_explain_laws.specs.Agreeing.{Stands, Leads, NamesAgree}
+use Rattle.tg_explain_laws.specs.Agreeing.{Stands, Leads, NamesAgree, ShapesAgree}
 use Rattle.tg_explain_laws.proofs.Behind.{seen_here, covered, variable_behind}
-use Rattle.tg_explain_laws.proofs.Onward.{leads_onward, named_leads, Unmeant, Uncalled, calls_stay, wider, names_onward, names_narrower}
+use Rattle.tg_explain_laws.proofs.Onward.{leads_onward, named_leads, Unmeant, Uncalled, calls_stay, wider, names_onward, names_narrower, shapes_onward}
 
 -- a binding that is found first, or the one that was there
 pub bound_by : (c : Bool) (b found : Binding) (o : Option Binding) → (if c then Some b else o) ≡ Some found →
@@ -114,3 +115,19 @@ module _ (names : List (List ℕ)) (text : List ℕ) where
       with_variables seen.from seen.to before seen ps ts (facts ++ fact.Body f seen ∷ []) scope
       (names_onward names text from to seen.from seen.to facts (fact.Body f seen ∷ []) scope a i j tt (λ at k m. tt)) (omega arith) (omega arith)
       (params_lead_onward facts (fact.Body f seen ∷ []) before ps ts (λ y o. refl) l)
+
+-- ---- shapes stay
+
+pub shapes_variables : (text : List ℕ) (before : ℕ) (noted : Noted) (ps : List Param) (seen : Span) (facts : List Fact) →
+    ShapesAgree text before facts noted → before ≤ seen.from → ShapesAgree text before (variables_facts text ps seen facts) noted
+shapes_variables text before noted [] seen facts a i = a
+shapes_variables text before noted (p ∷ ps) seen facts a i =
+    let one : Fact = fact.Variable p.name (named_type text facts p.kind) seen in
+    shapes_variables text before noted ps seen (facts ++ one ∷ []) (shapes_onward text before before facts (one ∷ []) noted a (omega arith) (i, tt) tt) i
+
+pub shapes_opened : (text : List ℕ) (before : ℕ) (noted : Noted) (f : Ident) (ps : List Param) (seen : Span) (facts : List Fact) →
+    ShapesAgree text before facts noted → before ≤ seen.from → ShapesAgree text before (opened_facts text f ps seen facts) noted
+unfolding opened_facts
+shapes_opened text before noted f ps seen facts a i =
+    shapes_variables text before noted ps seen (facts ++ fact.Body f seen ∷ [])
+    (shapes_onward text before before facts (fact.Body f seen ∷ []) noted a (omega arith) tt tt) i

@@ -27,33 +27,33 @@ use Rattle.tg_explain_typing.specs.Lookups.{covers, variable_type, function_type
 use Rattle.tg_explain_typing.specs.Facts.{between, params_facts, header_facts, headers_facts, functions_start}
 use Rattle.tg_explain_types.specs.laws.Types.{told_type}
 use Rattle.tg_explain_laws.specs.Nested.{ParamsNest, KindNests, FunctionsNest}
-use Rattle.tg_explain_laws.specs.Agreeing.{Spelled, Stands, Leads, ParamsAgree, CallsAgree, NamesAgree}
+use Rattle.tg_explain_laws.specs.Agreeing.{Spelled, Stands, Leads, ParamsAgree, CallsAgree, NamesAgree, ShapesAgree}
 use Rattle.tg_explain_laws.proofs.Orders.{params_order, kind_order, functions_order}
 use Rattle.tg_explain_laws.proofs.Behind.{seen_here, covered, above, variable_behind, function_behind, param_behind}
-use Rattle.tg_explain_laws.proofs.Onward.{leads_onward, named_leads, Unmeant, Uncalled, calls_stay, wider, names_narrower}
+use Rattle.tg_explain_laws.proofs.Onward.{leads_onward, named_leads, Unmeant, Uncalled, calls_stay, wider, names_narrower, shapes_onward}
 use Rattle.tg_explain_laws.proofs.Bound.{bound_by, ParamsLead, params_lead_onward}
 
 -- ---- what the headers of functions say to typing
 
-abbrev pub ParamsHeaded : Scope → List Param → List typing.Ty → Type 0
-ParamsHeaded scope [] [] = Unit {0}
-ParamsHeaded scope (p ∷ ps) (t ∷ ts) = (looked_up (name_of p.kind) scope.types ≡ Some t) × ParamsHeaded scope ps ts
-ParamsHeaded scope _ _ = ⊥
+abbrev pub ParamsHeaded : List (ℕ × typing.Ty) → List Param → List typing.Ty → Type 0
+ParamsHeaded types [] [] = Unit {0}
+ParamsHeaded types (p ∷ ps) (t ∷ ts) = (looked_up (name_of p.kind) types ≡ Some t) × ParamsHeaded types ps ts
+ParamsHeaded types _ _ = ⊥
 
-abbrev pub KindHeaded : Scope → Option Ident → typing.Ty → Type 0
-KindHeaded scope None t = typing.none_type ≡ t
-KindHeaded scope (Some x) t = looked_up (name_of x) scope.types ≡ Some t
+abbrev pub KindIs : List (ℕ × typing.Ty) → Option Ident → typing.Ty → Type 0
+KindIs types None t = typing.none_type ≡ t
+KindIs types (Some x) t = looked_up (name_of x) types ≡ Some t
 
-abbrev pub Headed : Scope → FunDecs → List Signature → Type 0
-Headed scope no_functions [] = Unit {0}
-Headed scope (function f ps r body rest) (s ∷ ss) = ParamsHeaded scope ps s.params × KindHeaded scope r s.result × Headed scope rest ss
-Headed scope _ _ = ⊥
+abbrev pub HeadersAre : List (ℕ × typing.Ty) → FunDecs → List Signature → Type 0
+HeadersAre types no_functions [] = Unit {0}
+HeadersAre types (function f ps r body rest) (s ∷ ss) = ParamsHeaded types ps s.params × KindIs types r s.result × HeadersAre types rest ss
+HeadersAre types _ _ = ⊥
 
 params_headed : (scope : Scope) (earlier : List Ident) (ps : List Param) (ts : List typing.Ty) (g h : Noted) → param_types scope earlier ps g ≡ fine ts h →
-    ParamsHeaded scope ps ts × (g ≡ h)
+    ParamsHeaded scope.types ps ts × (g ≡ h)
 params_headed scope earlier [] ts g h e =
     let p = given _ _ _ _ e in
-    (subst (λ y. ParamsHeaded scope [] y) p.0 tt, p.1)
+    (subst (λ y. ParamsHeaded scope.types [] y) p.0 tt, p.1)
 params_headed scope earlier (p ∷ ps) ts g h e =
     let a = steps e in
     let b = steps a.onward in
@@ -61,16 +61,16 @@ params_headed scope earlier (p ∷ ps) ts g h e =
     let d = given _ _ _ _ c.onward in
     let n = presented _ _ _ _ _ _ b.first in
     let r = params_headed scope (p.name ∷ earlier) ps c.value b.between c.between c.first in
-    (subst (λ y. ParamsHeaded scope (p ∷ ps) y) d.0 (n.0, r.0), (kept _ _ _ _ _ _ a.first).1 ∙ n.1 ∙ r.1 ∙ d.1)
+    (subst (λ y. ParamsHeaded scope.types (p ∷ ps) y) d.0 (n.0, r.0), (kept _ _ _ _ _ _ a.first).1 ∙ n.1 ∙ r.1 ∙ d.1)
 
-result_headed : (scope : Scope) (r : Option Ident) (t : typing.Ty) (g h : Noted) → result_type scope r g ≡ fine t h → KindHeaded scope r t × (g ≡ h)
+result_headed : (scope : Scope) (r : Option Ident) (t : typing.Ty) (g h : Noted) → result_type scope r g ≡ fine t h → KindIs scope.types r t × (g ≡ h)
 result_headed scope None t g h e = given _ _ _ _ e
 result_headed scope (Some x) t g h e = presented _ _ _ _ _ _ e
 
-pub headed : (scope : Scope) (fs : FunDecs) (ss : List Signature) (g h : Noted) → headers fs scope g ≡ fine ss h → Headed scope fs ss × (g ≡ h)
+pub headed : (scope : Scope) (fs : FunDecs) (ss : List Signature) (g h : Noted) → headers fs scope g ≡ fine ss h → HeadersAre scope.types fs ss × (g ≡ h)
 headed scope no_functions ss g h e =
     let p = given _ _ _ _ e in
-    (subst (λ y. Headed scope no_functions y) p.0 tt, p.1)
+    (subst (λ y. HeadersAre scope.types no_functions y) p.0 tt, p.1)
 headed scope (function f ps r body rest) ss g h e =
     let a = steps e in
     let b = steps a.onward in
@@ -79,7 +79,7 @@ headed scope (function f ps r body rest) ss g h e =
     let p = params_headed scope [] ps a.value g a.between a.first in
     let k = result_headed scope r b.value a.between b.between b.first in
     let m = headed scope rest c.value b.between c.between c.first in
-    (subst (λ y. Headed scope (function f ps r body rest) y) d.0 (p.0, k.0, m.0), p.1 ∙ k.1 ∙ m.1 ∙ d.1)
+    (subst (λ y. HeadersAre scope.types (function f ps r body rest) y) d.0 (p.0, k.0, m.0), p.1 ∙ k.1 ∙ m.1 ∙ d.1)
 
 -- ---- the facts of a header
 
@@ -281,7 +281,7 @@ module _ (names : List (List ℕ)) (text : List ℕ) where
 
   pub params_lead : (from to p q : ℕ) (facts : List Fact) (scope : Scope) (ps : List Param) (ts : List typing.Ty) →
       NamesAgree names text from to facts scope → from ≤ p → q ≤ to → ParamsNest p q ps → ThroughParams (Spelled names text) AnyByte ps →
-      ParamsHeaded scope ps ts → ParamsLead names text facts from ps ts
+      ParamsHeaded scope.types ps ts → ParamsLead names text facts from ps ts
   params_lead from to p q facts scope [] [] a i j n w h = tt
   params_lead from to p q facts scope [] (t ∷ ts) a i j n w h = absurd h
   params_lead from to p q facts scope (o ∷ ps) [] a i j n w h = absurd h
@@ -292,14 +292,14 @@ module _ (names : List (List ℕ)) (text : List ℕ) where
 
   pub kind_leads : (from to p q : ℕ) (facts : List Fact) (scope : Scope) (r : Option Ident) (t : typing.Ty) →
       NamesAgree names text from to facts scope → from ≤ p → q ≤ to → KindNests p q r → ThroughKind (Spelled names text) AnyByte r →
-      KindHeaded scope r t → KindLeads facts from r t
+      KindIs scope.types r t → KindLeads facts from r t
   kind_leads from to p q facts scope None t a i j n w h = h
   kind_leads from to p q facts scope (Some x) t a i j n w h =
       a.types x (kind_stands from to p q x i j (omega (arith, n)) (omega (arith, n)) w) t h
 
   pub headers_lead : (from to p q : ℕ) (facts : List Fact) (scope : Scope) (fs : FunDecs) (ss : List Signature) →
       NamesAgree names text from to facts scope → from ≤ p → q ≤ to → FunctionsNest p q fs → ThroughFunctions (Spelled names text) AnyByte fs →
-      Headed scope fs ss → HeadersLead facts from fs ss
+      HeadersAre scope.types fs ss → HeadersLead facts from fs ss
   headers_lead from to p q facts scope no_functions [] a i j n w h = tt
   headers_lead from to p q facts scope no_functions (s ∷ ss) a i j n w h = absurd h
   headers_lead from to p q facts scope (function f ps r body rest) [] a i j n w h = absurd h
@@ -314,8 +314,34 @@ module _ (names : List (List ℕ)) (text : List ℕ) where
   -- a group of functions, for the names behind its first one's
   pub with_group_of_functions : (from to p q next end : ℕ) (fs : FunDecs) (ss : List Signature) (facts : List Fact) (scope : Scope) →
       NamesAgree names text from to facts scope → FunctionsNest from next fs → next ≤ to → ThroughFunctions (Spelled names text) AnyByte fs →
-      Headed scope fs ss → from ≤ p → functions_start fs ≤ p → end ≤ to → q ≤ end →
+      HeadersAre scope.types fs ss → from ≤ p → functions_start fs ≤ p → end ≤ to → q ≤ end →
       NamesAgree names text p q (headers_facts text fs (between (functions_start fs) end) facts) (with_functions fs ss scope)
   with_group_of_functions from to p q next end fs ss facts scope a n i w h j k l m =
       with_headers from to p q from (between (functions_start fs) end) fs ss facts scope a j (omega (arith, l, m)) k m
       (headers_lead from to from next facts scope fs ss a (omega arith) i n w h)
+
+-- ---- shapes stay
+
+shapes_params : (text : List ℕ) (before : ℕ) (noted : Noted) (f : Ident) (index : ℕ) (ps : List Param) (seen : Span) (facts : List Fact) →
+    ShapesAgree text before facts noted → before ≤ seen.from → ShapesAgree text before (params_facts text f index ps seen facts) noted
+shapes_params text before noted f index [] seen facts a i = a
+shapes_params text before noted f index (p ∷ ps) seen facts a i =
+    let one : Fact = fact.Param f index (named_type text facts p.kind) seen in
+    shapes_params text before noted f (suc index) ps seen (facts ++ one ∷ [])
+    (shapes_onward text before before facts (one ∷ []) noted a (omega arith) (i, tt) tt) i
+
+pub shapes_headers : (text : List ℕ) (before : ℕ) (noted : Noted) (fs : FunDecs) (seen : Span) (facts : List Fact) →
+    ShapesAgree text before facts noted → before ≤ seen.from → ShapesAgree text before (headers_facts text fs seen facts) noted
+unfolding header_facts
+shapes_headers text before noted no_functions seen facts a i = a
+shapes_headers text before noted (function f ps r body rest) seen facts a i =
+    let one : Fact = fact.Function f (kind_type text facts r) seen in
+    shapes_headers text before noted rest seen (params_facts text f 0 ps seen (facts ++ one ∷ []))
+    (shapes_params text before noted f 0 ps seen (facts ++ one ∷ []) (shapes_onward text before before facts (one ∷ []) noted a (omega arith) (i, tt) tt) i) i
+
+-- those of a group are seen from its first name on
+pub shapes_group : (text : List ℕ) (from next end : ℕ) (noted : Noted) (fs : FunDecs) (facts : List Fact) → ShapesAgree text from facts noted →
+    FunctionsNest from next fs → ShapesAgree text from (headers_facts text fs (between (functions_start fs) end) facts) noted
+shapes_group text from next end noted no_functions facts a n = a
+shapes_group text from next end noted (function f ps r body rest) facts a n =
+    shapes_headers text from noted (function f ps r body rest) (between f.span.from end) facts a (omega (arith, n.0))

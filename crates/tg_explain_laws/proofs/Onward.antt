@@ -1,5 +1,5 @@
 -- What names mean stays with more facts behind, that are seen elsewhere or declare nothing of their sort.
-use Rattle.std.proofs.Common.{◌≡◌, ℕ, zero, suc, ◌<◌, ◌≤◌, List, [], ◌∷◌, ◌++◌, length, length-append, Option, Some, None, Bool, true, false, refl, sym, ap, ◌∙◌}
+use Rattle.std.proofs.Common.{◌≡◌, ℕ, zero, suc, ◌<◌, ◌≤◌, List, [], ◌∷◌, ◌++◌, length, length-append, append-nil, Option, Some, None, Bool, true, false, refl, sym, ap, ◌∙◌}
 use Rattle.std.proofs.Common.{arith, subst, inl, inr}
 use Rattle.std.specs.Prelude.{◌==◌, if◌then◌else◌}
 use Rattle.std.proofs.lemmas.Bool.{eqb-true}
@@ -144,6 +144,11 @@ shapes_onward text before later facts more noted a i s o =
           (λ k h. element_found at facts more k h) (a.arrays at t e);
       owners = owners_both later facts more (owners_later before later facts i a.owners) o;
     }
+
+pub shapes_later : (text : List ℕ) (before later : ℕ) (facts : List Fact) (noted : Noted) → ShapesAgree text before facts noted → before ≤ later →
+    ShapesAgree text later facts noted
+shapes_later text before later facts noted a i =
+    subst (λ l. ShapesAgree text later l noted) (append-nil facts) (shapes_onward text before later facts [] noted a i tt tt)
 
 -- only the shapes count
 pub shapes_of : (text : List ℕ) (before : ℕ) (facts : List Fact) (one other : Noted) → one.shapes ≡ other.shapes → ShapesAgree text before facts one →

@@ -1,7 +1,7 @@
 -- What a name means to typing it means among the facts: for names that stand in a region of the
 -- text, where no later fact is seen.
 use Rattle.std.specs.Prelude.{ℕ, zero, suc, ◌≡◌, ◌<◌, ◌≤◌, List, [], ◌∷◌, length, Option, Some}
-use Rattle.std.specs.Prelude.{None, false, ◌⊎◌}
+use Rattle.std.specs.Prelude.{None, Bool, false, ◌⊎◌}
 use Rattle.std.specs.List.{slice_get}
 use Rattle.tg_syntax.specs.declared.tokens.Ident.{Ident}
 use Rattle.tg_symbols.specs.Tables.{looked_up}
