@@ -32,7 +32,7 @@ bound_by true b found o e = inl (refl, ap (λ p. unwrap p) e)
     unwrap None = b
 bound_by false b found o e = inr (refl, e)
 
-variable_of : (default : typing.Ty) → Binding → typing.Ty
+abbrev variable_of : (default : typing.Ty) → Binding → typing.Ty
 variable_of default (variable_at at t loop) = t
 variable_of default (function_at at s) = default
 variable_of default (standard_one g) = default

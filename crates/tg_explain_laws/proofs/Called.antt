@@ -168,7 +168,7 @@ module _ (text : List ℕ) (g f : Ident) (seen : Span) (same : (f.name.0 == g.na
 
 -- ---- a header, and a group of them
 
-signature_of : (default : Signature) → Binding → Signature
+abbrev signature_of : (default : Signature) → Binding → Signature
 signature_of default (variable_at at t loop) = default
 signature_of default (function_at at s) = s
 signature_of default (standard_one g) = default

@@ -161,7 +161,7 @@ call_agrees text f g e = record {
 -- ---- the start
 
 one_option : {A : Type 0} (a b : A) → Some a ≡ Some b → a ≡ b
-one_option a b e = ap (λ o. unwrap o) e
+one_option {A = A} a b e = ap (λ o. unwrap o) e
   where
     unwrap : Option A → A
     unwrap (Some v) = v
@@ -173,7 +173,7 @@ no_variable e = cc
 no_function : {g : Standard} {at : ℕ} {s : Signature} → standard_one g ≡ function_at at s → ⊥
 no_function e = cc
 
-standard_in : (default : Standard) → Binding → Standard
+abbrev standard_in : (default : Standard) → Binding → Standard
 standard_in default (variable_at at t loop) = default
 standard_in default (function_at at s) = default
 standard_in default (standard_one g) = g
@@ -182,7 +182,7 @@ module _ (names : List (List ℕ)) (text : List ℕ) where
   abbrev BindingMeans : (x : ℕ) → Binding → Type 0
   BindingMeans x b = Means standard_one (λ word. standard_of word standards) 0 x names b
 
-  binding_means : (x : ℕ) (b : Binding) → looked_up x (standard_bindings 0 names) ≡ Some b → BindingMeans x b
+  abbrev binding_means : (x : ℕ) (b : Binding) → looked_up x (standard_bindings 0 names) ≡ Some b → BindingMeans x b
   binding_means x b e = entry_means standard_one (λ word. standard_of word standards) 0 x names b (ap (λ l. looked_up x l) (sym (bindings_are 0 names)) ∙ e)
 
   -- the word at a name's place is the one that is spelled

@@ -18,7 +18,7 @@ use Rattle.tg_explain_typing.specs.Lookups.{spelled}
 use Rattle.tg_explain_laws.specs.Agreeing.{Spelled}
 
 -- the bytes of a part of a text
-part_is : (text before bytes after : List ℕ) (at : ℕ) → at ≡ length before → text ≡ before ++ bytes ++ after →
+part_is : (text before bytes after : List ℕ) (at : ℕ) → at ≡ length before → text ≡ before ++ (bytes ++ after) →
     spelled text (record { from = at; to = at + length bytes }) ≡ bytes
 part_is text before bytes after at e is =
     let many : at + length bytes - at ≡ length bytes = omega arith in
