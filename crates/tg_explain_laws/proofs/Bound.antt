@@ -45,24 +45,24 @@ module _ (names : List (List ℕ)) (text : List ℕ) where
   with_variable from to seen facts scope x at t loop a i j = record {
     variables = λ y h other u again e.
         let here = seen_here (x.name.0 == y.name.0) (covers seen y.span.from) (told_type t) (variable_type y facts type.Nothing)
-            (covered seen y.span.from h.after h.before) in
+        (covered seen y.span.from h.after h.before) in
         variable_behind y facts (fact.Variable x (told_type t) seen ∷ []) type.Nothing ∙ here
         ∙ elim (bound_by (name_of x == name_of y) (variable_at at t loop) (variable_at other u again) (bound y scope) e) [
           | inl w ↦ ap (λ c. if c then told_type t else variable_type y facts type.Nothing) w.0 ∙ ap (λ b. told_type (variable_of t b)) w.1
           | inr w ↦ ap (λ c. if c then told_type t else variable_type y facts type.Nothing) w.0
-            ∙ a.variables y (wider names text from to seen.from seen.to y i j h) other u again w.1
+              ∙ a.variables y (wider names text from to seen.from seen.to y i j h) other u again w.1
         ];
     functions = λ f h other s e.
         elim (bound_by (name_of x == name_of f) (variable_at at t loop) (function_at other s) (bound f scope) e) [
           | inl w ↦ absurd (cc_variable_function w.1)
           | inr w ↦ calls_stay text facts (fact.Variable x (told_type t) seen ∷ []) f s (record { result = λ o. refl; param = λ k o. refl })
-            (a.functions f (wider names text from to seen.from seen.to f i j h) other s w.1)
+              (a.functions f (wider names text from to seen.from seen.to f i j h) other s w.1)
         ];
     standards = λ f h g e.
         elim (bound_by (name_of x == name_of f) (variable_at at t loop) (standard_one g) (bound f scope) e) [
           | inl w ↦ absurd (cc_variable_standard w.1)
           | inr w ↦ calls_stay text facts (fact.Variable x (told_type t) seen ∷ []) f _ (record { result = λ o. refl; param = λ k o. refl })
-            (a.standards f (wider names text from to seen.from seen.to f i j h) g w.1)
+              (a.standards f (wider names text from to seen.from seen.to f i j h) g w.1)
         ];
     types = λ y h u e. leads_onward text facts (fact.Variable x (told_type t) seen ∷ []) from seen.from y (told_type u) i (λ z l o. refl) (λ o. refl)
         (a.types y (wider names text from to seen.from seen.to y i j h) u e);
@@ -100,7 +100,7 @@ module _ (names : List (List ℕ)) (text : List ℕ) where
   with_variables from to before seen (p ∷ ps) (t ∷ ts) facts scope a i j l =
       let told : named_type text facts p.kind ≡ told_type t = named_leads text facts before p.kind (told_type t) l.0 in
       subst (λ u. NamesAgree names text seen.from seen.to (variables_facts text ps seen (facts ++ fact.Variable p.name u seen ∷ []))
-          (with_params ps ts (binding p.name (variable_at (at_of p.name) t false) scope))) (sym told)
+      (with_params ps ts (binding p.name (variable_at (at_of p.name) t false) scope))) (sym told)
       (with_variables seen.from seen.to before seen ps ts (facts ++ fact.Variable p.name (told_type t) seen ∷ [])
       (binding p.name (variable_at (at_of p.name) t false) scope)
       (with_variable from to seen facts scope p.name (at_of p.name) t false a i j) (omega arith) (omega arith)

@@ -151,11 +151,11 @@ module _ (text : List ℕ) (g f : Ident) (seen : Span) (same : (f.name.0 == g.na
   own_params facts index [] = tt
   own_params facts index (t ∷ ts) = (
     param_behind g index facts (params_told f index (t ∷ ts) seen) _
-    ∙ ap (λ p. declared_param g index (params_told f (suc index) ts seen) p)
-    (all_true (index == index) (f.name.0 == g.name.0) (covers seen g.span.from) (told_type t) _ (eq-eqb index index refl) same here)
-    ∙ params_past g f index (suc index) ts seen (told_type t) (omega arith),
+        ∙ ap (λ p. declared_param g index (params_told f (suc index) ts seen) p)
+        (all_true (index == index) (f.name.0 == g.name.0) (covers seen g.span.from) (told_type t) _ (eq-eqb index index refl) same here)
+        ∙ params_past g f index (suc index) ts seen (told_type t) (omega arith),
     subst (λ l. ParamsAgree text l g (suc index) ts) (append_assoc facts (fact.Param f index (told_type t) seen ∷ []) (params_told f (suc index) ts seen))
-    (own_params (facts ++ fact.Param f index (told_type t) seen ∷ []) (suc index) ts),
+        (own_params (facts ++ fact.Param f index (told_type t) seen ∷ []) (suc index) ts),
   )
 
   own_call : (facts : List Fact) (s : Signature) → CallsAgree text (facts ++ header_told f s seen) g s
@@ -188,20 +188,20 @@ module _ (names : List (List ℕ)) (text : List ℕ) where
         elim (bound_by (name_of f == name_of y) (function_at at s) (variable_at other t loop) (bound y scope) e) [
           | inl w ↦ absurd (function_no_variable w.1)
           | inr w ↦ variable_behind y facts (header_told f s seen) type.Nothing ∙ variable_unheard y f 0 s.params seen _
-            ∙ a.variables y (wider names text from to p q y i j h) other t loop w.1
+              ∙ a.variables y (wider names text from to p q y i j h) other t loop w.1
         ];
     functions = λ g h other found e.
         elim (bound_by (name_of f == name_of g) (function_at at s) (function_at other found) (bound g scope) e) [
           | inl w ↦ subst (λ z. CallsAgree text (facts ++ header_told f s seen) g z) (ap (λ b. signature_of s b) w.1)
-            (own_call text g f seen w.0 (covered seen g.span.from (omega (arith, k, h.after)) (omega (arith, l, h.before))) facts s)
+              (own_call text g f seen w.0 (covered seen g.span.from (omega (arith, k, h.after)) (omega (arith, l, h.before))) facts s)
           | inr w ↦ calls_stay text facts (header_told f s seen) g found (header_other g f s seen w.0)
-            (a.functions g (wider names text from to p q g i j h) other found w.1)
+              (a.functions g (wider names text from to p q g i j h) other found w.1)
         ];
     standards = λ g h one e.
         elim (bound_by (name_of f == name_of g) (function_at at s) (standard_one one) (bound g scope) e) [
           | inl w ↦ absurd (function_no_standard w.1)
           | inr w ↦ calls_stay text facts (header_told f s seen) g (signature one) (header_other g f s seen w.0)
-            (a.standards g (wider names text from to p q g i j h) one w.1)
+              (a.standards g (wider names text from to p q g i j h) one w.1)
         ];
     types = λ y h t e. leads_onward text facts (header_told f s seen) from p y (told_type t) i (λ z b. header_unmeant f s seen z) (header_unmeant f s seen y)
         (a.types y (wider names text from to p q y i j h) t e);

@@ -231,7 +231,7 @@ meaning_told [] seen x c a o = refl
 meaning_told (d ∷ ds) seen x c a o =
     meaning_behind x (form_told d seen) (types_told ds seen) o
     ∙ (ap (λ m. meaning_of x (types_told ds seen) m)
-      (parts_unmeant d.name.span.from d.form x _ ∙ seen_here (d.name.name.0 == x.name.0) (covers seen x.span.from) (meaning_declared d) o c)
+    (parts_unmeant d.name.span.from d.form x _ ∙ seen_here (d.name.name.0 == x.name.0) (covers seen x.span.from) (meaning_declared d) o c)
     ∙ (meaning_told ds seen x c a.1 (if name_of d.name == name_of x then meaning_declared d else o)
     ∙ settled (name_of d.name == name_of x) refl))
   where
@@ -347,9 +347,9 @@ module _ (names : List (List ℕ)) (text : List ℕ) (from to next : ℕ) (facts
     from_outside n w i e k h =
         let f = found (looked_up (name_of w) scope.types) (i.is_known e) in
         let stands : Stands names text from to w =
-            record { is_spelled = i.is_spelled; after = omega (arith, low, i.after); before = omega (arith, high, i.before) } in
+        record { is_spelled = i.is_spelled; after = omega (arith, low, i.after); before = omega (arith, high, i.before) } in
         let unmeant : Unmeant (types_told ds seen) w =
-            λ o. meaning_told ds seen w (covered seen w.span.from i.after i.before) apart o ∙ ap (λ d. meaning_in d o) e in (
+        λ o. meaning_told ds seen w (covered seen w.span.from i.after i.before) apart o ∙ ap (λ d. meaning_in d o) e in (
           f.0,
           f.1,
           leads_later text all_told from next k w (told_type f.0) on

@@ -38,6 +38,7 @@ use Rattle.tg_explain_laws.proofs.Onward.{element_told as element_is, selected_t
 use Rattle.tg_explain_laws.proofs.Bound.{with_variable, with_opened, shapes_opened}
 pub use Rattle.tg_explain_laws.proofs.Called.{ParamsHeaded}
 use Rattle.tg_explain_laws.proofs.Called.{KindIs, HeadersAre, headed, params_lead, with_group_of_functions, shapes_group}
+use Rattle.tg_explain_laws.proofs.Shaped.{group_agrees}
 use Rattle.tg_explain_laws.proofs.Outermost.{outermost_agrees as outermost}
 use Rattle.tg_explain_laws.proofs.Spelling.{spelled_throughout}
 
@@ -102,8 +103,8 @@ all_told : (text : List ℕ) (p e z : ℕ) (F : List Fact) → p ≤ e → (owne
 all_told text p e z F i owner [] a = tt
 all_told text p e z F i owner (field ∷ fields) a = (
   (λ f k H w.
-    ap (λ l. field_type text l (type.Record owner) f) w.is
-    ∙ field_is text (F ++ w.more) p owner f field.1
+      ap (λ l. field_type text l (type.Record owner) f) w.is
+      ∙ field_is text (F ++ w.more) p owner f field.1
       (kind_stays text F w.more p p (field_kind owner f F) (field_kind owner f (F ++ w.more)) field.1 (omega arith)
       (unmeant_from p w.more (seen_from (between e z) w.more p w.seen i)) (λ y o. field_found owner f F w.more y o) (a.0 f k))),
   all_told text p e z F i owner fields a.1,
@@ -173,8 +174,8 @@ module _ (names : List (List ℕ)) (text : List ℕ) where
     type_told x s j t h =
         ap (λ l. named_type text l x) w.is
         ∙ named_leads text (F ++ w.more) p x (told_type t)
-          (leads_onward text F w.more p p x (told_type t) (omega arith) (unmeant_from p w.more (seen_from (between e z) w.more p w.seen i))
-          (λ o. meaning_missed x w.more o (missed x j)) (a.types x s t h))
+        (leads_onward text F w.more p p x (told_type t) (omega arith) (unmeant_from p w.more (seen_from (between e z) w.more p w.seen i))
+        (λ o. meaning_missed x w.more o (missed x j)) (a.types x s t h))
 
   pub fields_told : (p e z : ℕ) (n : Noted) (F : List Fact) → ShapesAgree text p F n → p ≤ e → (owner : ℕ) (fields : List (ℕ × Ty)) →
       looked_up owner n.shapes ≡ Some (record_shape fields) → FieldsTold text e z F owner fields
@@ -186,16 +187,16 @@ module _ (names : List (List ℕ)) (text : List ℕ) where
   field_told p e z n F H a i w owner fields h f k t j =
       ap (λ l. field_type text l (type.Record owner) f) w.is
       ∙ selected_told text (F ++ w.more) p owner f 0 fields (k, t)
-        (fields_stay text F w.more p p owner fields (omega arith) (unmeant_from p w.more (seen_from (between e z) w.more p w.seen i))
-        (a.records owner fields h)) j
+      (fields_stay text F w.more p p owner fields (omega arith) (unmeant_from p w.more (seen_from (between e z) w.more p w.seen i))
+      (a.records owner fields h)) j
 
   pub element_told : (p e z : ℕ) (n : Noted) (F H : List Fact) → ShapesAgree text p F n → p ≤ e → AddsWithin (between e z) F H → (owner : ℕ) (t : Ty) →
       looked_up owner n.shapes ≡ Some (array_shape t) → element_type text H (type.Array owner) ≡ told_type t
   element_told p e z n F H a i w owner t h =
       ap (λ l. element_type text l (type.Array owner)) w.is
       ∙ element_is text (F ++ w.more) p owner t
-        (kind_stays text F w.more p p (element_kind owner F) (element_kind owner (F ++ w.more)) t (omega arith)
-        (unmeant_from p w.more (seen_from (between e z) w.more p w.seen i)) (λ k o. element_found owner F w.more k o) (a.arrays owner t h))
+      (kind_stays text F w.more p p (element_kind owner F) (element_kind owner (F ++ w.more)) t (omega arith)
+      (unmeant_from p w.more (seen_from (between e z) w.more p w.seen i)) (λ k o. element_found owner F w.more k o) (a.arrays owner t h))
 
   -- ---- declarations
 
@@ -210,7 +211,7 @@ module _ (names : List (List ℕ)) (text : List ℕ) where
   pub types_agree : (p next end q : ℕ) (ds : List TypeDec) (scope inner : Scope) (n m : Noted) (F : List Fact) → Agrees names text p q F scope n →
       TypesNest p next ds → next ≤ end → end ≤ q → ThroughTypes (Spelled names text) AnyByte ds → declare_types ds scope n ≡ fine inner m →
       Agrees names text next end (types_facts ds (between (types_start ds) end) F) inner m
-  types_agree p next end q ds scope inner n m F a h i j s e = ?
+  types_agree p next end q ds scope inner n m F a h i j s e = group_agrees names text p next end q ds scope inner n m F a h i j s e
 
   pub headers_agree : (p next end q : ℕ) (fs : FunDecs) (ss : List Signature) (scope : Scope) (n m k : Noted) (F : List Fact) →
       Agrees names text p q F scope n → FunctionsNest p next fs → next ≤ end → end ≤ q → ThroughFunctions (Spelled names text) AnyByte fs →

@@ -131,7 +131,7 @@ pub fields_stay : (text : List ℕ) (facts more : List Fact) (before later owner
 fields_stay text facts more before later owner [] i s a = tt
 fields_stay text facts more before later owner (field ∷ fields) i s a = (
   (λ f e. kind_stays text facts more before later (field_kind owner f facts) (field_kind owner f (facts ++ more)) field.1 i s
-  (λ k h. field_found owner f facts more k h) (a.0 f e)),
+      (λ k h. field_found owner f facts more k h) (a.0 f e)),
   fields_stay text facts more before later owner fields i s a.1,
 )
 

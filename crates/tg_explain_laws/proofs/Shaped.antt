@@ -223,14 +223,14 @@ module _ (names : List (List ℕ)) (text : List ℕ) (from to next : ℕ) (facts
     own_fields at rest earlier [] sees k g = tt
     own_fields at rest earlier (p ∷ ps) sees k g = (
       (λ f e.
-        let free : stands_in (name_of f) earlier ≡ false = ap (λ n. stands_in n earlier) e ∙ k.0 in
-        let is : field_kind at f Told ≡ Some p.kind = sees f free ∙ both_true (at == at) (p.name.name.0 == f.name.0) (Some p.kind)
-            (field_kind at f (fields_told at ps ++ rest)) (eq-eqb at at refl) (eq-eqb (p.name.name.0) (f.name.0) (sym e)) in
-        subst (λ o. KindAgrees text Told next o (known_type Inner p.kind)) (sym is) (kind_agrees p.kind g.0)),
+          let free : stands_in (name_of f) earlier ≡ false = ap (λ n. stands_in n earlier) e ∙ k.0 in
+          let is : field_kind at f Told ≡ Some p.kind = sees f free ∙ both_true (at == at) (p.name.name.0 == f.name.0) (Some p.kind)
+          (field_kind at f (fields_told at ps ++ rest)) (eq-eqb at at refl) (eq-eqb (p.name.name.0) (f.name.0) (sym e)) in
+          subst (λ o. KindAgrees text Told next o (known_type Inner p.kind)) (sym is) (kind_agrees p.kind g.0)),
       own_fields at rest (p.name ∷ earlier) ps
           (λ f h. sees f (second_false (name_of p.name == name_of f) _ h)
           ∙ other_false (at == at) (p.name.name.0 == f.name.0) (Some p.kind) (field_kind at f (fields_told at ps ++ rest))
-            (first_false (name_of p.name == name_of f) _ h)) k.2 g.1,
+          (first_false (name_of p.name == name_of f) _ h)) k.2 g.1,
     )
 
     -- what a shape says at its byte
@@ -277,8 +277,8 @@ module _ (names : List (List ℕ)) (text : List ℕ) (from to next : ℕ) (facts
         (λ f z. ap (λ l. field_kind (at_of name) f l) is ∙ field_past (at_of name) f pre _ o) k i) a)
     form_shaped name (Array y) pre rest is o k i x g h e a =
         let kind : element_kind (at_of name) Told ≡ Some y =
-            ap (λ l. element_kind (at_of name) l) is ∙ (element_past (at_of name) pre _ o
-            ∙ only_one (at_of name == at_of name) (Some y) (element_kind (at_of name) rest) (eq-eqb (at_of name) (at_of name) refl)) in
+        ap (λ l. element_kind (at_of name) l) is ∙ (element_past (at_of name) pre _ o
+        ∙ only_one (at_of name == at_of name) (Some y) (element_kind (at_of name) rest) (eq-eqb (at_of name) (at_of name) refl)) in
         subst (λ n. ShapesAgree text next Told n) (shape_added (at_of name) (typing.array_shape (known_type Inner y)) x g h e)
         (with_shape (at_of name) (typing.array_shape (known_type Inner y)) g
         (subst (λ o. KindAgrees text Told next o (known_type Inner y)) (sym kind) (kind_agrees y i)) a)
@@ -292,7 +292,7 @@ module _ (names : List (List ℕ)) (text : List ℕ) (from to next : ℕ) (facts
         let l = form_order d.form d.name.span.to n.1 n.2 in
         let up : d.name.span.from < n.1 = omega (arith, n.0, l) in
         let one = form_shaped d.name d.form pre (types_told rest seen) is (owners_later lo d.name.span.from pre (omega (arith, n.0)) o) k.0 i.0 s.value g
-            s.between s.first a in
+        s.between s.first a in
         forms_shaped rest n.1 hi (pre ++ form_told d seen) (is ∙ sym (append_assoc pre (form_told d seen) (types_told rest seen)))
         (owners_both n.1 pre (form_told d seen) (owners_later lo n.1 pre (omega (arith, n.0, up)) o) (parts_owned d.name.span.from n.1 d.form up))
         n.3 k.1 i.1 x s.between h s.onward one
@@ -309,8 +309,8 @@ group_agrees names text p next end q [] scope inner n m facts a h i j s e =
     let b4 = steps b3.onward in
     let g = given _ _ _ _ b4.onward in
     let same : n ≡ m =
-        no_repeats_keep T16 [] [] b1.value n b1.between b1.first ∙ known_forms_keep [] [] scope b2.value b1.between b2.between b2.first
-        ∙ chains_keep [] [] b3.value b2.between b3.between b3.first ∙ (given _ _ _ _ b4.first).1 ∙ g.1 in
+    no_repeats_keep T16 [] [] b1.value n b1.between b1.first ∙ known_forms_keep [] [] scope b2.value b1.between b2.between b2.first
+    ∙ chains_keep [] [] b3.value b2.between b3.between b3.first ∙ (given _ _ _ _ b4.first).1 ∙ g.1 in
     subst (λ z. Agrees names text next end facts z m) g.0
     (subst (λ z. Agrees names text next end facts scope z) same
     (record { named = names_narrower names text p q next end facts scope a.named h j; shaped = shapes_later text p next facts n a.shaped h }))
@@ -326,9 +326,9 @@ group_agrees names text p next end q (d ∷ ds) scope inner n m facts a h i j s 
     let known = forms_known group scope group b2.value b1.between b2.between b2.first in
     let ends = chains_do_end group group b3.value b2.between b3.between b3.first in
     let same : n ≡ b3.between =
-        no_repeats_keep T16 [] (names_of group) b1.value n b1.between b1.first
-        ∙ known_forms_keep group group scope b2.value b1.between b2.between b2.first
-        ∙ chains_keep group group b3.value b2.between b3.between b3.first in
+    no_repeats_keep T16 [] (names_of group) b1.value n b1.between b1.first
+    ∙ known_forms_keep group group scope b2.value b1.between b2.between b2.first
+    ∙ chains_keep group group b3.value b2.between b3.between b3.first in
     let low : p ≤ d.name.span.from = omega (arith, h.0) in
     let on : p ≤ next = types_order group p next h in
     let order = types_order ds h.1 next h.3 in
@@ -339,9 +339,9 @@ group_agrees names text p next end q (d ∷ ds) scope inner n m facts a h i j s 
     let there = (first_form, rest) in
     let named = names_grouped names text p q next facts scope group seen a.named apart there low j on ends end start (omega arith) in
     let first = shapes_onward text p next facts (types_told group seen) n a.shaped on (on_seen p (types_told group seen) (types_on p group seen low))
-        (types_owned group seen p next h) in
+    (types_owned group seen p next h) in
     let shaped = forms_shaped names text p q next facts scope group seen a.named apart there low j on ends group p next facts refl a.shaped.owners h known there
-        b4.value b3.between b4.between b4.first (subst (λ z. ShapesAgree text next (facts ++ types_told group seen) z) same first) in
+    b4.value b3.between b4.between b4.first (subst (λ z. ShapesAgree text next (facts ++ types_told group seen) z) same first) in
     subst (λ l. Agrees names text next end l inner m) (sym (types_are group seen facts))
     (subst (λ z. Agrees names text next end (facts ++ types_told group seen) z m) g.0
     (subst (λ z. Agrees names text next end (facts ++ types_told group seen) (with_group group group scope scope) z) g.1

@@ -36,8 +36,8 @@ module _ (names : List (List ℕ)) (text : List ℕ) where
       Gives (Spelled names text) AnyByte (spanned one at to)
   one_gives bytes one at to s e = (
     (λ x i.
-      let named : Spells names bytes (token.Ident x.name) = subst (λ k. Spells names bytes k) i.name s in
-      named.2 ∙ ap (λ w. Some w) (sym (ap (λ p. spelled text p) (sym i.span) ∙ e))),
+        let named : Spells names bytes (token.Ident x.name) = subst (λ k. Spells names bytes k) i.name s in
+        named.2 ∙ ap (λ w. Some w) (sym (ap (λ p. spelled text p) (sym i.span) ∙ e))),
     tt,
   )
 

@@ -89,9 +89,9 @@ ParamsAgree text facts f index (t ∷ ts) =
     (param_type text facts f index ≡ told_type t) × ParamsAgree text facts f (suc index) ts
 
 pub record CallsAgree (text : List ℕ) (facts : List Fact) (f : Ident) (s : Signature) : Type 0
-    where
-  pub result : result_type text facts f ≡ told_type s.result
-  pub params : ParamsAgree text facts f 0 s.params
+  where
+    pub result : result_type text facts f ≡ told_type s.result
+    pub params : ParamsAgree text facts f 0 s.params
 
 -- the name of a type that is told stands before a byte
 abbrev pub KindAgrees :
@@ -129,15 +129,15 @@ pub record NamesAgree
 
 -- records and arrays that are declared before a byte
 pub record ShapesAgree (text : List ℕ) (before : ℕ) (facts : List Fact) (noted : Noted) : Type 0
-    where
-  pub records :
-      (at : ℕ) (fields : List (ℕ × typing.Ty)) →
-      looked_up at noted.shapes ≡ Some (typing.record_shape fields) →
-      FieldsAgree text facts before at fields
-  pub arrays :
-      (at : ℕ) (t : typing.Ty) → looked_up at noted.shapes ≡ Some (typing.array_shape t) →
-      KindAgrees text facts before (element_kind at facts) t
-  pub owners : OwnersBefore before facts
+  where
+    pub records :
+        (at : ℕ) (fields : List (ℕ × typing.Ty)) →
+        looked_up at noted.shapes ≡ Some (typing.record_shape fields) →
+        FieldsAgree text facts before at fields
+    pub arrays :
+        (at : ℕ) (t : typing.Ty) → looked_up at noted.shapes ≡ Some (typing.array_shape t) →
+        KindAgrees text facts before (element_kind at facts) t
+    pub owners : OwnersBefore before facts
 
 pub record Agrees
     (names : List (List ℕ)) (text : List ℕ) (from to : ℕ) (facts : List Fact) (scope : Scope)
