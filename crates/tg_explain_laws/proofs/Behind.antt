@@ -118,7 +118,8 @@ meaning_behind x (_ ∷ facts) more o = meaning_behind x facts more o
 
 -- ---- fields and elements
 
-first_stays : (c : Bool) (t k : Ident) (o p : Option Ident) → (o ≡ Some k → p ≡ Some k) → (if c then Some t else o) ≡ Some k → (if c then Some t else p) ≡ Some k
+first_stays : (c : Bool) (t k : Ident) (o p : Option Ident) → (o ≡ Some k → p ≡ Some k) → (if c then Some t else o) ≡ Some k →
+    (if c then Some t else p) ≡ Some k
 first_stays true t k o p r e = e
 first_stays false t k o p r e = r e
 
@@ -152,7 +153,8 @@ not_this : (c : Bool) (t : Ident) (o p : Option Ident) → c ≡ false → o ≡
 not_this true t o p c e = cc
 not_this false t o p c e = e
 
-pub field_past : (owner : ℕ) (f : Ident) (facts more : List Fact) → OwnersBefore owner facts → field_kind owner f (facts ++ more) ≡ field_kind owner f more
+pub field_past : (owner : ℕ) (f : Ident) (facts more : List Fact) → OwnersBefore owner facts →
+    field_kind owner f (facts ++ more) ≡ field_kind owner f more
 field_past owner f [] more b = refl
 field_past owner f (fact.Field at p ∷ facts) more b =
     not_this (at == owner && p.name.name.0 == f.name.0) p.kind _ _ (false_and _ _ (differ at owner b.0)) (field_past owner f facts more b.1)

@@ -142,7 +142,8 @@ module _ (names : List (List ℕ)) (text : List ℕ) where
   more_plain p q scope n F (fact.Body x s) h a = plain p q scope n F (fact.Body x s) a tt (λ at. tt) tt
   more_plain p q scope n F _ h a = absurd h
 
-  pub reshaped : (p q : ℕ) (scope : Scope) (n m : Noted) (F : List Fact) → n.shapes ≡ m.shapes → Agrees names text p q F scope n → Agrees names text p q F scope m
+  pub reshaped : (p q : ℕ) (scope : Scope) (n m : Noted) (F : List Fact) → n.shapes ≡ m.shapes → Agrees names text p q F scope n →
+      Agrees names text p q F scope m
   reshaped p q scope n m F e a = record { named = a.named; shaped = shapes_of text p F n m e a.shaped }
 
   pub looping : (p q : ℕ) (scope : Scope) (n : Noted) (F : List Fact) → Agrees names text p q F scope n → Agrees names text p q F (in_a_loop scope) n
@@ -232,7 +233,8 @@ module _ (names : List (List ℕ)) (text : List ℕ) where
       )
 
   pub params_agree : (p q next : ℕ) (f : Ident) (ps : List Param) (ts : List Ty) (body : Span) (scope : Scope) (n : Noted) (F : List Fact) →
-      Agrees names text p q F scope n → ParamsNest p next ps → next ≤ body.from → body.from ≤ body.to → body.to ≤ q → ThroughParams (Spelled names text) AnyByte ps →
+      Agrees names text p q F scope n → ParamsNest p next ps → next ≤ body.from → body.from ≤ body.to → body.to ≤ q →
+      ThroughParams (Spelled names text) AnyByte ps →
       ParamsHeaded scope.types ps ts →
       Agrees names text body.from body.to (opened_facts text f ps body F) (with_params ps ts scope) n
   params_agree p q next f ps ts body scope n F a h i b j s hd =

@@ -203,7 +203,8 @@ module _ (names : List (List ℕ)) (text : List ℕ) where
     types = λ x h t e.
         let m = entry_means (λ (u : typing.Ty). u) type_of_text 0 (name_of x) names t (ap (λ l. looked_up (name_of x) l) (sym (types_are 0 names)) ∙ e) in
         let word : spelled text x.span ≡ m.word = the_word (name_of x) m.place m.word (spelled text x.span) m.is_name m.there h.is_spelled in
-        let told : outermost_type (spelled text x.span) ≡ told_type t = ap (λ w. outermost_type w) word ∙ (type_is m.word m.one m.is_meant ∙ ap (λ u. told_type u) m.is) in
+        let told : outermost_type (spelled text x.span) ≡ told_type t =
+        ap (λ w. outermost_type w) word ∙ (type_is m.word m.one m.is_meant ∙ ap (λ u. told_type u) m.is) in
         (ap (λ u. meaning.Known u) told, told);
   }
 

@@ -30,9 +30,9 @@ use Rattle.tg_explain_laws.specs.Agreeing.{OwnersBefore, Spelled, Stands, Leads,
 use Rattle.tg_explain_laws.proofs.Orders.{params_order, form_order, types_order}
 use Rattle.tg_explain_laws.proofs.Behind.{variable_behind, field_past, element_past, owners_later, owners_both}
 use Rattle.tg_explain_laws.proofs.Onward.{calls_stay, wider, shapes_onward, shapes_later, names_narrower}
-use Rattle.tg_explain_laws.proofs.Grouped.{none_declared, Distinct, distinct, fields_told, parts_told, form_told, types_told, types_are, types_on, on_seen}
-use Rattle.tg_explain_laws.proofs.Grouped.{on_variable, on_calls, type_in, types_in, group_bindings, all_told, inner_scope, Inside, InGroup, ParamsInGroup, FormInGroup}
-use Rattle.tg_explain_laws.proofs.Grouped.{FormsInGroup, inner_told}
+use Rattle.tg_explain_laws.proofs.Grouped.{none_declared, Distinct, distinct, fields_told, parts_told, form_told, types_told, types_are, OnTypes, types_on}
+use Rattle.tg_explain_laws.proofs.Grouped.{on_seen, on_variable, on_calls, type_in, types_in, group_bindings, all_told, inner_scope, Inside, InGroup}
+use Rattle.tg_explain_laws.proofs.Grouped.{ParamsInGroup, FormInGroup, FormsInGroup, inner_told}
 
 -- ---- what typing knows of a group's forms: its names, and that no field repeats
 
@@ -200,6 +200,7 @@ module _ (names : List (List ℕ)) (text : List ℕ) (from to next : ℕ) (facts
           subst (λ u. Leads text Told next (length Told) x (told_type u)) same r.2;
     }
       where
+        told : OnTypes from (types_told ds seen)
         told = types_on from ds seen low
 
         same_bindings : (x : ℕ) → looked_up x scope.bindings ≡ looked_up x Inner.bindings
@@ -336,7 +337,7 @@ group_agrees names text p next end q (d ∷ ds) scope inner n m facts a h i j s 
     let start : d.name.span.from ≤ next = omega (arith, h.0, order, under) in
     let rest = forms_in_group names text p q next facts scope group seen ds h.1 next (omega (arith, h.0, under)) (omega arith) i h.3 s.2 known.1 in
     let first_form = form_in_group names text p q next facts scope group seen d.form d.name.span.to h.1 (omega (arith, h.0)) order i h.2 s.1 known.0 in
-    let there = (first_form, rest) in
+    let there : FormsInGroup names text p q next facts scope group seen group = (first_form, rest) in
     let named = names_grouped names text p q next facts scope group seen a.named apart there low j on ends end start (omega arith) in
     let first = shapes_onward text p next facts (types_told group seen) n a.shaped on (on_seen p (types_told group seen) (types_on p group seen low))
     (types_owned group seen p next h) in
