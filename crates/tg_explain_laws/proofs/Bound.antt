@@ -1,10 +1,9 @@
 -- A variable that is declared, and the parameters of a body, mean the same to typing and among the facts.
-use Rattle.std.proofs.Common.{◌≡◌, ℕ, ◌<◌, ◌≤◌, List, [], ◌∷◌, ◌++◌, length, Option, Some, None, Bool, true, false, refl, sym, ap, ◌∙◌, arith, subst, inl, inr}
+use Rattle.std.proofs.Common.{◌≡◌, ℕ, ◌≤◌, List, [], ◌∷◌, ◌++◌, length, Option, Some, None, Bool, true, false, refl, sym, ap, ◌∙◌, arith, subst, inl, inr}
 use Rattle.std.specs.Prelude.{◌==◌, ◌⊎◌, if◌then◌else◌}
 use Rattle.tg_base.specs.declared.ids.Span.{Span}
 use Rattle.tg_syntax.specs.declared.tokens.Ident.{Ident}
 use Rattle.tg_syntax.specs.declared.trees.Param.{Param}
-use Rattle.tg_symbols.specs.Tables.{looked_up}
 use Rattle.tg_semantics.specs.declared.standards.Standard.{Standard}
 use Rattle.tg_semantics.specs.Environments.{name_of}
 use Rattle.tg_typecheck.specs.Types as typing
@@ -18,9 +17,9 @@ use Rattle.tg_explain_typing.specs.declared.facts.Fact.TheVariants as fact
 use Rattle.tg_explain_typing.specs.Lookups.{covers, variable_type, named_type}
 use Rattle.tg_explain_typing.specs.Facts.{variables_facts, opened_facts}
 use Rattle.tg_explain_types.specs.laws.Types.{told_type}
-use Rattle.tg_explain_laws.specs.Agreeing.{Stands, Leads, NamesAgree, ShapesAgree}
+use Rattle.tg_explain_laws.specs.Agreeing.{Leads, NamesAgree, ShapesAgree}
 use Rattle.tg_explain_laws.proofs.Behind.{seen_here, covered, variable_behind}
-use Rattle.tg_explain_laws.proofs.Onward.{leads_onward, named_leads, Unmeant, Uncalled, calls_stay, wider, names_onward, names_narrower, shapes_onward}
+use Rattle.tg_explain_laws.proofs.Onward.{leads_onward, named_leads, Unmeant, calls_stay, wider, names_onward, names_narrower, shapes_onward}
 
 -- a binding that is found first, or the one that was there
 pub bound_by : (c : Bool) (b found : Binding) (o : Option Binding) → (if c then Some b else o) ≡ Some found →

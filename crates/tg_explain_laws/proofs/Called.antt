@@ -2,7 +2,7 @@
 use Rattle.std.proofs.Common.{◌≡◌, ℕ, suc, ◌<◌, ◌≤◌, List, [], ◌∷◌, ◌++◌, length, append_assoc, append-nil, Option, Some, None, Bool}
 use Rattle.std.proofs.Common.{true, false, refl, sym, ap, ◌∙◌}
 use Rattle.std.proofs.Common.{arith, subst, inl, inr}
-use Rattle.std.specs.Prelude.{◌==◌, ◌&&◌, ◌⊎◌, if◌then◌else◌}
+use Rattle.std.specs.Prelude.{◌==◌, ◌&&◌, if◌then◌else◌}
 use Rattle.std.proofs.lemmas.Bool.{eq-eqb}
 use Rattle.tg_base.specs.declared.ids.Span.{Span}
 use Rattle.tg_syntax.specs.declared.tokens.Ident.{Ident}
@@ -29,8 +29,8 @@ use Rattle.tg_explain_typing.specs.Facts.{between, params_facts, header_facts, h
 use Rattle.tg_explain_types.specs.laws.Types.{told_type}
 use Rattle.tg_explain_laws.specs.Nested.{ParamsNest, KindNests, FunctionsNest}
 use Rattle.tg_explain_laws.specs.Agreeing.{Spelled, Stands, Leads, ParamsAgree, CallsAgree, NamesAgree, ShapesAgree}
-use Rattle.tg_explain_laws.proofs.Orders.{params_order, kind_order, functions_order}
-use Rattle.tg_explain_laws.proofs.Behind.{seen_here, covered, above, variable_behind, function_behind, param_behind}
+use Rattle.tg_explain_laws.proofs.Orders.{params_order, kind_order}
+use Rattle.tg_explain_laws.proofs.Behind.{covered, above, variable_behind, function_behind, param_behind}
 use Rattle.tg_explain_laws.proofs.Onward.{leads_onward, named_leads, Unmeant, Uncalled, calls_stay, wider, names_narrower, shapes_onward}
 use Rattle.tg_explain_laws.proofs.Bound.{bound_by, ParamsLead, params_lead_onward}
 

@@ -1,11 +1,11 @@
 -- A chain of aliases that ends at a form of its group has no more links than the group has declarations before that form.
-use Rattle.std.proofs.Common.{◌≡◌, ℕ, zero, suc, ◌≤◌, List, [], ◌∷◌, length, Option, Some, None, Bool, true, false, refl, sym, ap, ◌∙◌, arith, subst}
+use Rattle.std.proofs.Common.{◌≡◌, ℕ, zero, suc, ◌≤◌, List, [], ◌∷◌, length, Option, Some, None, Bool, true, false, refl, sym, ap, ◌∙◌, arith}
 use Rattle.std.specs.Prelude.{◌==◌, if◌then◌else◌}
 use Rattle.std.proofs.lemmas.Bool.{eqb-true}
 use Rattle.tg_syntax.specs.declared.tokens.Ident.{Ident}
 use Rattle.tg_syntax.specs.Tree.{Form, Alias, Fields, Array, TypeDec}
 use Rattle.tg_semantics.specs.Environments.{name_of}
-use Rattle.tg_typecheck.specs.Groups.{declared_as, Chain, outside, ends_at, endless, link, chain, has_end}
+use Rattle.tg_typecheck.specs.Groups.{declared_as, ends_at, link, chain, has_end}
 
 -- ---- how many names of a group a test holds for
 

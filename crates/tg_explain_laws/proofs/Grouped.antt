@@ -1,7 +1,7 @@
 -- What the names of a group of types lead to, among its facts and to typing.
 use Rattle.std.proofs.Common.{◌≡◌, ℕ, zero, suc, ◌+◌, ◌<◌, ◌≤◌, List, [], ◌∷◌, ◌++◌, length, map, length-append, append_assoc, append-nil, Option, Some, None}
 use Rattle.std.proofs.Common.{Bool, true, false, refl, sym, ap, ◌∙◌, arith, subst, inl, inr}
-use Rattle.std.specs.Prelude.{◌==◌, ◌&&◌, ◌||◌, not, if◌then◌else◌}
+use Rattle.std.specs.Prelude.{◌==◌, ◌||◌, not, if◌then◌else◌}
 use Rattle.std.proofs.lemmas.Bool.{eqb-true, eq-eqb}
 use Rattle.tg_base.specs.declared.ids.Span.{Span}
 use Rattle.tg_syntax.specs.declared.tokens.Ident.{Ident}
@@ -12,9 +12,9 @@ use Rattle.tg_semantics.specs.Environments.{name_of}
 use Rattle.tg_typecheck.specs.declared.faults.TypeRule.{TypeRule}
 use Rattle.tg_typecheck.specs.Types as typing
 use Rattle.tg_typecheck.specs.Checks.{Noted, fine}
-use Rattle.tg_typecheck.specs.Scopes.{Scope, at_of}
+use Rattle.tg_typecheck.specs.Scopes.{Scope}
 use Rattle.tg_typecheck.specs.Groups.{stands_in, is_some, no_repeats, names_of, declared_as, Chain, outside, ends_at, endless, link, chain, chain_of}
-use Rattle.tg_typecheck.specs.Groups.{has_end, or_none, type_declared, type_at_end, with_group, known_type}
+use Rattle.tg_typecheck.specs.Groups.{has_end, or_none, type_declared, type_at_end, with_group}
 use Rattle.tg_typecheck.proofs.Inversion.{steps, kept}
 use Rattle.tg_typecheck.proofs.NamedValues.{DoEnd}
 use Rattle.tg_explain_typing.specs.declared.types.Ty.{Ty}
@@ -23,12 +23,12 @@ use Rattle.tg_explain_typing.specs.declared.facts.Meaning.{Meaning}
 use Rattle.tg_explain_typing.specs.declared.facts.Meaning.TheVariants as meaning
 use Rattle.tg_explain_typing.specs.declared.facts.Fact.{Fact}
 use Rattle.tg_explain_typing.specs.declared.facts.Fact.TheVariants as fact
-use Rattle.tg_explain_typing.specs.Lookups.{covers, sees, variable_type, function_type, declared_param, meaning_of}
+use Rattle.tg_explain_typing.specs.Lookups.{covers, variable_type, function_type, declared_param, meaning_of}
 use Rattle.tg_explain_typing.specs.Facts.{type_facts, types_facts}
 use Rattle.tg_explain_types.specs.laws.Types.{told_type}
-use Rattle.tg_explain_laws.specs.Agreeing.{SeenFrom, OwnersBefore, Spelled, Stands, meaning_at, Leads, KindAgrees, NamesAgree}
-use Rattle.tg_explain_laws.proofs.Behind.{seen_here, covered, variable_behind, meaning_behind, owners_both}
-use Rattle.tg_explain_laws.proofs.Onward.{leads_longer, leads_later, leads_stay, unmeant_from, Unmeant, UnmeantBefore, Uncalled, calls_stay}
+use Rattle.tg_explain_laws.specs.Agreeing.{SeenFrom, Spelled, Stands, meaning_at, Leads, NamesAgree}
+use Rattle.tg_explain_laws.proofs.Behind.{seen_here, covered, meaning_behind}
+use Rattle.tg_explain_laws.proofs.Onward.{leads_longer, leads_later, leads_stay, unmeant_from, Unmeant, UnmeantBefore, Uncalled}
 use Rattle.tg_explain_laws.proofs.Chains.{ends_sooner}
 
 -- ---- names that don't repeat

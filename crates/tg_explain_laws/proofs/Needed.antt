@@ -1,10 +1,9 @@
 -- What lookups among facts give stays so further on in the text, and each form of declaration keeps that they agree with typing.
-use Rattle.std.proofs.Common.{◌≡◌, ℕ, zero, suc, ◌<◌, ◌≤◌, List, [], ◌∷◌, ◌++◌, Option, Some, None, Bool, refl, sym, ap, ◌∙◌, subst, arith}
+use Rattle.std.proofs.Common.{◌≡◌, ℕ, ◌<◌, ◌≤◌, List, [], ◌∷◌, ◌++◌, Option, Some, None, Bool, refl, sym, ap, ◌∙◌, subst, arith}
 use Rattle.tg_base.specs.declared.ids.Span.{Span}
 use Rattle.tg_syntax.specs.declared.tokens.Spanned.{Spanned}
 use Rattle.tg_syntax.specs.declared.tokens.Ident.{Ident}
 use Rattle.tg_syntax.specs.declared.trees.Param.{Param}
-use Rattle.tg_syntax.specs.Spans.{span_of}
 use Rattle.tg_syntax.specs.Lexing.{Lexes}
 use Rattle.tg_syntax.specs.Grammar.{IsProgram}
 use Rattle.tg_syntax.specs.Tree.{TypeDec, Exp, FunDecs, no_functions, function}

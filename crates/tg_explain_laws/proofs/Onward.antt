@@ -17,7 +17,7 @@ use Rattle.tg_explain_typing.specs.declared.facts.Meaning.{Meaning}
 use Rattle.tg_explain_typing.specs.declared.facts.Meaning.TheVariants as meaning
 use Rattle.tg_explain_typing.specs.declared.facts.Fact.{Fact}
 use Rattle.tg_explain_typing.specs.Lookups.{function_type, declared_param, meaning_of, followed, named_type, kind_type, field_kind, field_type}
-use Rattle.tg_explain_typing.specs.Lookups.{element_kind, element_type, variable_type, result_type, param_type}
+use Rattle.tg_explain_typing.specs.Lookups.{element_kind, element_type}
 use Rattle.tg_explain_types.specs.laws.Types.{told_type}
 use Rattle.tg_explain_laws.specs.Agreeing.{SeenFrom, Misses, MissesAll, OwnersBefore, Stands, meaning_at, Leads, ParamsAgree, CallsAgree, KindAgrees}
 use Rattle.tg_explain_laws.specs.Agreeing.{FieldsAgree, NamesAgree, ShapesAgree, Agrees}

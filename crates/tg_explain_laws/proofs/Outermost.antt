@@ -11,8 +11,7 @@ use Rattle.tg_semantics.specs.declared.standards.Standard.{Standard}
 use Rattle.tg_semantics.specs.declared.standards.Standard.TheVariants.{Print, Flush, Getchar, Ord, Chr, Size, Substring, Concat, Not, Exit}
 use Rattle.tg_semantics.specs.Environments.{name_of, standard_text, standards}
 use Rattle.tg_typecheck.specs.Types as typing
-use Rattle.tg_typecheck.specs.Checks.{Noted}
-use Rattle.tg_typecheck.specs.Scopes.{Signature, Binding, variable_at, function_at, standard_one, bound, signature, standard_of, type_of_text, entry}
+use Rattle.tg_typecheck.specs.Scopes.{Signature, Binding, variable_at, function_at, standard_one, signature, standard_of, type_of_text, entry}
 use Rattle.tg_typecheck.specs.Scopes.{standard_bindings, standard_types, outermost_scope}
 use Rattle.tg_explain_typing.specs.declared.types.Ty.{Ty}
 use Rattle.tg_explain_typing.specs.declared.types.Ty.TheVariants as type
@@ -20,7 +19,7 @@ use Rattle.tg_explain_typing.specs.declared.facts.Meaning.TheVariants as meaning
 use Rattle.tg_explain_typing.specs.Standards.{outermost_type, standard_result, standard_param}
 use Rattle.tg_explain_typing.specs.Lookups.{spelled}
 use Rattle.tg_explain_types.specs.laws.Types.{told_type}
-use Rattle.tg_explain_laws.specs.Agreeing.{Stands, ParamsAgree, CallsAgree, NamesAgree, ShapesAgree, Agrees}
+use Rattle.tg_explain_laws.specs.Agreeing.{ParamsAgree, CallsAgree, NamesAgree, Agrees}
 
 -- ---- entries of the outermost scope
 

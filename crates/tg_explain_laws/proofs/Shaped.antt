@@ -1,5 +1,5 @@
 -- A group of types means the same to typing and among the facts: its names, and the fields and elements of its forms.
-use Rattle.std.proofs.Common.{◌≡◌, ℕ, zero, suc, ◌<◌, ◌≤◌, List, [], ◌∷◌, ◌++◌, length, map, append_assoc, Option, Some, None, Bool, true, false, refl, sym, ap}
+use Rattle.std.proofs.Common.{◌≡◌, ℕ, ◌<◌, ◌≤◌, List, [], ◌∷◌, ◌++◌, length, map, append_assoc, Option, Some, None, Bool, true, false, refl, sym, ap}
 use Rattle.std.proofs.Common.{◌∙◌, arith, subst}
 use Rattle.std.specs.Prelude.{◌==◌, ◌&&◌, ◌||◌, not, if◌then◌else◌}
 use Rattle.std.proofs.lemmas.Bool.{eqb-true, eq-eqb}
@@ -21,13 +21,12 @@ use Rattle.tg_typecheck.proofs.Inversion.{steps, kept, given, shape_added, shapi
 use Rattle.tg_typecheck.proofs.GroupInversion.{no_repeats_keep, known_forms_keep, chains_keep}
 use Rattle.tg_typecheck.proofs.NamedValues.{DoEnd, chains_do_end}
 use Rattle.tg_explain_typing.specs.declared.facts.Fact.{Fact}
-use Rattle.tg_explain_typing.specs.declared.facts.Fact.TheVariants as fact
 use Rattle.tg_explain_typing.specs.Lookups.{field_kind, element_kind}
 use Rattle.tg_explain_typing.specs.Facts.{between, types_start, types_facts}
 use Rattle.tg_explain_types.specs.laws.Types.{told_type}
-use Rattle.tg_explain_laws.specs.Nested.{Within, ParamsNest, FormNests, TypesNest}
+use Rattle.tg_explain_laws.specs.Nested.{ParamsNest, FormNests, TypesNest}
 use Rattle.tg_explain_laws.specs.Agreeing.{OwnersBefore, Spelled, Stands, Leads, KindAgrees, FieldsAgree, NamesAgree, ShapesAgree, Agrees}
-use Rattle.tg_explain_laws.proofs.Orders.{params_order, form_order, types_order}
+use Rattle.tg_explain_laws.proofs.Orders.{form_order, types_order}
 use Rattle.tg_explain_laws.proofs.Behind.{variable_behind, field_past, element_past, owners_later, owners_both}
 use Rattle.tg_explain_laws.proofs.Onward.{calls_stay, wider, shapes_onward, shapes_later, names_narrower}
 use Rattle.tg_explain_laws.proofs.Grouped.{none_declared, Distinct, distinct, fields_told, parts_told, form_told, types_told, types_are, OnTypes, types_on}

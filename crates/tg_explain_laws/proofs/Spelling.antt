@@ -1,8 +1,6 @@
 -- The names of a text's tree are spelled where they stand.
 use Rattle.std.proofs.Common.{◌≡◌, ℕ, ◌+◌, ◌-◌, List, [], ◌∷◌, ◌++◌, length, take, drop, length-append, append_assoc, Some, refl, sym, ap, ◌∙◌, arith, subst}
 use Rattle.std.proofs.Math.Seq.{drop-append_seam, take-append_seam}
-use Rattle.std.specs.List.{slice_get}
-use Rattle.tg_base.specs.declared.ids.Span.{Span}
 use Rattle.tg_syntax.specs.declared.tokens.Token.{Token}
 use Rattle.tg_syntax.specs.declared.tokens.Token.TheVariants as token
 use Rattle.tg_syntax.specs.declared.tokens.Spanned.{Spanned}
@@ -10,7 +8,7 @@ use Rattle.tg_syntax.specs.declared.tokens.Ident.{Ident}
 use Rattle.tg_syntax.specs.Tree.{Exp}
 use Rattle.tg_syntax.specs.Spellings.{Spells}
 use Rattle.tg_syntax.specs.Lexing.{Lexes, ends, blank, comment, token as one_token, spanned}
-use Rattle.tg_syntax.specs.Grammar.{IsProgram, IsIdent}
+use Rattle.tg_syntax.specs.Grammar.{IsProgram}
 use Rattle.tg_syntax.specs.Throughout.{Throughout}
 use Rattle.tg_syntax.specs.NamesWithin.{AnyByte}
 use Rattle.tg_syntax_laws.proofs.ThroughProgram.{Gives, AllGive, through_program}
