@@ -4,3 +4,15 @@ mod Covered
 mod Seen
 mod Growing
 mod Asked
+-- what names mean to typing and among the facts
+mod Agreeing
+mod Behind
+mod Onward
+mod Bound
+mod Called
+mod Outermost
+mod Spelling
+mod Chains
+mod Grouped
+mod Shaped
+mod Needed
