@@ -16,3 +16,10 @@ mod Chains
 mod Grouped
 mod Shaped
 mod Needed
+-- what is told where typing goes on, and where it ends
+mod Unbroken
+mod Walking
+mod Around
+mod Fine
+mod Found
+mod Told
