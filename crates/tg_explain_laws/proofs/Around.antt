@@ -1,49 +1,41 @@
 -- What stands before and behind the parts of an expression, a declaration or a body, where typing finds no fault.
-use Rattle.std.proofs.Common.{◌≡◌, ℕ, suc, ◌<◌, ◌≤◌, List, [], ◌∷◌, ◌++◌, length, Option, Some, None, Bool, true, false, refl, sym, ap, ◌∙◌, subst, arith}
-use Rattle.std.proofs.lemmas.Bool.{eqb-true}
-use Rattle.std.specs.Prelude.{◌==◌, ◌&&◌}
-use Rattle.tg_base.specs.declared.ids.Span.{Span}
+use Rattle.std.proofs.Common.{◌≡◌, ℕ, ◌<◌, ◌≤◌, List, [], ◌∷◌, Option, Some, None, Bool, true, false, refl, sym, ap, ◌∙◌, subst, arith}
+use Rattle.std.specs.Prelude.{◌&&◌}
 use Rattle.tg_syntax.specs.declared.tokens.Ident.{Ident}
 use Rattle.tg_syntax.specs.declared.trees.Param.{Param}
-use Rattle.tg_syntax.specs.declared.trees.Op.{Op}
 use Rattle.tg_syntax.specs.Spans.{span_of}
-use Rattle.tg_syntax.specs.Tree.{Form, TypeDec, Exp, Nil, Break, Int, Text, Read, Call, Neg, Binary, Make, Fill, Assign, If, When, While, For, Let, Seq}
-use Rattle.tg_syntax.specs.Tree.{LValue, Simple, Field, Index, Exps, no_exps, exp, Inits, no_inits, init, Decs, no_decs, types, variable, functions}
+use Rattle.tg_syntax.specs.Tree.{Exp}
+use Rattle.tg_syntax.specs.Tree.{LValue, Simple, Field, Index, Exps, no_exps, exp, Inits, no_inits, init}
 use Rattle.tg_syntax.specs.Tree.{FunDecs, no_functions, function}
-use Rattle.tg_syntax.specs.Throughout.{ThroughKind, Throughout, ThroughPlace, ThroughExps, ThroughInits, ThroughDecs, ThroughFunctions}
+use Rattle.tg_syntax.specs.Throughout.{ThroughKind, ThroughFunctions}
 use Rattle.tg_syntax.specs.NamesWithin.{AnyByte}
 use Rattle.tg_symbols.specs.Tables.{looked_up}
-use Rattle.tg_semantics.specs.Environments.{name_of}
-use Rattle.tg_typecheck.specs.declared.faults.TypeRule.TheVariants.{T17}
-use Rattle.tg_typecheck.specs.Types.{Ty, int_type, string_type, nil_type, none_type, record_type, array_type, record_shape, array_shape, alike, joined_type}
-use Rattle.tg_typecheck.specs.Checks.{Noted, fine, Check, ◌>>=◌, give}
-use Rattle.tg_typecheck.specs.Scopes.{Signature, Binding, variable_at, function_at, standard_one, Scope, at_of, bound, binding, in_a_loop, in_no_loop}
-use Rattle.tg_typecheck.specs.Groups.{no_repeats, type_named, headers, function_names, with_functions, with_params}
-use Rattle.tg_typecheck.specs.Typing.{start_of, function_of, variable_of, assignable, fields_of, element_of, select, placed, are_fields, expression_count}
-use Rattle.tg_typecheck.specs.Typing.{typed, typed_place, expect_all, expect_fields, typed_last, declare, bodies, body_fits, own_type}
-use Rattle.tg_typecheck.proofs.Inversion.{steps, kept, given, presented, variable_got, callee_got, fields_got, element_got, selected}
+use Rattle.tg_typecheck.specs.Types.{Ty, record_type, array_type, alike}
+use Rattle.tg_typecheck.specs.Checks.{Noted, fine, give}
+use Rattle.tg_typecheck.specs.Scopes.{Signature, Binding, variable_at, function_at, Scope, at_of, bound, binding}
+use Rattle.tg_typecheck.specs.Groups.{type_named, with_functions, with_params}
+use Rattle.tg_typecheck.specs.Typing.{start_of, function_of, assignable, fields_of, element_of}
+use Rattle.tg_typecheck.specs.Typing.{body_fits, own_type}
+use Rattle.tg_typecheck.proofs.Inversion.{kept, given, presented, callee_got, fields_got, element_got}
 use Rattle.tg_explain_typing.specs.declared.types.Ty.TheVariants as told
-use Rattle.tg_explain_typing.specs.declared.facts.Demand.{Demand}
-use Rattle.tg_explain_typing.specs.declared.facts.Demand.TheVariants.{Fits, Valueless, Joins, Own, BesideNil, Fielded, Made, Indexed, Has}
+use Rattle.tg_explain_typing.specs.declared.facts.Demand.TheVariants.{Fits, Joins, Own, Fielded, Made, Indexed, Has}
 use Rattle.tg_explain_typing.specs.declared.facts.Fact.{Fact}
-use Rattle.tg_explain_typing.specs.declared.facts.Fact.TheVariants as fact
-use Rattle.tg_explain_typing.specs.Facts.{between, weighed, left_demand, right_demand, is_equality, exp_facts, place_facts, exps_facts, args_facts, inits_facts}
-use Rattle.tg_explain_typing.specs.Facts.{decs_facts, bodies_facts, headers_facts, types_facts, types_start, functions_start, made, filled, repeated, assigned}
-use Rattle.tg_explain_typing.specs.Facts.{chosen, selected as fields_selected, indexed, passed, given as fields_given, outcome, ended, declared, opened_facts}
-use Rattle.tg_explain_typing.specs.Finding.{breaks, first_broken}
+use Rattle.tg_explain_typing.specs.Facts.{between, weighed, exp_facts}
+use Rattle.tg_explain_typing.specs.Facts.{made, filled}
+use Rattle.tg_explain_typing.specs.Facts.{chosen, selected as fields_selected, indexed, outcome, ended, declared, opened_facts}
+use Rattle.tg_explain_typing.specs.Finding.{breaks}
 use Rattle.tg_explain_typing.specs.Synthesis.{exp_type, place_type, last_type}
-use Rattle.tg_explain_typing.specs.Lookups.{named_type, field_type, element_type, param_type}
-use Rattle.tg_explain_typing.specs.Types.{joined}
-use Rattle.tg_explain_types.specs.laws.Types.{told_type, TestsAgree}
-use Rattle.tg_explain_laws.proofs.Agreeing.{Spelled, Stands, Agrees, ParamsAgree, CallsAgree}
-use Rattle.tg_explain_laws.specs.Nested.{Within, KindNests, Nests, PlaceNests, ExpsNest, InitsNest, DecsNest, FunctionsNest}
+use Rattle.tg_explain_typing.specs.Lookups.{named_type, element_type}
+use Rattle.tg_explain_types.specs.laws.Types.{told_type}
+use Rattle.tg_explain_laws.proofs.Agreeing.{Spelled, Stands, Agrees, CallsAgree}
+use Rattle.tg_explain_laws.specs.Nested.{Within, KindNests, InitsNest, FunctionsNest}
 use Rattle.tg_explain_laws.specs.laws.Seen.{AddsWithin}
-use Rattle.tg_explain_laws.proofs.Orders.{params_order, kind_order, types_order, exps_order, functions_order, decs_order}
+use Rattle.tg_explain_laws.proofs.Orders.{params_order, kind_order, functions_order}
 use Rattle.tg_explain_laws.proofs.Seen as S
 use Rattle.tg_explain_laws.proofs.Unbroken as U
-use Rattle.tg_explain_laws.proofs.Needed.{Headed, ParamsHeaded, KindHeaded, FieldsTold, first_from, looping, not_looping, narrower, variable_told, call_told}
+use Rattle.tg_explain_laws.proofs.Needed.{ParamsHeaded, KindHeaded, FieldsTold, first_from, narrower, call_told}
 use Rattle.tg_explain_laws.proofs.Needed.{type_told}
-use Rattle.tg_explain_laws.proofs.Needed.{fields_told, field_told, element_told, types_agree, headers_agree, params_agree}
+use Rattle.tg_explain_laws.proofs.Needed.{fields_told, element_told, params_agree}
 use Rattle.tg_explain_laws.proofs.Walking as W
 use Rattle.tg_explain_laws.proofs.Walking.{Setting, Went, Knows, last_or, last_step, sooner}
 
@@ -199,7 +191,7 @@ module _ (g : Setting) where
       let before : n ≡ k = (presented _ _ _ _ _ _ h).1 ∙ f.3 in
       let up : p ≤ x.span.to = omega arith in
       let naming = λ (H : List Fact) (l : AddsWithin (between x.span.to g.end) F H).
-          named x.span.to x t a sp (omega arith) (omega arith) (omega arith) h H l ∙ ap told_type f.1 in
+      named x.span.to x t a sp (omega arith) (omega arith) (omega arith) h H l ∙ ap told_type f.1 in
       record {
         byte = f.0;
         is = f.1;
@@ -225,7 +217,7 @@ module _ (g : Setting) where
       let before : n ≡ k = (presented _ _ _ _ _ _ h).1 ∙ f.3 in
       let up : p ≤ x.span.to = omega arith in
       let naming = λ (H : List Fact) (l : AddsWithin (between x.span.to g.end) F H).
-          named x.span.to x t a sp (omega arith) (omega arith) (omega arith) h H l ∙ ap told_type f.1 in
+      named x.span.to x t a sp (omega arith) (omega arith) (omega arith) h H l ∙ ap told_type f.1 in
       record {
         byte = f.0;
         is = f.1;
@@ -288,10 +280,10 @@ module _ (g : Setting) where
       let u = functions_order rest (span_of body).to next ns.6 in
       let d = between (span_of body).from g.end in
       let shown = S.both d (S.opened_adds d g.text f ps (span_of body) F (omega arith, omega arith))
-          (S.adds d g.text g.at body (omega arith, omega arith) ns.5 _) in
+      (S.adds d g.text g.at body (omega arith, omega arith) ns.5 _) in
       let asked = outcome_fine r s.result t _ _ _ _ _ (λ y e. o.kind y e _ shown) h in
       let over = W.weigh g _ asked.0 (W.recall g (ap (λ (y : Noted). y.shapes) asked.1) one) in
       let c = between p (span_of body).to in
       let added = S.both c (S.both c (S.opened_adds c g.text f ps (span_of body) F (omega arith, omega arith))
-          (S.adds c g.text g.at body (omega arith, omega arith) ns.5 _)) (S.ended_adds c g.text g.at r body _) in
+      (S.adds c g.text g.at body (omega arith, omega arith) ns.5 _)) (S.ended_adds c g.text g.at r body _) in
       W.back g (span_of body).to (span_of body).to a (omega arith) (omega arith) added (W.chain g o.went over.went)

@@ -19,7 +19,7 @@ use Rattle.tg_typecheck.specs.Checks.{Noted, CheckResult, fine, fault, Check, on
 use Rattle.tg_typecheck.specs.Scopes.{Signature, Binding, variable_at, function_at, standard_one, Scope, at_of, bound, binding, in_a_loop, in_no_loop}
 use Rattle.tg_typecheck.specs.Groups.{no_repeats, names_of, known_fields, known_form, known_forms, chains_end, with_group, add_form, add_forms}
 use Rattle.tg_typecheck.specs.Groups.{declare_types, function_names, param_types, result_type, headers, with_functions, with_params}
-use Rattle.tg_typecheck.specs.Typing.{start_of, place_start, needs_value, expect, expect_none, variable_of, function_of, assignable, fields_in, fields_of}
+use Rattle.tg_typecheck.specs.Typing.{start_of, place_start, expect, expect_none, variable_of, function_of, assignable, fields_in, fields_of}
 use Rattle.tg_typecheck.specs.Typing.{element_type_in, element_of, select, ordered, equated, left_side, equal_sides, right_side, own_type, body_fits}
 use Rattle.tg_typecheck.specs.Typing.{typed, typed_place, expect_all, expect_fields, typed_last, declare, bodies, are_fields}
 use Rattle.tg_typecheck.specs.Typing.{expression_count}
@@ -56,7 +56,7 @@ through : {A : Type 0} {P Q : (at : ℕ) → Judgement → Type 0} {m : Check A}
 through f h = record {
   blames = λ rule at b k e.
       let found = h.blames rule at b k e in
-      record { judgement = found.judgement; is = f at found.judgement found.is; broken = found.broken }
+      record { judgement = found.judgement; is = f at found.judgement found.is; broken = found.broken };
 }
 
 in_parts : {A B : Type 0} {P : (at : ℕ) → Judgement → Type 0} (m : Check A) (next : A → Check B) (n : Noted) → Blames P m n →
@@ -85,7 +85,7 @@ refused rule at n silent = record {
   blames = λ r p b k e.
       let same_rule : rule ≡ r = cc in
       let never : None ≡ Some b = sym silent ∙ ap breach_of same_rule ∙ k in
-      cc
+      cc;
 }
 
 kept : {P : (at : ℕ) → Judgement → Type 0} (rule : TypeRule) (at : ℕ) (c : Bool) (n : Noted) → breach_of rule ≡ None → Blames P (keep rule at c) n
@@ -124,7 +124,7 @@ weighed {P = P} rule b is at false n j broken asked = record {
         judgement = j;
         is = subst (λ y. P y j) same_byte asked;
         broken = subst (λ y. breaks y j.demand j.got ≡ true) same_breach (broken refl);
-      }
+      };
 }
 
 -- ---- checks that tell no types

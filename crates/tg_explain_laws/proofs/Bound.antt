@@ -10,7 +10,6 @@ use Rattle.tg_typecheck.specs.Types as typing
 use Rattle.tg_typecheck.specs.Checks.{Noted}
 use Rattle.tg_typecheck.specs.Scopes.{Signature, Binding, variable_at, function_at, standard_one, Scope, at_of, bound, binding}
 use Rattle.tg_typecheck.specs.Groups.{with_params}
-use Rattle.tg_explain_typing.specs.declared.types.Ty.{Ty}
 use Rattle.tg_explain_typing.specs.declared.types.Ty.TheVariants as type
 use Rattle.tg_explain_typing.specs.declared.facts.Fact.{Fact}
 use Rattle.tg_explain_typing.specs.declared.facts.Fact.TheVariants as fact

@@ -1,52 +1,45 @@
 -- Where typing finds no fault, explanations tell the types that it gives, and nothing that is judged is broken: by induction over trees.
-use Rattle.std.proofs.Common.{◌≡◌, ℕ, suc, ◌<◌, ◌≤◌, List, [], ◌∷◌, ◌++◌, length, Option, Some, None, Bool, true, false, refl, sym, ap, ◌∙◌, subst, arith}
+use Rattle.std.proofs.Common.{◌≡◌, ℕ, suc, ◌<◌, ◌≤◌, List, [], ◌∷◌, ◌++◌, length, Some, None, true, false, refl, sym, ap, ◌∙◌, subst, arith}
 use Rattle.std.proofs.lemmas.Bool.{eqb-true}
-use Rattle.std.specs.Prelude.{◌==◌, ◌&&◌}
-use Rattle.tg_base.specs.declared.ids.Span.{Span}
+use Rattle.std.specs.Prelude.{◌==◌}
 use Rattle.tg_syntax.specs.declared.tokens.Ident.{Ident}
-use Rattle.tg_syntax.specs.declared.trees.Param.{Param}
-use Rattle.tg_syntax.specs.declared.trees.Op.{Op}
 use Rattle.tg_syntax.specs.Spans.{span_of}
-use Rattle.tg_syntax.specs.Tree.{Form, TypeDec, Exp, Nil, Break, Int, Text, Read, Call, Neg, Binary, Make, Fill, Assign, If, When, While, For, Let, Seq}
+use Rattle.tg_syntax.specs.Tree.{Exp, Nil, Break, Int, Text, Read, Call, Neg, Binary, Make, Fill, Assign, If, When, While, For, Let, Seq}
 use Rattle.tg_syntax.specs.Tree.{LValue, Simple, Field, Index, Exps, no_exps, exp, Inits, no_inits, init, Decs, no_decs, types, variable, functions}
 use Rattle.tg_syntax.specs.Tree.{FunDecs, no_functions, function}
-use Rattle.tg_syntax.specs.Throughout.{ThroughKind, Throughout, ThroughPlace, ThroughExps, ThroughInits, ThroughDecs, ThroughFunctions}
+use Rattle.tg_syntax.specs.Throughout.{Throughout, ThroughPlace, ThroughExps, ThroughInits, ThroughDecs, ThroughFunctions}
 use Rattle.tg_syntax.specs.NamesWithin.{AnyByte}
 use Rattle.tg_symbols.specs.Tables.{looked_up}
 use Rattle.tg_semantics.specs.Environments.{name_of}
-use Rattle.tg_typecheck.specs.declared.faults.TypeRule.TheVariants.{T17}
-use Rattle.tg_typecheck.specs.Types.{Ty, int_type, string_type, nil_type, none_type, record_type, array_type, record_shape, array_shape, alike, joined_type}
-use Rattle.tg_typecheck.specs.Checks.{Noted, fine, Check, ◌>>=◌, give}
-use Rattle.tg_typecheck.specs.Scopes.{Signature, Binding, variable_at, function_at, standard_one, Scope, at_of, bound, binding, in_a_loop, in_no_loop}
-use Rattle.tg_typecheck.specs.Groups.{no_repeats, type_named, headers, function_names, with_functions, with_params}
-use Rattle.tg_typecheck.specs.Typing.{start_of, function_of, variable_of, assignable, fields_of, element_of, select, placed, are_fields, expression_count}
-use Rattle.tg_typecheck.specs.Typing.{typed, typed_place, expect_all, expect_fields, typed_last, declare, bodies, body_fits, own_type}
-use Rattle.tg_typecheck.proofs.Inversion.{steps, kept, given, presented, variable_got, callee_got, fields_got, element_got, selected}
+use Rattle.tg_typecheck.specs.Types.{Ty, int_type, string_type, nil_type, none_type, joined_type}
+use Rattle.tg_typecheck.specs.Checks.{Noted, fine}
+use Rattle.tg_typecheck.specs.Scopes.{Signature, variable_at, Scope, at_of, binding, in_a_loop, in_no_loop}
+use Rattle.tg_typecheck.specs.Groups.{with_functions, with_params}
+use Rattle.tg_typecheck.specs.Typing.{are_fields, expression_count}
+use Rattle.tg_typecheck.specs.Typing.{typed, typed_place, expect_all, expect_fields, typed_last, declare, bodies}
+use Rattle.tg_typecheck.proofs.Inversion.{steps, kept, given, presented, variable_got, fields_got, element_got, selected}
 use Rattle.tg_explain_typing.specs.declared.types.Ty.TheVariants as told
-use Rattle.tg_explain_typing.specs.declared.facts.Demand.{Demand}
-use Rattle.tg_explain_typing.specs.declared.facts.Demand.TheVariants.{Fits, Valueless, Joins, Own, BesideNil, Fielded, Made, Indexed, Has}
+use Rattle.tg_explain_typing.specs.declared.facts.Demand.TheVariants.{Fits, Valueless, BesideNil}
 use Rattle.tg_explain_typing.specs.declared.facts.Fact.{Fact}
 use Rattle.tg_explain_typing.specs.declared.facts.Fact.TheVariants as fact
-use Rattle.tg_explain_typing.specs.Facts.{between, weighed, left_demand, right_demand, is_equality, exp_facts, place_facts, exps_facts, args_facts, inits_facts}
-use Rattle.tg_explain_typing.specs.Facts.{decs_facts, bodies_facts, headers_facts, types_facts, types_start, functions_start, made, filled, repeated, assigned}
-use Rattle.tg_explain_typing.specs.Facts.{chosen, selected as fields_selected, indexed, passed, given as fields_given, outcome, ended, declared, opened_facts}
-use Rattle.tg_explain_typing.specs.Finding.{breaks, first_broken}
-use Rattle.tg_explain_typing.specs.Synthesis.{exp_type, place_type, last_type}
-use Rattle.tg_explain_typing.specs.Lookups.{named_type, field_type, element_type, param_type}
+use Rattle.tg_explain_typing.specs.Facts.{between, left_demand, exp_facts, place_facts, exps_facts, args_facts, inits_facts}
+use Rattle.tg_explain_typing.specs.Facts.{decs_facts, bodies_facts, types_start, functions_start, repeated, assigned}
+use Rattle.tg_explain_typing.specs.Facts.{passed, given as fields_given}
+use Rattle.tg_explain_typing.specs.Finding.{breaks}
+use Rattle.tg_explain_typing.specs.Synthesis.{exp_type}
+use Rattle.tg_explain_typing.specs.Lookups.{named_type, field_type, element_type}
 use Rattle.tg_explain_typing.specs.Types.{joined}
-use Rattle.tg_explain_types.specs.laws.Types.{told_type, TestsAgree}
-use Rattle.tg_explain_laws.proofs.Agreeing.{Spelled, Stands, Agrees, ParamsAgree, CallsAgree}
-use Rattle.tg_explain_laws.specs.Nested.{Within, KindNests, Nests, PlaceNests, ExpsNest, InitsNest, DecsNest, FunctionsNest}
+use Rattle.tg_explain_types.specs.laws.Types.{told_type}
+use Rattle.tg_explain_laws.proofs.Agreeing.{Spelled, Agrees, ParamsAgree}
+use Rattle.tg_explain_laws.specs.Nested.{Within, Nests, PlaceNests, ExpsNest, InitsNest, DecsNest, FunctionsNest}
 use Rattle.tg_explain_laws.specs.laws.Seen.{AddsWithin}
-use Rattle.tg_explain_laws.proofs.Orders.{params_order, kind_order, types_order, exps_order, functions_order, decs_order}
+use Rattle.tg_explain_laws.proofs.Orders.{exps_order, functions_order, decs_order}
 use Rattle.tg_explain_laws.proofs.Seen as S
 use Rattle.tg_explain_laws.proofs.Unbroken as U
-use Rattle.tg_explain_laws.proofs.Needed.{Headed, ParamsHeaded, KindHeaded, FieldsTold, first_from, looping, not_looping, narrower, variable_told, call_told}
-use Rattle.tg_explain_laws.proofs.Needed.{type_told}
-use Rattle.tg_explain_laws.proofs.Needed.{fields_told, field_told, element_told, types_agree, headers_agree, params_agree}
+use Rattle.tg_explain_laws.proofs.Needed.{Headed, FieldsTold, first_from, looping, not_looping, narrower, variable_told}
+use Rattle.tg_explain_laws.proofs.Needed.{field_told, element_told, types_agree, headers_agree}
 use Rattle.tg_explain_laws.proofs.Walking as W
 use Rattle.tg_explain_laws.proofs.Walking.{Setting, Went, Knows, last_or, last_step, sooner}
-
 use Rattle.tg_explain_laws.proofs.Around as A
 use Rattle.tg_explain_laws.proofs.Around.{assignable_same, both_true, first_nests, inits_order, with_functions_types, block_told, KnowsPlace}
 use Rattle.tg_explain_laws.proofs.Around.{KnowsLast}
@@ -60,6 +53,7 @@ module _ (g : Setting) where
 
   mutual
     unfolding repeated assigned passed fields_given
+
     pub know : (e : Exp) (p q : ℕ) → Within p q (span_of e) → q ≤ g.end → Nests e → Throughout Spelt AnyByte e → (scope : Scope) (n : Noted) (F : List Fact) →
         Agree p q F scope n → (t : Ty) (m : Noted) → typed e scope n ≡ fine t m → Knows g e t (span_of e).to q scope m F (exp_facts g.text g.at e F)
     know (Nil s) p q w z ns sp scope n F a t m h = W.finish g (Nil s) s.to nil_type t (W.start g a) (omega arith) (λ H l. refl) h
@@ -80,7 +74,7 @@ module _ (g : Setting) where
         let last = exps_order args f.span.to s.to ns.1 in
         let called = A.calling g f i.value p q scope n i.between j.between F sp.1 (omega arith, omega arith, omega arith) a i.first c.1 in
         let args_are = know_args f 0 args i.value.params f.span.to f.span.to s.to q (omega arith) (omega arith) z ns.1 sp.2 (eqb-true _ _ c.0) scope j.between
-            F F (S.same (between f.span.to g.end) F) (λ H l. (called.told H l).params) called.went.agrees k.value k.between k.first in
+        F F (S.same (between f.span.to g.end) F) (λ H l. (called.told H l).params) called.went.agrees k.value k.between k.first in
         let added = S.args_add (between f.span.to g.end) g.text g.at f 0 args f.span.to s.to (omega arith) (omega arith) ns.1 F in
         W.finish g (Call s f args) s.to i.value.result t (W.chain g called.went args_are) (omega arith)
         (λ H l. (called.told H (S.both (between f.span.to g.end) added (sooner _ _ _ last l))).result) k.onward
@@ -95,13 +89,13 @@ module _ (g : Setting) where
         let left = U.left_side_fine g.tests g.breach op i.value j.value o _ _ _ j.first in
         let right = U.right_side_fine g.tests g.breach op i.value j.value k.value o _ _ _ _ _ l.value _ _ j.first l.first in
         let one = W.weigh g (left_demand op) left.unbroken
-            (W.recall g left.shapes (know x p q (omega arith, omega arith, omega arith) z ns.2 sp.2 scope n F a i.value i.between i.first)) in
+        (W.recall g left.shapes (know x p q (omega arith, omega arith, omega arith) z ns.2 sp.2 scope n F a i.value i.between i.first)) in
         let other = know y (span_of x).to q (omega arith, omega arith, omega arith) z ns.3 sp.3 scope j.between _ one.went.agrees k.value k.between k.first in
         let added = S.adds (between (span_of x).to g.end) g.text g.at y (omega arith, omega arith) ns.3 _ in
         let both = W.compare g s.from op x y i.value k.value (one.told _ added) (W.now g other)
-            (subst (λ d. breaks g.breach d (told_type k.value) ≡ false) (sym left.demand) right.unbroken)
-            (λ e. subst (λ u. breaks g.breach (BesideNil (told_type u)) (told_type k.value) ≡ false) (sym (left.beside e)) (right.beside e))
-            (W.reshape g (ap (λ (y : Noted). y.shapes) right.same_noted) (W.chain g one.went other.went)) in
+        (subst (λ d. breaks g.breach d (told_type k.value) ≡ false) (sym left.demand) right.unbroken)
+        (λ e. subst (λ u. breaks g.breach (BesideNil (told_type u)) (told_type k.value) ≡ false) (sym (left.beside e)) (right.beside e))
+        (W.reshape g (ap (λ (y : Noted). y.shapes) right.same_noted) (W.chain g one.went other.went)) in
         W.finish g (Binary s op o x y) s.to int_type t both (omega arith) (λ H l. refl) l.onward
     know (Make s x inits) p q w z ns sp scope n F a t m h =
         let i = steps h in
@@ -112,9 +106,9 @@ module _ (g : Setting) where
         let last = inits_order inits x.span.to s.to ns.1 in
         let o = A.making g x i.value j.value p q scope n i.between j.between k.between F sp.1 (omega arith, omega arith, omega arith) a i.first j.first c.1 in
         let rest = know_inits x o.byte inits j.value x.span.to x.span.to s.to q (omega arith) (omega arith) z ns.1 sp.2 c.0 scope k.between F _ o.began o.naming
-            o.all o.went.agrees l.value l.between l.first in
+        o.all o.went.agrees l.value l.between l.first in
         let added = S.both (between x.span.to g.end) o.began
-            (S.inits_add (between x.span.to g.end) g.text g.at x inits x.span.to s.to (omega arith) (omega arith) ns.1 _) in
+        (S.inits_add (between x.span.to g.end) g.text g.at x inits x.span.to s.to (omega arith) (omega arith) ns.1 _) in
         W.finish g (Make s x inits) s.to i.value t (W.chain g o.went rest) (omega arith)
         (λ H l. o.naming H (S.both (between x.span.to g.end) added (sooner _ _ _ last l)) ∙ sym (ap told_type o.is)) l.onward
     know (Fill s x size value) p q w z ns sp scope n F a t m h =
@@ -122,13 +116,13 @@ module _ (g : Setting) where
         let j = steps i.onward in
         let o = A.filling g x i.value j.value p q scope n i.between j.between F sp.1 (omega arith, omega arith, omega arith) a i.first j.first in
         let k = W.fitting g _ int_type (Fits told.Int) refl
-            (know size x.span.to q (omega arith, omega arith, omega arith) z ns.3 sp.2 scope j.between _ o.went.agrees) j.onward in
+        (know size x.span.to q (omega arith, omega arith, omega arith) z ns.3 sp.2 scope j.between _ o.went.agrees) j.onward in
         let r = between x.span.to g.end in
         let sized = S.both r (S.both r o.began (S.adds r g.text g.at size (omega arith, omega arith) ns.3 _))
-            (S.weighed_adds r g.text g.at size (Fits told.Int) _) in
+        (S.weighed_adds r g.text g.at size (Fits told.Int) _) in
         let added = S.both r sized (S.adds r g.text g.at value (omega arith, omega arith) ns.4 _) in
         let l = W.fitting g _ j.value _ (ap Fits (sym (o.told _ added)))
-            (know value (span_of size).to q (omega arith, omega arith, omega arith) z ns.4 sp.3 scope k.middle _ k.part.went.agrees) k.onward in
+        (know value (span_of size).to q (omega arith, omega arith, omega arith) z ns.4 sp.3 scope k.middle _ k.part.went.agrees) k.onward in
         let whole = S.both r added (S.weighed_adds r g.text g.at value _ _) in
         let behind : x.span.to ≤ s.to = omega arith in
         W.finish g (Fill s x size value) s.to i.value t (W.chain g o.went (W.chain g k.part.went l.part.went)) (omega arith)
@@ -140,7 +134,7 @@ module _ (g : Setting) where
         let went = W.reshape g (ap (λ (y : Noted). y.shapes) (assignable_same v scope j.value _ _ j.first)) place.went in
         let added = S.adds (between (span_of e).from g.end) g.text g.at e (omega arith, omega arith) ns.2 _ in
         let k = W.fitting g _ i.value _ (ap Fits (sym (place.told _ added)))
-            (know e (span_of e).from q (omega arith, omega arith, omega arith) z ns.2 sp.2 scope j.between _ went.agrees) j.onward in
+        (know e (span_of e).from q (omega arith, omega arith, omega arith) z ns.2 sp.2 scope j.between _ went.agrees) j.onward in
         W.finish g (Assign s v e) s.to none_type t (W.chain g went k.part.went) (omega arith) (λ H l. refl) k.onward
     know (If s c x y) p q w z ns sp scope n F a t m h =
         let i = W.fitting g _ int_type (Fits told.Int) refl (know c p q (omega arith, omega arith, omega arith) z ns.3 sp.1 scope n F a) h in
@@ -176,16 +170,16 @@ module _ (g : Setting) where
     know (For s x low high body) p q w z ns sp scope n F a t m h =
         let i = W.fitting g _ int_type (Fits told.Int) refl (know low p q (omega arith, omega arith, omega arith) z ns.4 sp.2 scope n F a) h in
         let j = W.fitting g _ int_type (Fits told.Int) refl
-            (know high (span_of low).to q (omega arith, omega arith, omega arith) z ns.5 sp.3 scope i.middle _ i.part.went.agrees) i.onward in
+        (know high (span_of low).to q (omega arith, omega arith, omega arith) z ns.5 sp.3 scope i.middle _ i.part.went.agrees) i.onward in
         let inner = W.plain g (fact.Loop s.from (span_of body)) tt refl
-            (W.declare_variable g (span_of body).from (span_of body).to x (at_of x) int_type true told.Int refl (W.start g j.part.went.agrees) (omega arith)
-            (omega arith)) in
+        (W.declare_variable g (span_of body).from (span_of body).to x (at_of x) int_type true told.Int refl (W.start g j.part.went.agrees) (omega arith)
+        (omega arith)) in
         let inside = looping g.names g.text _ _ _ _ _ inner.agrees in
         let k = W.voided g _
-            (know body (span_of body).from (span_of body).to (omega arith, omega arith, omega arith) (omega arith) ns.6 sp.4 _ j.middle _ inside) j.onward in
+        (know body (span_of body).from (span_of body).to (omega arith, omega arith, omega arith) (omega arith) ns.6 sp.4 _ j.middle _ inside) j.onward in
         let r = between (span_of high).to (span_of body).to in
         let shown = S.both r (S.behind r _ (fact.Variable x told.Int (span_of body) ∷ []) ((omega arith, omega arith), tt))
-            (S.behind r _ (fact.Loop s.from (span_of body) ∷ []) tt) in
+        (S.behind r _ (fact.Loop s.from (span_of body) ∷ []) tt) in
         let added = S.both r (S.both r shown (S.adds r g.text g.at body (omega arith, omega arith) ns.6 _)) (S.weighed_adds r g.text g.at body Valueless _) in
         let out = W.back g (span_of body).to (span_of body).to j.part.went.agrees (omega arith) (omega arith) added (W.chain g inner k.part.went) in
         W.finish g (For s x low high body) s.to none_type t (W.chain g i.part.went (W.chain g j.part.went out)) (omega arith) (λ H l. refl) k.onward
@@ -203,7 +197,7 @@ module _ (g : Setting) where
         }
     know (Seq s es) p q w z ns sp scope n F a t m h =
         let last = know_last none_type es s.from s.to q (omega arith) z ns sp.1 scope n F
-            (narrower g.names g.text p q s.from q _ _ _ a (omega arith) (omega arith)) t m h in
+        (narrower g.names g.text p q s.from q _ _ _ a (omega arith) (omega arith)) t m h in
         record { went = last.went; told = λ H r. block_told es g.text H t (last.told H r) }
 
     pub know_place : (v : LValue) (o p to q : ℕ) → o ≤ p → to ≤ q → q ≤ g.end → PlaceNests p to v → ThroughPlace Spelt AnyByte v → (scope : Scope) (n : Noted)
@@ -245,11 +239,11 @@ module _ (g : Setting) where
         let here = λ (H : List Fact) (d : AddsWithin (between (span_of e).from g.end) _ H). place.told H d ∙ ap told_type r.1 in
         let went = W.reshape g (ap (λ (y : Noted). y.shapes) r.3) (A.index g v r.0 (here _ (S.same (between (span_of e).from g.end) _)) place.went) in
         let y = W.fitting g _ int_type (Fits told.Int) refl
-            (know e (span_of e).from q (omega arith, omega arith, omega arith) z ns.2 sp.1 scope l.between _ went.agrees) l.onward in
+        (know e (span_of e).from q (omega arith, omega arith, omega arith) z ns.2 sp.1 scope l.between _ went.agrees) l.onward in
         let d = given _ _ _ _ y.onward in
         let s = between (span_of e).from g.end in
         let added = S.both s (S.both s (S.indexed_adds s g.text g.at v _) (S.adds s g.text g.at e (omega arith, omega arith) ns.2 _))
-            (S.weighed_adds s g.text g.at e (Fits told.Int) _) in
+        (S.weighed_adds s g.text g.at e (Fits told.Int) _) in
         let up : (span_of e).from ≤ to = omega arith in
         let shapes = ap (λ (y : Noted). looked_up r.0 y.shapes) r.3 ∙ r.2 in
         record {
@@ -275,7 +269,7 @@ module _ (g : Setting) where
         let added = S.both s w (S.adds s g.text g.at e (omega arith, omega arith) ns.1 G) in
         let k = W.fitting g _ t _ (ap Fits (sym (params _ added).0)) (know e p q (omega arith, omega arith, omega arith) z ns.1 sp.0 scope n G a) h in
         let more = know_args f (suc index) rest ts o (span_of e).to to q (omega arith) j z ns.2 sp.1 (let y : expression_count rest ≡ length ts = cc in y) scope
-            k.middle F _ (S.both s added (S.weighed_adds s g.text g.at e _ _)) (λ H d. (params H d).1) k.part.went.agrees x m k.onward in
+        k.middle F _ (S.both s added (S.weighed_adds s g.text g.at e _ _)) (λ H d. (params H d).1) k.part.went.agrees x m k.onward in
         W.chain g k.part.went more
 
     pub know_inits : (x : Ident) (byte : ℕ) (is : Inits) (fs : List (ℕ × Ty)) (o p to q : ℕ) → o ≤ p → to ≤ q → q ≤ g.end → InitsNest p to is →
@@ -295,7 +289,7 @@ module _ (g : Setting) where
         let type = ap (λ u. field_type g.text later u f) (naming later added) ∙ all.0 f (eqb-true _ _ match.0) later added in
         let k = W.fitting g _ field.1 _ (ap Fits (sym type)) (know e p q (omega arith, omega arith, omega arith) z ns.2 sp.1 scope n _ note.agrees) h in
         let more = know_inits x byte rest fs o (span_of e).to to q (omega arith) j z ns.3 sp.2 match.1 scope k.middle F _
-            (S.both s added (S.weighed_adds s g.text g.at e _ _)) naming all.1 k.part.went.agrees y m k.onward in
+        (S.both s added (S.weighed_adds s g.text g.at e _ _)) naming all.1 k.part.went.agrees y m k.onward in
         W.chain g note (W.chain g k.part.went more)
 
     pub know_last : (u : Ty) (es : Exps) (p to q : ℕ) → to ≤ q → q ≤ g.end → ExpsNest p to es → ThroughExps Spelt AnyByte es → (scope : Scope) (n : Noted)
@@ -343,7 +337,7 @@ module _ (g : Setting) where
         let type = A.named g (span_of e).from kind j.value a sp.1 (omega arith) (omega arith) (omega arith) j.first _ added in
         let start = W.reshape g (ap (λ (y : Noted). y.shapes) (presented _ _ _ _ _ _ j.first).1) (W.start g a) in
         let k = W.fitting g _ j.value _ (ap Fits (sym type)) (know e p end (omega arith, omega arith, omega arith) z ns.3 sp.2 scope j.between F start.agrees)
-            j.onward in
+        j.onward in
         let went = A.value_declared g end _ x kind e j.value type k.part.went in
         W.chain g went
         (know_decs rest (span_of e).to next end i z ns.4 sp.3 (binding x (variable_at (at_of x) j.value false) scope) k.middle _ went.agrees inner m k.onward)
@@ -360,7 +354,7 @@ module _ (g : Setting) where
         let types_same : scope.types ≡ (with_functions fs k.value scope).types = sym (with_functions_types fs k.value scope) in
         let started = W.arrive g hd.1 (W.headers_quiet g.breach g.text fs (between (functions_start fs) end) F) in
         let all = know_bodies fs k.value (first_from p fs) ns.0 end (omega arith) z first sp.0 (in_no_loop (with_functions fs k.value scope)) k.between _ inside
-            (subst (λ u. Headed u fs k.value) types_same hd.0) l.value l.between l.first in
+        (subst (λ u. Headed u fs k.value) types_same hd.0) l.value l.between l.first in
         let added = S.bodies_add (between (first_from p fs) ns.0) g.text g.at fs (first_from p fs) ns.0 (omega arith) (omega arith) first _ in
         let out = W.back g ns.0 end hd.1 order (omega arith) added all in
         W.chain g started
@@ -378,6 +372,6 @@ module _ (g : Setting) where
         let u = functions_order rest (span_of body).to next ns.6 in
         let o = A.opening g f ps r body rest s p next end scope n F i ns sp a hd.0 hd.1 in
         let one = know body (span_of body).from (span_of body).to (omega arith, omega arith, omega arith) (omega arith) ns.5 sp.3
-            (with_params ps s.params scope) n _ o.went.agrees j.value j.between j.first in
+        (with_params ps s.params scope) n _ o.went.agrees j.value j.between j.first in
         let out = A.closing g f ps r body rest s p next end scope n j.between k.between F j.value k.value i z ns a o one k.first in
         W.chain g out (know_bodies rest ss (span_of body).to next end i z ns.6 sp.4 scope k.between _ out.agrees hd.2 x m k.onward)

@@ -1,5 +1,5 @@
 -- What typing asks of a part with no fault before is the first that is found broken among the facts: by induction over the question.
-use Rattle.std.proofs.Common.{◌≡◌, ℕ, suc, ◌<◌, ◌≤◌, List, [], ◌∷◌, ◌++◌, Option, Some, None, Bool, true, false, refl, sym, ap, ◌∙◌, subst, arith, eq-eqb}
+use Rattle.std.proofs.Common.{◌≡◌, ℕ, suc, ◌≤◌, List, [], ◌∷◌, ◌++◌, Option, Some, None, Bool, true, false, refl, sym, ap, ◌∙◌, subst, arith, eq-eqb}
 use Rattle.std.proofs.lemmas.Bool.{eqb-true}
 use Rattle.std.specs.Prelude.{◌==◌, if◌then◌else◌}
 use Rattle.tg_syntax.specs.declared.tokens.Ident.{Ident}
@@ -12,8 +12,8 @@ use Rattle.tg_syntax.specs.NamesWithin.{AnyByte}
 use Rattle.tg_semantics.specs.Environments.{name_of}
 use Rattle.tg_typecheck.specs.Types as typing
 use Rattle.tg_typecheck.specs.Types.{int_type}
-use Rattle.tg_typecheck.specs.Checks.{Noted, fine}
-use Rattle.tg_typecheck.specs.Scopes.{Signature, variable_at, Scope, at_of, binding, in_a_loop, in_no_loop}
+use Rattle.tg_typecheck.specs.Checks.{Noted}
+use Rattle.tg_typecheck.specs.Scopes.{Signature, Scope, at_of, in_no_loop}
 use Rattle.tg_typecheck.specs.Groups.{with_functions, with_params}
 use Rattle.tg_typecheck.specs.Typing.{start_of, are_fields}
 use Rattle.tg_typecheck.proofs.Inversion.{presented, element_got}
@@ -27,7 +27,7 @@ use Rattle.tg_explain_typing.specs.declared.finding.Breach.{Breach}
 use Rattle.tg_explain_typing.specs.declared.finding.Breach.TheVariants.{Mismatch, NoRecord, NoArray, NoValue, BareNil}
 use Rattle.tg_explain_typing.specs.declared.finding.Judgement.{Judgement}
 use Rattle.tg_explain_typing.specs.Facts.{between, judged, weighed, left_demand, right_demand, is_equality, compared, exp_facts, place_facts, exps_facts}
-use Rattle.tg_explain_typing.specs.Facts.{args_facts, inits_facts, decs_facts, bodies_facts, headers_facts, types_start, functions_start, opened_facts}
+use Rattle.tg_explain_typing.specs.Facts.{args_facts, inits_facts, decs_facts, bodies_facts, types_start, functions_start}
 use Rattle.tg_explain_typing.specs.Facts.{repeated, assigned, chosen, passed, given, outcome, ended, declared}
 use Rattle.tg_explain_typing.specs.Finding.{breaks, first_broken}
 use Rattle.tg_explain_typing.specs.Synthesis.{exp_type}
@@ -38,7 +38,7 @@ use Rattle.tg_explain_laws.specs.Nested.{Within, Nests, PlaceNests, ExpsNest, In
 use Rattle.tg_explain_laws.specs.laws.Seen.{AddsWithin}
 use Rattle.tg_explain_laws.specs.Asking as Q
 use Rattle.tg_explain_laws.specs.Asking.{Asks, AsksOf, AsksPlace, AsksAll, AsksFields, AsksEach, AsksDecs, AsksBodies}
-use Rattle.tg_explain_laws.proofs.Orders.{params_order, kind_order, types_order, exps_order, functions_order, decs_order}
+use Rattle.tg_explain_laws.proofs.Orders.{exps_order, functions_order, decs_order}
 use Rattle.tg_explain_laws.proofs.Growing as R
 use Rattle.tg_explain_laws.proofs.Growing.{Grows, found_among}
 use Rattle.tg_explain_laws.proofs.Seen as S
@@ -154,16 +154,17 @@ module _ (g : Setting) (j : Judgement) (broken : breaks g.breach j.demand j.got 
       let left = exp_type g.text G x in
       let right = exp_type g.text G y in
       let holds : breaks g.breach (right_demand op left) right ≡ false =
-          subst (λ d. breaks g.breach d right ≡ false) (sym (equality_likes op left equates)) (like_holds g.breach _ _ left right nil) in
+      subst (λ d. breaks g.breach d right ≡ false) (sym (equality_likes op left equates)) (like_holds g.breach _ _ left right nil) in
       let all = judged g.at (span_of y).from (right_demand op left) right G in
       let is_all : j ≡ judgement (BesideNil left) right = is.1 ∙ ap (λ z. judgement (BesideNil (told_type z)) (told_type u)) (sym same)
-          ∙ ap (λ z. judgement (BesideNil z) (told_type u)) (sym one) ∙ ap (λ z. judgement (BesideNil left) z) (sym other) in
+      ∙ ap (λ z. judgement (BesideNil z) (told_type u)) (sym one) ∙ ap (λ z. judgement (BesideNil left) z) (sym other) in
       ap (λ (c : Bool). first_broken g.breach (if c then judged g.at whole (BesideNil left) right all else all)) equates
       ∙ found_judged g.breach g.at whole (BesideNil left) right all j is.0 is_all broken
       (quiet_judged g.breach g.at (span_of y).from (right_demand op left) right G holds clear)
 
   mutual
     unfolding repeated assigned chosen passed given declared ended
+
     find : {e : Exp} {scope : Scope} {n : Noted} → Asks g.at j e scope n → (p q : ℕ) → Within p q (span_of e) → q ≤ g.end → Nests e →
         Throughout Spelt AnyByte e → (F : List Fact) → Agree p q F scope n → Clear F → Found (exp_facts g.text g.at e F)
     find (Q.read {s = s} {v = v} i) p q w z ns sp F a c = find_place i p s.from s.to q (omega arith) (omega arith) z ns sp.1 F a c
@@ -179,7 +180,7 @@ module _ (g : Setting) (j : Judgement) (broken : breaks g.breach j.demand j.got 
     find (Q.right {s = s} {op = op} {o = o} {a = x} {b = y} {scope = scope} {n = n} {m = m} {k = k} t l is lis i) p q w z ns sp F a c =
         let left = U.left_side_fine g.tests g.breach op t l o _ _ _ lis in
         let one = W.weigh g (left_demand op) left.unbroken
-            (W.recall g left.shapes (know g x p q (omega arith, omega arith, omega arith) z ns.2 sp.2 scope n F a t m is)) in
+        (W.recall g left.shapes (know g x p q (omega arith, omega arith, omega arith) z ns.2 sp.2 scope n F a t m is)) in
         let added = S.adds (between (span_of x).to g.end) g.text g.at y (omega arith, omega arith) ns.3 _ in
         compared_found s.from op x y _
         (find_of i (span_of x).to q (omega arith, omega arith, omega arith) z ns.3 sp.3 _ one.went.agrees _
@@ -188,7 +189,7 @@ module _ (g : Setting) (j : Judgement) (broken : breaks g.breach j.demand j.got 
         sp F a c =
         let left = U.left_side_fine g.tests g.breach op t l o _ _ _ lis in
         let one = W.weigh g (left_demand op) left.unbroken
-            (W.recall g left.shapes (know g x p q (omega arith, omega arith, omega arith) z ns.2 sp.2 scope n F a t m is)) in
+        (W.recall g left.shapes (know g x p q (omega arith, omega arith, omega arith) z ns.2 sp.2 scope n F a t m is)) in
         let other = know g y (span_of x).to q (omega arith, omega arith, omega arith) z ns.3 sp.3 scope k _ one.went.agrees u i uis in
         let added = S.adds (between (span_of x).to g.end) g.text g.at y (omega arith, omega arith) ns.3 _ in
         beside_found s.from op x y t l u _ (one.told _ added) (W.now g other) (left.beside equates) equates asked (other.went.quiet (one.went.quiet c))
@@ -202,10 +203,10 @@ module _ (g : Setting) (j : Judgement) (broken : breaks g.breach j.demand j.got 
     find (Q.element {s = s} {x = x} {size = size} {value = value} {scope = scope} {n = n} {m = m} {k = k} t u is eis fit i) p q w z ns sp F a c =
         let o = A.filling g x t u p q scope n m k F sp.1 (omega arith, omega arith, omega arith) a is eis in
         let y = W.fitted g _ int_type (Fits told.Int) refl
-            (know g size x.span.to q (omega arith, omega arith, omega arith) z ns.3 sp.2 scope k _ o.went.agrees) fit in
+        (know g size x.span.to q (omega arith, omega arith, omega arith) z ns.3 sp.2 scope k _ o.went.agrees) fit in
         let r = between x.span.to g.end in
         let sized = S.both r (S.both r o.began (S.adds r g.text g.at size (omega arith, omega arith) ns.3 _))
-            (S.weighed_adds r g.text g.at size (Fits told.Int) _) in
+        (S.weighed_adds r g.text g.at size (Fits told.Int) _) in
         let added = S.both r sized (S.adds r g.text g.at value (omega arith, omega arith) ns.4 _) in
         find_of i (span_of size).to q (omega arith, omega arith, omega arith) z ns.4 sp.3 _ y.part.went.agrees _ (ap Fits (sym (o.told _ added)))
         (y.part.went.quiet (o.went.quiet c))
@@ -265,9 +266,9 @@ module _ (g : Setting) (j : Judgement) (broken : breaks g.breach j.demand j.got 
     find (Q.for_body {s = s} {x = x} {l = low} {h = high} {a = body} {scope = scope} {n = n} {m = m} fit fit' i) p q w z ns sp F a c =
         let k = W.fitted g _ int_type (Fits told.Int) refl (know g low p q (omega arith, omega arith, omega arith) z ns.4 sp.2 scope n F a) fit in
         let l = W.fitted g _ int_type (Fits told.Int) refl
-            (know g high (span_of low).to q (omega arith, omega arith, omega arith) z ns.5 sp.3 scope m _ k.part.went.agrees) fit' in
+        (know g high (span_of low).to q (omega arith, omega arith, omega arith) z ns.5 sp.3 scope m _ k.part.went.agrees) fit' in
         let inner = W.plain g (fact.Loop s.from (span_of body)) tt refl
-            (W.declare_variable g (span_of body).from (span_of body).to x (at_of x) int_type true told.Int refl l.part.went (omega arith) (omega arith)) in
+        (W.declare_variable g (span_of body).from (span_of body).to x (at_of x) int_type true told.Int refl l.part.went (omega arith) (omega arith)) in
         find_of i (span_of body).from (span_of body).to (omega arith, omega arith, omega arith) (omega arith) ns.6 sp.4 _
         (looping g.names g.text _ _ _ _ _ inner.agrees) Valueless refl (inner.quiet (k.part.went.quiet c))
     find (Q.declared {s = s} {ds = ds} {es = es} {n = n} i) p q w z ns sp F a c =
@@ -414,7 +415,7 @@ module _ (g : Setting) (j : Judgement) (broken : breaks g.breach j.demand j.got 
         let order = functions_order fs (first_from p fs) ns.0 first in
         let types_same : scope.types ≡ (with_functions fs ss scope).types = sym (with_functions_types fs ss scope) in
         let all = know_bodies g fs ss (first_from p fs) ns.0 end (omega arith) z first sp.0 (in_no_loop (with_functions fs ss scope)) k _
-            (not_looping g.names g.text _ _ _ _ _ hd.1) (subst (λ u. Headed u fs ss) types_same hd.0) tt b bis in
+        (not_looping g.names g.text _ _ _ _ _ hd.1) (subst (λ u. Headed u fs ss) types_same hd.0) tt b bis in
         let added = S.bodies_add (between (first_from p fs) ns.0) g.text g.at fs (first_from p fs) ns.0 (omega arith) (omega arith) first _ in
         let out = W.back g ns.0 end hd.1 order (omega arith) added all in
         find_decs i ns.0 next end r z ns.2 sp.1 _ out.agrees (out.quiet (W.headers_quiet g.breach g.text fs (between (functions_start fs) end) F c))
@@ -427,7 +428,7 @@ module _ (g : Setting) (j : Judgement) (broken : breaks g.breach j.demand j.got 
         let o = A.opening g f ps t body rest s p next end scope n F r ns sp a hd.0 hd.1 in
         let d = between (span_of body).from g.end in
         let shown = S.both d (S.opened_adds d g.text f ps (span_of body) F (omega arith, omega arith))
-            (S.adds d g.text g.at body (omega arith, omega arith) ns.5 _) in
+        (S.adds d g.text g.at body (omega arith, omega arith) ns.5 _) in
         stays (R.bodies_grow g.text g.at rest _)
         (find_of i (span_of body).from (span_of body).to (omega arith, omega arith, omega arith) (omega arith) ns.5 sp.3 _ o.went.agrees _
         (outcome_same g.text t s.result _ (λ y e. o.kind y e _ shown)) (o.went.quiet c))
@@ -436,7 +437,7 @@ module _ (g : Setting) (j : Judgement) (broken : breaks g.breach j.demand j.got 
         let u = functions_order rest (span_of body).to next ns.6 in
         let o = A.opening g f ps q body rest s p next end scope n F r ns sp a hd.0 hd.1 in
         let one = know g body (span_of body).from (span_of body).to (omega arith, omega arith, omega arith) (omega arith) ns.5 sp.3
-            (with_params ps s.params scope) n _ o.went.agrees t m is in
+        (with_params ps s.params scope) n _ o.went.agrees t m is in
         let out = A.closing g f ps q body rest s p next end scope n m k F t tt r z ns a o one fis in
         find_bodies i (span_of body).to next end r z ns.6 sp.4 _ out.agrees hd.2 (out.quiet c)
 

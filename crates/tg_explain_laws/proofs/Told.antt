@@ -84,6 +84,6 @@ told_types_are_asked tests names text tokens program rule breach at lexed parsed
     let up : stands.0 ≤ stands.0 = omega arith in
     let setting : Setting = record { names = names; text = text; at = at; end = stands.0; tests = tests; breach = breach } in
     let first = asked_is_found setting asked.judgement asked.broken asked.asked 0 stands.0 stands.1 up
-        (spans_nest names text tokens program lexed parsed) (program_spelled names text tokens program lexed parsed) []
-        (outermost_agrees names text tokens stands.0 lexed) refl in
+    (spans_nest names text tokens program lexed parsed) (program_spelled names text tokens program lexed parsed) []
+    (outermost_agrees names text tokens stands.0 lexed) refl in
     record { fault = asked; first = first; told = told_of text program rule breach at tells ∙ ap judged first }

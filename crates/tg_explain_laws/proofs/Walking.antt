@@ -1,5 +1,5 @@
 -- Going on along the text: what is judged where nothing is at fault isn't broken, and lookups still agree with typing.
-use Rattle.std.proofs.Common.{◌≡◌, ℕ, suc, ◌≤◌, List, [], ◌∷◌, ◌++◌, Option, Some, None, Bool, true, false, refl, sym, ap, ◌∙◌, subst, append_assoc, append-nil}
+use Rattle.std.proofs.Common.{◌≡◌, ℕ, suc, ◌≤◌, List, [], ◌∷◌, ◌++◌, Option, Some, None, Bool, true, false, refl, sym, ap, ◌∙◌, subst}
 use Rattle.std.proofs.Common.{arith}
 use Rattle.std.specs.Prelude.{◌==◌, if◌then◌else◌, map}
 use Rattle.tg_base.specs.declared.ids.Span.{Span}
@@ -9,7 +9,7 @@ use Rattle.tg_syntax.specs.declared.trees.Op.{Op}
 use Rattle.tg_syntax.specs.Spans.{span_of}
 use Rattle.tg_syntax.specs.Tree.{Form, Alias, Fields, Array, TypeDec, Exp, FunDecs, no_functions, function, Exps, no_exps, exp}
 use Rattle.tg_typecheck.specs.Types as typing
-use Rattle.tg_typecheck.specs.Checks.{Noted, CheckResult, fine, Check, ◌>>=◌, give}
+use Rattle.tg_typecheck.specs.Checks.{Noted, fine, Check, ◌>>=◌, give}
 use Rattle.tg_typecheck.specs.Scopes.{Scope, variable_at, binding}
 use Rattle.tg_typecheck.specs.Typing.{start_of, typed, expect, expect_none}
 use Rattle.tg_typecheck.proofs.Inversion.{steps, given}
@@ -27,7 +27,7 @@ use Rattle.tg_explain_typing.specs.Facts.{headers_facts, variables_facts, opened
 use Rattle.tg_explain_typing.specs.Finding.{breaks, first_broken}
 use Rattle.tg_explain_typing.specs.Synthesis.{exp_type, last_type}
 use Rattle.tg_explain_types.specs.laws.Types.{told_type, TestsAgree}
-use Rattle.tg_explain_laws.proofs.Agreeing.{Agrees, ShapesAgree}
+use Rattle.tg_explain_laws.proofs.Agreeing.{Agrees}
 use Rattle.tg_explain_laws.specs.laws.Seen.{SeenWithin, AddsWithin}
 use Rattle.tg_explain_laws.proofs.Seen as S
 use Rattle.tg_explain_laws.proofs.Unbroken as U

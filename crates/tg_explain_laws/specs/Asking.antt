@@ -1,6 +1,6 @@
 -- What typing asks of the types in a program: the types that a fault of types is about. With no
 -- fault found before, and with these noted before, it is asked of a part that begins at a byte.
-use Rattle.std.specs.Prelude.{ℕ, ◌≡◌, ◌==◌, List, [], ◌∷◌, length, Option, Some, None, Bool, true}
+use Rattle.std.specs.Prelude.{ℕ, ◌≡◌, ◌==◌, List, [], ◌∷◌, length, Option, Some, None, true}
 use Rattle.std.specs.Prelude.{false}
 use Rattle.tg_base.specs.declared.ids.Span.{Span}
 use Rattle.tg_syntax.specs.declared.tokens.Ident.{Ident}

@@ -6,6 +6,4 @@
 
 mod laws;
 
-pub use laws::{
-    declared_within, faults_are_asked, first_stays, spans_nest, told_types_are_asked,
-};
+pub use laws::{declared_within, faults_are_asked, first_stays, spans_nest, told_types_are_asked};
