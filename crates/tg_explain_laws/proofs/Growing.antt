@@ -21,111 +21,111 @@ use Rattle.tg_explain_typing.specs.Facts.{passed, given, ended, declared, type_f
 use Rattle.tg_explain_typing.specs.Facts.{variables_facts, opened_facts, exp_facts, place_facts, exps_facts, args_facts, inits_facts, decs_facts}
 use Rattle.tg_explain_typing.specs.Facts.{bodies_facts, types_start, functions_start}
 
-record Grows (before after : List Fact) : Type 0 where
-  more : List Fact
-  is : after ≡ before ++ more
+pub record Grows (before after : List Fact) : Type 0 where
+  pub more : List Fact
+  pub is : after ≡ before ++ more
 
-same : (before : List Fact) → Grows before before
+pub same : (before : List Fact) → Grows before before
 same before = record { more = []; is = sym (append-nil before) }
 
-behind : (before more : List Fact) → Grows before (before ++ more)
+pub behind : (before more : List Fact) → Grows before (before ++ more)
 behind before more = record { more = more; is = refl }
 
-both : {a b c : List Fact} → Grows a b → Grows b c → Grows a c
+pub both : {a b c : List Fact} → Grows a b → Grows b c → Grows a c
 both g h = record { more = g.more ++ h.more; is = h.is ∙ ap (λ l. l ++ h.more) g.is ∙ simp append_assoc }
 
-chosen_of : (b : Bool) (before one other : List Fact) → Grows before one → Grows before other → Grows before (if b then one else other)
+pub chosen_of : (b : Bool) (before one other : List Fact) → Grows before one → Grows before other → Grows before (if b then one else other)
 chosen_of true before one other g h = g
 chosen_of false before one other g h = h
 
-judged_grows : (at start : ℕ) (d : Demand) (t : Ty) (before : List Fact) → Grows before (judged at start d t before)
+pub judged_grows : (at start : ℕ) (d : Demand) (t : Ty) (before : List Fact) → Grows before (judged at start d t before)
 judged_grows at start d t before = chosen_of (start == at) before (before ++ fact.Judged d t ∷ []) before (behind before _) (same before)
 
-weighed_grows : (text : List ℕ) (at : ℕ) (e : Exp) (d : Demand) (before : List Fact) → Grows before (weighed text at e d before)
+pub weighed_grows : (text : List ℕ) (at : ℕ) (e : Exp) (d : Demand) (before : List Fact) → Grows before (weighed text at e d before)
 unfolding weighed
 weighed_grows text at e d before = judged_grows at _ d _ before
 
-compared_grows : (text : List ℕ) (at whole : ℕ) (op : Op) (a b : Exp) (before : List Fact) → Grows before (compared text at whole op a b before)
+pub compared_grows : (text : List ℕ) (at whole : ℕ) (op : Op) (a b : Exp) (before : List Fact) → Grows before (compared text at whole op a b before)
 unfolding compared
 compared_grows text at whole op a b before =
     chosen_of (is_equality op) before _ _ (both (weighed_grows text at b _ before) (judged_grows at whole _ _ _)) (weighed_grows text at b _ before)
 
-made_grows : (text : List ℕ) (at : ℕ) (x : Ident) (before : List Fact) → Grows before (made text at x before)
+pub made_grows : (text : List ℕ) (at : ℕ) (x : Ident) (before : List Fact) → Grows before (made text at x before)
 unfolding made
 made_grows text at x before = judged_grows at _ _ _ before
 
-filled_grows : (text : List ℕ) (at : ℕ) (x : Ident) (before : List Fact) → Grows before (filled text at x before)
+pub filled_grows : (text : List ℕ) (at : ℕ) (x : Ident) (before : List Fact) → Grows before (filled text at x before)
 unfolding filled
 filled_grows text at x before = judged_grows at _ _ _ before
 
-repeated_grows : (text : List ℕ) (at : ℕ) (x : Ident) (e : Exp) (before : List Fact) → Grows before (repeated text at x e before)
+pub repeated_grows : (text : List ℕ) (at : ℕ) (x : Ident) (e : Exp) (before : List Fact) → Grows before (repeated text at x e before)
 unfolding repeated
 repeated_grows text at x e before = weighed_grows text at e _ before
 
-assigned_grows : (text : List ℕ) (at : ℕ) (v : LValue) (e : Exp) (before : List Fact) → Grows before (assigned text at v e before)
+pub assigned_grows : (text : List ℕ) (at : ℕ) (v : LValue) (e : Exp) (before : List Fact) → Grows before (assigned text at v e before)
 unfolding assigned
 assigned_grows text at v e before = weighed_grows text at e _ before
 
-chosen_grows : (text : List ℕ) (at : ℕ) (a b : Exp) (before : List Fact) → Grows before (chosen text at a b before)
+pub chosen_grows : (text : List ℕ) (at : ℕ) (a b : Exp) (before : List Fact) → Grows before (chosen text at a b before)
 unfolding chosen
 chosen_grows text at a b before = weighed_grows text at b _ before
 
-selected_grows : (text : List ℕ) (at : ℕ) (v : LValue) (f : Ident) (before : List Fact) → Grows before (selected text at v f before)
+pub selected_grows : (text : List ℕ) (at : ℕ) (v : LValue) (f : Ident) (before : List Fact) → Grows before (selected text at v f before)
 unfolding selected
 selected_grows text at v f before = both (judged_grows at _ _ _ before) (judged_grows at _ _ _ _)
 
-indexed_grows : (text : List ℕ) (at : ℕ) (v : LValue) (before : List Fact) → Grows before (indexed text at v before)
+pub indexed_grows : (text : List ℕ) (at : ℕ) (v : LValue) (before : List Fact) → Grows before (indexed text at v before)
 unfolding indexed
 indexed_grows text at v before = judged_grows at _ _ _ before
 
-passed_grows : (text : List ℕ) (at : ℕ) (f : Ident) (index : ℕ) (e : Exp) (before : List Fact) → Grows before (passed text at f index e before)
+pub passed_grows : (text : List ℕ) (at : ℕ) (f : Ident) (index : ℕ) (e : Exp) (before : List Fact) → Grows before (passed text at f index e before)
 unfolding passed
 passed_grows text at f index e before = weighed_grows text at e _ before
 
-given_grows : (text : List ℕ) (at : ℕ) (x f : Ident) (e : Exp) (before : List Fact) → Grows before (given text at x f e before)
+pub given_grows : (text : List ℕ) (at : ℕ) (x f : Ident) (e : Exp) (before : List Fact) → Grows before (given text at x f e before)
 unfolding given
 given_grows text at x f e before = weighed_grows text at e _ before
 
-ended_grows : (text : List ℕ) (at : ℕ) (r : Option Ident) (e : Exp) (before : List Fact) → Grows before (ended text at r e before)
+pub ended_grows : (text : List ℕ) (at : ℕ) (r : Option Ident) (e : Exp) (before : List Fact) → Grows before (ended text at r e before)
 unfolding ended
 ended_grows text at r e before = weighed_grows text at e _ before
 
-declared_grows : (text : List ℕ) (at : ℕ) (x : Ident) (kind : Option Ident) (e : Exp) (end : ℕ) (before : List Fact) →
+pub declared_grows : (text : List ℕ) (at : ℕ) (x : Ident) (kind : Option Ident) (e : Exp) (end : ℕ) (before : List Fact) →
     Grows before (declared text at x kind e end before)
 unfolding declared
 declared_grows text at x None e end before = both (weighed_grows text at e _ before) (behind _ _)
 declared_grows text at x (Some kind) e end before = both (weighed_grows text at e _ before) (behind _ _)
 
-form_grows : (name : Ident) (f : Form) (seen : Span) (before : List Fact) → Grows before (type_facts (record { name = name; form = f }) seen before)
+pub form_grows : (name : Ident) (f : Form) (seen : Span) (before : List Fact) → Grows before (type_facts (record { name = name; form = f }) seen before)
 unfolding type_facts
 form_grows name (Alias x) seen before = behind before _
 form_grows name (Fields ps) seen before = both (behind before _) (behind _ _)
 form_grows name (Array x) seen before = both (behind before _) (behind _ _)
 
-types_grow : (ds : List TypeDec) (seen : Span) (before : List Fact) → Grows before (types_facts ds seen before)
+pub types_grow : (ds : List TypeDec) (seen : Span) (before : List Fact) → Grows before (types_facts ds seen before)
 types_grow [] seen before = same before
 types_grow (d ∷ ds) seen before = both (form_grows d.name d.form seen before) (types_grow ds seen _)
 
-params_grow : (text : List ℕ) (f : Ident) (index : ℕ) (ps : List Param) (seen : Span) (before : List Fact) →
+pub params_grow : (text : List ℕ) (f : Ident) (index : ℕ) (ps : List Param) (seen : Span) (before : List Fact) →
     Grows before (params_facts text f index ps seen before)
 params_grow text f index [] seen before = same before
 params_grow text f index (p ∷ ps) seen before = both (behind before _) (params_grow text f (suc index) ps seen _)
 
-headers_grow : (text : List ℕ) (fs : FunDecs) (seen : Span) (before : List Fact) → Grows before (headers_facts text fs seen before)
+pub headers_grow : (text : List ℕ) (fs : FunDecs) (seen : Span) (before : List Fact) → Grows before (headers_facts text fs seen before)
 unfolding header_facts
 headers_grow text no_functions seen before = same before
 headers_grow text (function f ps r b rest) seen before = both (both (behind before _) (params_grow text f 0 ps seen _)) (headers_grow text rest seen _)
 
-variables_grow : (text : List ℕ) (ps : List Param) (seen : Span) (before : List Fact) → Grows before (variables_facts text ps seen before)
+pub variables_grow : (text : List ℕ) (ps : List Param) (seen : Span) (before : List Fact) → Grows before (variables_facts text ps seen before)
 variables_grow text [] seen before = same before
 variables_grow text (p ∷ ps) seen before = both (behind before _) (variables_grow text ps seen _)
 
-opened_grows : (text : List ℕ) (f : Ident) (ps : List Param) (seen : Span) (before : List Fact) → Grows before (opened_facts text f ps seen before)
+pub opened_grows : (text : List ℕ) (f : Ident) (ps : List Param) (seen : Span) (before : List Fact) → Grows before (opened_facts text f ps seen before)
 unfolding opened_facts
 opened_grows text f ps seen before = both (behind before _) (variables_grow text ps seen _)
 
 mutual
-  exp_grows : (text : List ℕ) (at : ℕ) (e : Exp) (before : List Fact) → Grows before (exp_facts text at e before)
+  pub exp_grows : (text : List ℕ) (at : ℕ) (e : Exp) (before : List Fact) → Grows before (exp_facts text at e before)
   exp_grows text at (Nil s) before = same before
   exp_grows text at (Break s) before = same before
   exp_grows text at (Int s n) before = same before
@@ -153,27 +153,27 @@ mutual
   exp_grows text at (Let s ds es) before = both (decs_grow text at ds s.to before) (exps_grow text at es _)
   exp_grows text at (Seq s es) before = exps_grow text at es before
 
-  place_grows : (text : List ℕ) (at : ℕ) (v : LValue) (before : List Fact) → Grows before (place_facts text at v before)
+  pub place_grows : (text : List ℕ) (at : ℕ) (v : LValue) (before : List Fact) → Grows before (place_facts text at v before)
   place_grows text at (Simple x) before = same before
   place_grows text at (Field v f) before = both (place_grows text at v before) (selected_grows text at v f _)
   place_grows text at (Index v e) before =
       both (both (both (place_grows text at v before) (indexed_grows text at v _)) (exp_grows text at e _)) (weighed_grows text at e _ _)
 
-  exps_grow : (text : List ℕ) (at : ℕ) (es : Exps) (before : List Fact) → Grows before (exps_facts text at es before)
+  pub exps_grow : (text : List ℕ) (at : ℕ) (es : Exps) (before : List Fact) → Grows before (exps_facts text at es before)
   exps_grow text at no_exps before = same before
   exps_grow text at (exp e rest) before = both (exp_grows text at e before) (exps_grow text at rest _)
 
-  args_grow : (text : List ℕ) (at : ℕ) (f : Ident) (index : ℕ) (es : Exps) (before : List Fact) → Grows before (args_facts text at f index es before)
+  pub args_grow : (text : List ℕ) (at : ℕ) (f : Ident) (index : ℕ) (es : Exps) (before : List Fact) → Grows before (args_facts text at f index es before)
   args_grow text at f index no_exps before = same before
   args_grow text at f index (exp e rest) before =
       both (both (exp_grows text at e before) (passed_grows text at f index e _)) (args_grow text at f (suc index) rest _)
 
-  inits_grow : (text : List ℕ) (at : ℕ) (x : Ident) (is : Inits) (before : List Fact) → Grows before (inits_facts text at x is before)
+  pub inits_grow : (text : List ℕ) (at : ℕ) (x : Ident) (is : Inits) (before : List Fact) → Grows before (inits_facts text at x is before)
   inits_grow text at x no_inits before = same before
   inits_grow text at x (init f e rest) before =
       both (both (both (behind before _) (exp_grows text at e _)) (given_grows text at x f e _)) (inits_grow text at x rest _)
 
-  decs_grow : (text : List ℕ) (at : ℕ) (ds : Decs) (end : ℕ) (before : List Fact) → Grows before (decs_facts text at ds end before)
+  pub decs_grow : (text : List ℕ) (at : ℕ) (ds : Decs) (end : ℕ) (before : List Fact) → Grows before (decs_facts text at ds end before)
   decs_grow text at no_decs end before = same before
   decs_grow text at (types ds rest) end before = both (types_grow ds (between (types_start ds) end) before) (decs_grow text at rest end _)
   decs_grow text at (variable x kind e rest) end before =
@@ -181,18 +181,18 @@ mutual
   decs_grow text at (functions fs rest) end before =
       both (both (headers_grow text fs (between (functions_start fs) end) before) (bodies_grow text at fs _)) (decs_grow text at rest end _)
 
-  bodies_grow : (text : List ℕ) (at : ℕ) (fs : FunDecs) (before : List Fact) → Grows before (bodies_facts text at fs before)
+  pub bodies_grow : (text : List ℕ) (at : ℕ) (fs : FunDecs) (before : List Fact) → Grows before (bodies_facts text at fs before)
   bodies_grow text at no_functions before = same before
   bodies_grow text at (function f ps r body rest) before =
       both (both (both (opened_grows text f ps (span_of body) before) (exp_grows text at body _)) (ended_grows text at r body _)) (bodies_grow text at rest _)
 
 -- a judgement that is found is found among more
-if_found : (b : Bool) (j k : Judgement) (rest more : Option Judgement) → (if b then Some j else rest) ≡ Some k → (rest ≡ Some k → more ≡ Some k) →
+pub if_found : (b : Bool) (j k : Judgement) (rest more : Option Judgement) → (if b then Some j else rest) ≡ Some k → (rest ≡ Some k → more ≡ Some k) →
     (if b then Some j else more) ≡ Some k
 if_found true j k rest more h f = h
 if_found false j k rest more h f = f h
 
-found_among : (breach : Breach) (before more : List Fact) (j : Judgement) → first_broken breach before ≡ Some j → first_broken breach (before ++ more) ≡ Some j
+pub found_among : (breach : Breach) (before more : List Fact) (j : Judgement) → first_broken breach before ≡ Some j → first_broken breach (before ++ more) ≡ Some j
 found_among breach [] more j h = cc
 found_among breach (fact.Judged d t ∷ facts) more j h =
     if_found (breaks breach d t) (record { demand = d; got = t }) j (first_broken breach facts) (first_broken breach (facts ++ more)) h

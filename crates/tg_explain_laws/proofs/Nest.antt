@@ -427,3 +427,8 @@ mutual
 
 pub spans_nest : (names : List (List ℕ)) (text : List ℕ) (tokens : List Spanned) (e : Exp) → Lexes names 0 text tokens → IsProgram tokens e → Nests e
 spans_nest names text tokens e l (program {a} t r i) = (reads r 0 t.span.from (before_end a t 0 (tokens_stand l))).1
+
+-- a program's text is not empty, and it begins behind its start
+pub program_stands : (names : List (List ℕ)) (text : List ℕ) (tokens : List Spanned) (e : Exp) → Lexes names 0 text tokens → IsProgram tokens e →
+    (q : ℕ) × Within 0 q (span_of e)
+program_stands names text tokens e l (program {a} t r i) = (t.span.from, (reads r 0 t.span.from (before_end a t 0 (tokens_stand l))).0)

@@ -1,3 +1,5 @@
 pub mod Spans
 pub mod Seen
 pub mod First
+pub mod Asked
+pub mod Told
