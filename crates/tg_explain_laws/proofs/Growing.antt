@@ -192,7 +192,8 @@ pub if_found : (b : Bool) (j k : Judgement) (rest more : Option Judgement) → (
 if_found true j k rest more h f = h
 if_found false j k rest more h f = f h
 
-pub found_among : (breach : Breach) (before more : List Fact) (j : Judgement) → first_broken breach before ≡ Some j → first_broken breach (before ++ more) ≡ Some j
+pub found_among : (breach : Breach) (before more : List Fact) (j : Judgement) → first_broken breach before ≡ Some j →
+    first_broken breach (before ++ more) ≡ Some j
 found_among breach [] more j h = cc
 found_among breach (fact.Judged d t ∷ facts) more j h =
     if_found (breaks breach d t) (record { demand = d; got = t }) j (first_broken breach facts) (first_broken breach (facts ++ more)) h

@@ -54,7 +54,8 @@ module _ (s : Span) where
         seen = seen_both s g.more h.more g.seen h.seen;
       }
 
-  pub chosen_of : (b : Bool) (before one other : List Fact) → AddsWithin s before one → AddsWithin s before other → AddsWithin s before (if b then one else other)
+  pub chosen_of : (b : Bool) (before one other : List Fact) → AddsWithin s before one → AddsWithin s before other →
+      AddsWithin s before (if b then one else other)
   chosen_of true before one other g h = g
   chosen_of false before one other g h = h
 
@@ -132,7 +133,8 @@ module _ (s : Span) where
   params_add text f index [] seen before w = same before
   params_add text f index (p ∷ ps) seen before w = both (behind before _ (w, tt)) (params_add text f (suc index) ps seen _ w)
 
-  pub headers_add : (text : List ℕ) (fs : FunDecs) (seen : Span) (before : List Fact) → IsWithin s seen → AddsWithin s before (headers_facts text fs seen before)
+  pub headers_add : (text : List ℕ) (fs : FunDecs) (seen : Span) (before : List Fact) → IsWithin s seen →
+      AddsWithin s before (headers_facts text fs seen before)
   unfolding header_facts
   headers_add text no_functions seen before w = same before
   headers_add text (function f ps r b rest) seen before w =
