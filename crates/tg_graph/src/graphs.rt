@@ -27,8 +27,8 @@ ghost use Rattle.tg_graph.specs.Interference.{
   with_edge,
 };
 
-use crate::lists::{COLOURS, count_up, empty_lists, push_neighbours};
-use crate::matrices::{has_pair, pair_place, reach_pair, set_pair, tiles_for};
+use crate::lists::{COLOURS, count_up, empty_lists, push_neighbours, push_registers};
+use crate::matrices::{has_pair, pair_place, put_registers, reach_pair, registers_at, set_pair, tiles_for};
 use std::alloc::Global;
 use std::marker::Model;
 use tg_base::Memory;
@@ -104,6 +104,21 @@ impl Graph {
         count_up(&mut self.degrees, a);
         count_up(&mut self.degrees, b);
         set_pair(&mut self.pairs, at);
+        Ok(())
+    }
+
+    /// Joins a temporary to each register whose bit is 1: those of one node stand in one word. Where
+    /// they interfere already nothing changes.
+    pub fn join_registers(&mut self, node: u32, registers: u32) -> Result<(), Memory>
+        requires node { node < self.old.nodes }
+        requires temporary { colours ≤ node }
+    {
+        let at = pair_place(0, node);
+        reach_pair(&mut self.pairs, at)?;
+        let place = (node - COLOURS) as usize;
+        push_registers(&mut self.adjacent[place], registers, registers_at(&self.pairs, at))?;
+        self.degrees[place] = self.adjacent[place].len() as u32;
+        put_registers(&mut self.pairs, at, registers);
         Ok(())
     }
 

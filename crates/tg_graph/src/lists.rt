@@ -99,6 +99,20 @@ fn push_roomily(list: &mut Vec<u32>, number: u32) -> Result<(), Memory>
     Ok(())
 }
 
+/// Puts registers last in a list, in rising order, but for those that it has.
+pub(crate) fn push_registers(list: &mut Vec<u32>, registers: u32, had: u32) -> Result<(), Memory> {
+    let mut left = registers & !had;
+    if left == 0 {
+        return Ok(());
+    }
+    list.reserve(COLOURS as usize + ROOM)?;
+    while left != 0 {
+        list.push_reserved(left.trailing_zeros());
+        left &= left - 1;
+    }
+    Ok(())
+}
+
 #[cold]
 #[inline(never)]
 fn take_room(list: &mut Vec<u32>) -> Result<(), Memory>

@@ -89,3 +89,14 @@ pub(crate) fn set_pair(tiles: &mut Vec<Vec<u32>>, place: usize)
     let words = &mut tiles[place / AREA];
     set_bit(words, place % AREA);
 }
+
+/// The bits of a node's pairs with the first 32 nodes, of which the first's place is given.
+pub(crate) fn registers_at(tiles: &[Vec<u32>], place: usize) -> u32 {
+    tiles[place / AREA][place % AREA / 32]
+}
+
+/// Makes bits of these 1.
+pub(crate) fn put_registers(tiles: &mut Vec<Vec<u32>>, place: usize, registers: u32) {
+    let words = &mut tiles[place / AREA];
+    words[place % AREA / 32] |= registers;
+}

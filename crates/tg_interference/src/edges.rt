@@ -99,10 +99,23 @@ fn join_behind(
     match one {
         Instr::Call(_) => {
             let first = mark_crossing(alloc, live, crossed)?;
-            join_definitions(alloc, one, first.as_slice(), graph)
+            join_clobbered(first.as_slice(), graph)
         }
         _ => join_definitions(alloc, one, live, graph),
     }
+}
+
+// The nodes of the registers that a call may change.
+const CLOBBERED: u32 = 0x0100_ffff;
+
+// Joins what a call may change to what is live out of it.
+fn join_clobbered(live: &[Opnd], graph: &mut Graph) -> Result<(), Memory> {
+    for one in live {
+        if let Opnd::Temp(temp) = one {
+            graph.join_registers(COLOURS + temp.0, CLOBBERED)?;
+        }
+    }
+    Ok(())
 }
 
 // Joins what an instruction defines to what is live out of it.
