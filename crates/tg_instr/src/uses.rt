@@ -25,25 +25,35 @@ impl Instr {
     pub fn uses(&self, alloc: Global) -> SmallVec<Opnd, 24>
         ensures { result.items ≡ uses_of self.now }
     {
+        let mut list = SmallVec::new(alloc);
+        self.put_uses(&mut list);
+        list
+    }
+
+    /// The same, in a list that is kept from one instruction to the next.
+    pub fn put_uses(&self, list: &mut SmallVec<Opnd, 24>)
+        ensures { list.new.items ≡ uses_of self.now }
+    {
+        list.clear();
         match self {
-            Instr::Sll(_, rt, _) | Instr::Srl(_, rt, _) | Instr::Sra(_, rt, _) => one(alloc, *rt),
-            Instr::Mult(rs, rt) | Instr::Div(rs, rt) => two(alloc, *rs, *rt),
-            Instr::Add(_, rs, rt) | Instr::Sub(_, rs, rt) => two(alloc, *rs, *rt),
-            Instr::Addu(_, rs, rt) | Instr::Subu(_, rs, rt) => two(alloc, *rs, *rt),
-            Instr::And(_, rs, rt) | Instr::Or(_, rs, rt) => two(alloc, *rs, *rt),
-            Instr::Xor(_, rs, rt) | Instr::Nor(_, rs, rt) => two(alloc, *rs, *rt),
-            Instr::Slt(_, rs, rt) | Instr::Sltu(_, rs, rt) => two(alloc, *rs, *rt),
-            Instr::Addi(_, rs, _) | Instr::Addiu(_, rs, _) => one(alloc, *rs),
-            Instr::Slti(_, rs, _) | Instr::Sltiu(_, rs, _) => one(alloc, *rs),
-            Instr::Andi(_, rs, _) | Instr::Ori(_, rs, _) | Instr::Xori(_, rs, _) => one(alloc, *rs),
-            Instr::Lb(_, _, rs) | Instr::Lbu(_, _, rs) | Instr::Lw(_, _, rs) => one(alloc, *rs),
-            Instr::Sb(rt, _, rs) | Instr::Sw(rt, _, rs) => two(alloc, *rt, *rs),
-            Instr::Move(_, from) | Instr::FrameStore(from, _) => one(alloc, *from),
-            Instr::Branch(test, _) => two(alloc, test.left, test.right),
-            Instr::Call(_) => registers(alloc, &ARGUMENTS),
-            Instr::Service => two(alloc, Opnd::Reg(Reg::V0), Opnd::Reg(Reg::A0)),
-            Instr::Return => registers(alloc, &GIVEN_BACK),
-            _ => none(alloc),
+            Instr::Sll(_, rt, _) | Instr::Srl(_, rt, _) | Instr::Sra(_, rt, _) => list.push_reserved(*rt),
+            Instr::Mult(rs, rt) | Instr::Div(rs, rt) => put_two(list, *rs, *rt),
+            Instr::Add(_, rs, rt) | Instr::Sub(_, rs, rt) => put_two(list, *rs, *rt),
+            Instr::Addu(_, rs, rt) | Instr::Subu(_, rs, rt) => put_two(list, *rs, *rt),
+            Instr::And(_, rs, rt) | Instr::Or(_, rs, rt) => put_two(list, *rs, *rt),
+            Instr::Xor(_, rs, rt) | Instr::Nor(_, rs, rt) => put_two(list, *rs, *rt),
+            Instr::Slt(_, rs, rt) | Instr::Sltu(_, rs, rt) => put_two(list, *rs, *rt),
+            Instr::Addi(_, rs, _) | Instr::Addiu(_, rs, _) => list.push_reserved(*rs),
+            Instr::Slti(_, rs, _) | Instr::Sltiu(_, rs, _) => list.push_reserved(*rs),
+            Instr::Andi(_, rs, _) | Instr::Ori(_, rs, _) | Instr::Xori(_, rs, _) => list.push_reserved(*rs),
+            Instr::Lb(_, _, rs) | Instr::Lbu(_, _, rs) | Instr::Lw(_, _, rs) => list.push_reserved(*rs),
+            Instr::Sb(rt, _, rs) | Instr::Sw(rt, _, rs) => put_two(list, *rt, *rs),
+            Instr::Move(_, from) | Instr::FrameStore(from, _) => list.push_reserved(*from),
+            Instr::Branch(test, _) => put_two(list, test.left, test.right),
+            Instr::Call(_) => put_registers(list, &ARGUMENTS),
+            Instr::Service => put_two(list, Opnd::Reg(Reg::V0), Opnd::Reg(Reg::A0)),
+            Instr::Return => put_registers(list, &GIVEN_BACK),
+            _ => {}
         }
     }
 
@@ -52,62 +62,51 @@ impl Instr {
     pub fn defs(&self, alloc: Global) -> SmallVec<Opnd, 24>
         ensures { result.items ≡ defs_of self.now }
     {
+        let mut list = SmallVec::new(alloc);
         match self {
-            Instr::Sll(rd, _, _) | Instr::Srl(rd, _, _) | Instr::Sra(rd, _, _) => one(alloc, *rd),
-            Instr::Mfhi(rd) | Instr::Mflo(rd) => one(alloc, *rd),
-            Instr::Add(rd, _, _) | Instr::Sub(rd, _, _) => one(alloc, *rd),
-            Instr::Addu(rd, _, _) | Instr::Subu(rd, _, _) => one(alloc, *rd),
-            Instr::And(rd, _, _) | Instr::Or(rd, _, _) => one(alloc, *rd),
-            Instr::Xor(rd, _, _) | Instr::Nor(rd, _, _) => one(alloc, *rd),
-            Instr::Slt(rd, _, _) | Instr::Sltu(rd, _, _) => one(alloc, *rd),
-            Instr::Addi(rt, _, _) | Instr::Addiu(rt, _, _) => one(alloc, *rt),
-            Instr::Slti(rt, _, _) | Instr::Sltiu(rt, _, _) => one(alloc, *rt),
-            Instr::Andi(rt, _, _) | Instr::Ori(rt, _, _) | Instr::Xori(rt, _, _) => one(alloc, *rt),
-            Instr::Lui(rt, _) => one(alloc, *rt),
-            Instr::Lb(rt, _, _) | Instr::Lbu(rt, _, _) | Instr::Lw(rt, _, _) => one(alloc, *rt),
-            Instr::Move(to, _) | Instr::FrameLoad(to, _) => one(alloc, *to),
-            Instr::FrameAddress(to) | Instr::Address(to, _) => one(alloc, *to),
-            Instr::Call(_) => registers(alloc, &CLOBBERED),
-            Instr::Service => one(alloc, Opnd::Reg(Reg::V0)),
-            _ => none(alloc),
+            Instr::Call(_) => put_registers(&mut list, &CLOBBERED),
+            _ => {
+                if let Some(only) = self.defined() {
+                    list.push_reserved(only);
+                }
+            }
+        }
+        list
+    }
+
+    /// The operand that an instruction other than a call defines, if it defines any.
+    pub fn defined(&self) -> Option<Opnd>
+    {
+        match self {
+            Instr::Sll(rd, _, _) | Instr::Srl(rd, _, _) | Instr::Sra(rd, _, _) => Some(*rd),
+            Instr::Mfhi(rd) | Instr::Mflo(rd) => Some(*rd),
+            Instr::Add(rd, _, _) | Instr::Sub(rd, _, _) => Some(*rd),
+            Instr::Addu(rd, _, _) | Instr::Subu(rd, _, _) => Some(*rd),
+            Instr::And(rd, _, _) | Instr::Or(rd, _, _) => Some(*rd),
+            Instr::Xor(rd, _, _) | Instr::Nor(rd, _, _) => Some(*rd),
+            Instr::Slt(rd, _, _) | Instr::Sltu(rd, _, _) => Some(*rd),
+            Instr::Addi(rt, _, _) | Instr::Addiu(rt, _, _) => Some(*rt),
+            Instr::Slti(rt, _, _) | Instr::Sltiu(rt, _, _) => Some(*rt),
+            Instr::Andi(rt, _, _) | Instr::Ori(rt, _, _) | Instr::Xori(rt, _, _) => Some(*rt),
+            Instr::Lui(rt, _) => Some(*rt),
+            Instr::Lb(rt, _, _) | Instr::Lbu(rt, _, _) | Instr::Lw(rt, _, _) => Some(*rt),
+            Instr::Move(to, _) | Instr::FrameLoad(to, _) => Some(*to),
+            Instr::FrameAddress(to) | Instr::Address(to, _) => Some(*to),
+            Instr::Service => Some(Opnd::Reg(Reg::V0)),
+            _ => None,
         }
     }
 }
 
-fn none(alloc: Global) -> SmallVec<Opnd, 24>
-    ensures items { result.items ≡ [] }
-    ensures capacity { result.capacity ≡ 24 }
+fn put_two(list: &mut SmallVec<Opnd, 24>, first: Opnd, second: Opnd)
 {
-    SmallVec::new(alloc)
-}
-
-fn one(alloc: Global, first: Opnd) -> SmallVec<Opnd, 24>
-    ensures items { result.items ≡ first ∷ [] }
-    ensures capacity { result.capacity ≡ 24 }
-{
-    let mut list = none(alloc);
     list.push_reserved(first);
-    list
-}
-
-fn two(alloc: Global, first: Opnd, second: Opnd) -> SmallVec<Opnd, 24>
-    ensures items { result.items ≡ first ∷ second ∷ [] }
-    ensures capacity { result.capacity ≡ 24 }
-{
-    let mut list = one(alloc, first);
     list.push_reserved(second);
-    list
 }
 
-fn registers(alloc: Global, numbers: &[u8]) -> SmallVec<Opnd, 24>
-    requires few { length numbers.now ≤ 24 }
-    requires registers { IsTrue (list_all (λ n. nat_lt n 32) numbers.now) }
-    ensures items { result.items ≡ map (λ n. RegOf n) numbers.now }
-    ensures capacity { result.capacity ≡ 24 }
+fn put_registers(list: &mut SmallVec<Opnd, 24>, numbers: &[u8])
 {
-    let mut list = none(alloc);
     for &number in numbers.iter() {
         list.push_reserved(Opnd::Reg(Reg::new(number)));
     }
-    list
 }

@@ -101,7 +101,15 @@ fn join_behind(
             let first = mark_crossing(alloc, live, crossed)?;
             join_clobbered(first.as_slice(), graph)
         }
-        _ => join_definitions(alloc, one, live, graph),
+        _ => join_defined(one, live, graph),
+    }
+}
+
+// Joins what an instruction other than a call defines to what is live out of it.
+fn join_defined(one: &Instr, live: &[Opnd], graph: &mut Graph) -> Result<(), Memory> {
+    match one.defined() {
+        Some(only) => join_definition(&only, move_of(one), live, graph),
+        None => Ok(()),
     }
 }
 

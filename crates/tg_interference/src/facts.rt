@@ -26,6 +26,7 @@ ghost use Rattle.tg_interference.specs.Facts.{
   occurrences_in,
 };
 
+use smallvec::SmallVec;
 use std::alloc::Global;
 use tg_base::{ListOf, Memory};
 use tg_graph::COLOURS;
@@ -76,22 +77,24 @@ fn count_occurrences(alloc: Global, code: &Code) -> Result<Vec<u32>, Memory>
 {
     let list = code.list.as_slice();
     let mut counts = vec![in alloc; 0u32; code.temps as usize]?;
+    let mut uses = SmallVec::new(alloc);
     for one in list {
-        count_instr(alloc, one, counts.as_mut_slice());
+        count_instr(one, &mut uses, counts.as_mut_slice());
     }
     Ok(counts)
 }
 
-fn count_instr(alloc: Global, one: &Instr, counts: &mut [u32])
+fn count_instr(one: &Instr, uses: &mut SmallVec<Opnd, 24>, counts: &mut [u32])
     requires temps { IsTrue (has_temps_below (length counts.old) one.now) }
     requires room { (t : ℕ) → t < length counts.old → slice_index counts.old t + 48 < 2 ^ 32 }
     ensures { (t : ℕ) → t < length counts.old → slice_index counts.new t
         ≡ slice_index counts.old t + occurrences_in (facts.temp t) one.now }
 {
-    let uses = one.uses(alloc);
+    one.put_uses(uses);
     count_operands(uses.as_slice(), counts);
-    let defs = one.defs(alloc);
-    count_operands(defs.as_slice(), counts);
+    if let Some(only) = one.defined() {
+        count_operand(&only, counts);
+    }
 }
 
 fn count_operands(list: &[Opnd], counts: &mut [u32])

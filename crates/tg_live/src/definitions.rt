@@ -82,25 +82,24 @@ pub(crate) fn definitions(alloc: Global, list: &[Instr]) -> Result<DefinitionTab
 {
     let mut defined = Vec::with_capacity(alloc, list.len())?;
     for one in list {
-        defined.push(defined_by(alloc, one))?;
+        defined.push(defined_by(one))?;
     }
     Ok(DefinitionTable { list: defined })
 }
 
-fn defined_by(alloc: Global, one: &Instr) -> Defined
+fn defined_by(one: &Instr) -> Defined
     ensures { operands_in result ≡ defs_of one.now }
 {
     match one {
         Instr::Call(_) => Defined::Clobbered,
-        _ => first_in(one.defs(alloc).as_slice()),
+        _ => first_in(one.defined()),
     }
 }
 
-fn first_in(defs: &[Opnd]) -> Defined
-    ensures { result ≡ first_in defs.now }
+fn first_in(only: Option<Opnd>) -> Defined
 {
-    match defs.first() {
-        Some(one) => Defined::One(*one),
+    match only {
+        Some(one) => Defined::One(one),
         None => Defined::Nothing,
     }
 }

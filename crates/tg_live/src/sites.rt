@@ -6,9 +6,10 @@ ghost use Rattle.tg_live.specs.Live.{uses_at, is_proper};
 
 use crate::operands::{REGISTERS, number_of};
 use crate::tables::PlaceTable;
+use smallvec::SmallVec;
 use std::alloc::Global;
 use tg_base::Memory;
-use tg_instr::{Code, Instr};
+use tg_instr::{Code, Instr, Opnd};
 
 /// For each operand, by its number, the places whose instructions use it.
 pub(crate) fn use_sites(alloc: Global, code: &Code) -> Result<PlaceTable, Memory>
@@ -18,18 +19,19 @@ pub(crate) fn use_sites(alloc: Global, code: &Code) -> Result<PlaceTable, Memory
 {
     let list = code.list.as_slice();
     let mut sites = PlaceTable::with_rows(alloc, REGISTERS + code.temps as usize)?;
+    let mut uses = SmallVec::new(alloc);
     for at in 0..list.len() {
-        add_uses(alloc, list, at, code.temps, &mut sites)?;
+        add_uses(list, at, code.temps, &mut uses, &mut sites)?;
     }
     Ok(sites)
 }
 
 // A place in the rows of what its instruction uses.
 fn add_uses(
-    alloc: Global,
     list: &[Instr],
     at: usize,
     temps: u32,
+    uses: &mut SmallVec<Opnd, 24>,
     sites: &mut PlaceTable,
 ) -> Result<(), Memory>
     requires short { length list.now < 2 ^ 32 }
@@ -40,7 +42,7 @@ fn add_uses(
     ensures proper { OnOk result (IsTrue (list_all is_proper (uses_at list.now at))) }
 {
     let from = at as u32;
-    let uses = list[at].uses(alloc);
+    list[at].put_uses(uses);
     for one in uses.as_slice() {
         sites.push(number_of(*one), from)?;
     }
