@@ -39,7 +39,7 @@ impl Defined {
     }
 }
 
-fn is_clobbered(one: &Opnd) -> bool
+pub(crate) fn is_clobbered(one: &Opnd) -> bool
     ensures { result ≡ is_among one.now (registers clobbered) }
 {
     match one {
@@ -65,6 +65,14 @@ impl Model for DefinitionTable {
 }
 
 impl DefinitionTable {
+    /// What the instruction of a place defines.
+    pub(crate) fn at(&self, at: usize) -> Defined {
+        match self.list.get(at) {
+            Some(defined) => *defined,
+            None => Defined::Nothing,
+        }
+    }
+
     /// Whether the instruction of a place defines the operand; none does past the last place.
     pub(crate) fn has(&self, at: usize, one: &Opnd) -> bool
         ensures { result ≡ is_among one.now (row self.now at) }

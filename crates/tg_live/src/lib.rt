@@ -16,6 +16,7 @@ mod rising;
 mod searches;
 mod sets;
 mod sites;
+mod steps;
 mod tables;
 
 pub use edges::flow;

@@ -11,6 +11,7 @@ use crate::operands::operand_of;
 use crate::searches::Search;
 use crate::sets::LiveSets;
 use crate::sites::use_sites;
+use crate::steps::{Own, steps_of};
 use crate::tables::PlaceTable;
 use std::alloc::Global;
 use tg_base::Memory;
@@ -47,12 +48,13 @@ fn live_by(
     requires defs { defs.now ≡ map defs_of list.now }
     ensures { IfOk result (λ sets. AreLiveSets list.now sets) }
 {
+    let steps = steps_of(alloc, flow.before(), defs, list.len())?;
     let mut search = Search::new(alloc, list.len())?;
     let mut changes = LiveChanges::new(alloc, list.len())?;
     for number in 0..sites.len() {
         let one = operand_of(number);
         let stamp = number + 1;
-        search.run(list, defs, flow.before(), &one, stamp, sites.row(number))?;
+        search.run(list, &steps, defs, flow.before(), &one, Own::new(&one), stamp, sites.row(number))?;
         changes.add(&one, &search, stamp)?;
     }
     Ok(LiveSets::new(changes))

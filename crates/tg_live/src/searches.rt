@@ -40,6 +40,7 @@ ghost use Rattle.tg_live.specs.mirror.Search.{
 ghost use Rattle.tg_live.specs.mirror.Search as search;
 
 use crate::definitions::DefinitionTable;
+use crate::steps::Own;
 use crate::tables::PlaceTable;
 use std::alloc::Global;
 use std::marker::Model;
@@ -81,9 +82,11 @@ impl Search {
     pub(crate) fn run(
         &mut self,
         list: &[Instr],
+        steps: &[u32],
         defs: &DefinitionTable,
         before: &PlaceTable,
         one: &Opnd,
+        own: Own,
         stamp: usize,
         sites: &[u32],
     ) -> Result<(), Memory>
@@ -95,11 +98,11 @@ impl Search {
         ensures { OnOk result (IsSearched list.now one.now stamp self.old.marks self.new) }
     {
         self.restart();
-        self.enter_before(list, defs, before, one, stamp, sites)?;
+        self.enter_before(list, steps, defs, before, one, own, stamp, sites)?;
         let mut done = 0;
         while done < self.first_count() {
             let place = self.first(done);
-            self.visit(list, defs, before, one, stamp, place)?;
+            self.visit(list, steps, defs, before, one, own, stamp, place)?;
             done += 1;
         }
         Ok(())
@@ -162,9 +165,11 @@ impl Search {
     fn visit(
         &mut self,
         list: &[Instr],
+        steps: &[u32],
         defs: &DefinitionTable,
         before: &PlaceTable,
         one: &Opnd,
+        own: Own,
         stamp: usize,
         place: u32,
     ) -> Result<(), Memory>
@@ -180,7 +185,7 @@ impl Search {
         if defs.has(place as usize, one) {
             return Ok(());
         }
-        self.enter_all(list, defs, before, one, stamp, before.row(place as usize))?;
+        self.enter_all(list, steps, defs, before, one, own, stamp, before.row(place as usize))?;
         Ok(())
     }
 
@@ -188,9 +193,11 @@ impl Search {
     fn enter_before(
         &mut self,
         list: &[Instr],
+        steps: &[u32],
         defs: &DefinitionTable,
         before: &PlaceTable,
         one: &Opnd,
+        own: Own,
         stamp: usize,
         sites: &[u32],
     ) -> Result<(), Memory>
@@ -204,7 +211,7 @@ impl Search {
             (λ q. list_any (goes_on list.now q) sites.now) self.old self.new) }
     {
         for place in sites {
-            self.enter_all(list, defs, before, one, stamp, before.row(*place as usize))?;
+            self.enter_all(list, steps, defs, before, one, own, stamp, before.row(*place as usize))?;
         }
         Ok(())
     }
@@ -212,9 +219,11 @@ impl Search {
     fn enter_all(
         &mut self,
         list: &[Instr],
+        steps: &[u32],
         defs: &DefinitionTable,
         before: &PlaceTable,
         one: &Opnd,
+        own: Own,
         stamp: usize,
         places: &[u32],
     ) -> Result<(), Memory>
@@ -227,95 +236,33 @@ impl Search {
             (AreEntered list.now one.now stamp (has places.now) self.old self.new) }
     {
         for place in places {
-            self.enter(list, defs, before, one, stamp, *place)?;
+            self.enter(steps, own, stamp, *place)?;
         }
         Ok(())
     }
 
     /// Enters the operand at a place, unless it was entered there, and at those of a run before it.
-    fn enter(
-        &mut self,
-        list: &[Instr],
-        defs: &DefinitionTable,
-        before: &PlaceTable,
-        one: &Opnd,
-        stamp: usize,
-        at: u32,
-    ) -> Result<(), Memory>
-        requires defs { defs.now ≡ map defs_of list.now }
-        requires before { IsBefore list.now before.now }
-        requires size { length self.old.marks ≡ length list.now }
-        requires found { IsFound list.now one.now stamp self.old }
-        requires live { IsLiveOut list.now at one.now }
-        ensures { OnOk result
-            (AreEntered list.now one.now stamp (λ q. nat_eq q at) self.old self.new) }
+    fn enter(&mut self, steps: &[u32], own: Own, stamp: usize, at: u32) -> Result<(), Memory>
     {
         if self.has_stamp(stamp, at as usize) {
             return Ok(());
         }
-        let first = self.first_of_run(list, defs, before, one, stamp, at);
-        self.mark(stamp, first, at);
+        let first = self.mark_run(steps, own, stamp, at);
         self.firsts.push(first)?;
         self.lasts.push(at)?;
         Ok(())
     }
 
-    /// How far a run goes back from its last place.
-    fn first_of_run(
-        &self,
-        list: &[Instr],
-        defs: &DefinitionTable,
-        before: &PlaceTable,
-        one: &Opnd,
-        stamp: usize,
-        last: u32,
-    ) -> u32
-        requires defs { defs.now ≡ map defs_of list.now }
-        requires last { last < length self.now.marks }
-        ensures order { result ≤ last }
-        ensures passed { (q : ℕ) → result < q → q ≤ last →
-            IsPassed list.now one.now before.now q }
+    /// Marks the places of a run from its last back, and answers its first.
+    fn mark_run(&mut self, steps: &[u32], own: Own, stamp: usize, last: u32) -> u32
     {
-        let mut first = last;
-        while self.passes(list, defs, before, one, stamp, first) {
+        let marks = self.marks.as_mut_slice();
+        let mut first = last as usize;
+        marks[first] = stamp;
+        while own.passes(steps[first]) && marks[first - 1] != stamp {
             first -= 1;
+            marks[first] = stamp;
         }
-        first
-    }
-
-    // Whether a run goes on before a place.
-    fn passes(
-        &self,
-        list: &[Instr],
-        defs: &DefinitionTable,
-        before: &PlaceTable,
-        one: &Opnd,
-        stamp: usize,
-        at: u32,
-    ) -> bool
-        requires defs { defs.now ≡ map defs_of list.now }
-        requires at { at < length self.now.marks }
-        ensures some { result ≡ true → 0 < at }
-        ensures passed { result ≡ true → IsPassed list.now one.now before.now at }
-    {
-        before.is_straight(at)
-            && !defs.has(at as usize, one)
-            && !self.has_stamp(stamp, at as usize - 1)
-    }
-
-    // Marks the places from one to another.
-    fn mark(&mut self, stamp: usize, first: u32, last: u32)
-        requires order { first ≤ last }
-        requires last { last < length self.old.marks }
-        ensures size { length self.new.marks ≡ length self.old.marks }
-        ensures inner { (q : ℕ) → first ≤ q → q ≤ last → stamp_at self.new.marks q ≡ stamp }
-        ensures outer { (q : ℕ) → (q < first) ⊎ (last < q) →
-            stamp_at self.new.marks q ≡ stamp_at self.old.marks q }
-        ensures firsts { self.new.firsts ≡ self.old.firsts }
-        ensures lasts { self.new.lasts ≡ self.old.lasts }
-    {
-        for at in first as usize..last as usize + 1 {
-            self.marks[at] = stamp;
-        }
+        first as u32
     }
 }
