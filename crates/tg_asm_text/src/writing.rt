@@ -18,6 +18,9 @@ use std::alloc::Global;
 use tg_base::Memory;
 use tg_isa::{Bits, Mips, Reg, name};
 
+/// How many bytes a line takes room for at once: most have fewer.
+const ROOM: usize = 32;
+
 /// The line of an instruction, without its newline, and with `target` where the form takes a label.
 pub fn line(alloc: Global, one: &Mips, target: &str) -> Result<Vec<u8>, Memory>
     requires { IsTrue (takes_label one.now) → IsTrue (is_label target.now) }
@@ -89,7 +92,8 @@ fn alone(alloc: Global, word: &str) -> Result<Vec<u8>, Memory>
 fn first(alloc: Global, word: &str, operand: &[u8]) -> Result<Vec<u8>, Memory>
     ensures { IfOk result (λ l. l.items ≡ word.now ++ joined (operand.now ∷ [])) }
 {
-    let mut line = Vec::from_slice(alloc, word.as_bytes())?;
+    let mut line = Vec::with_capacity(alloc, ROOM)?;
+    line.extend_from_slice(word.as_bytes())?;
     line.push(b' ')?;
     line.extend_from_slice(operand)?;
     Ok(line)

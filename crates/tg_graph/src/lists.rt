@@ -29,7 +29,7 @@ use tg_base::Memory;
 pub const COLOURS: u32 = 25;
 
 /// For how many more neighbours a node takes room at once.
-const ROOM: usize = 16;
+const ROOM: usize = 32;
 
 /// As many empty lists. They take no memory of their own.
 pub(crate) fn empty_lists(alloc: Global, count: usize) -> Result<Vec<Vec<u32>>, Memory>
@@ -105,7 +105,7 @@ pub(crate) fn push_registers(list: &mut Vec<u32>, registers: u32, had: u32) -> R
     if left == 0 {
         return Ok(());
     }
-    list.reserve(COLOURS as usize + ROOM)?;
+    list.reserve(COLOURS as usize)?;
     while left != 0 {
         list.push_reserved(left.trailing_zeros());
         left &= left - 1;

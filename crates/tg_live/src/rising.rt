@@ -30,10 +30,15 @@ fn lower_count(one: &Opnd, set: &[Opnd]) -> usize
     ensures within { result ≤ length set.now }
 {
     let number = number_of(*one);
-    for at in 0..set.len() {
-        if number_of(set[at]) >= number {
-            return at;
+    let mut low = 0;
+    let mut high = set.len();
+    while low < high {
+        let middle = low + (high - low) / 2;
+        if number_of(set[middle]) < number {
+            low = middle + 1;
+        } else {
+            high = middle;
         }
     }
-    set.len()
+    low
 }
