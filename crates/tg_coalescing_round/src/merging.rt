@@ -43,7 +43,7 @@ impl Coalescer {
             self.settle(index, MoveState::Constrained);
             self.steps.push(Step::Constrain(index))?;
         } else if !self.passes(to, from) {
-            self.moves.park(index);
+            self.moves.park(index, to, from);
         } else if self.stands_under(to, from) {
             self.coalesce(index, to, from)?;
         } else {

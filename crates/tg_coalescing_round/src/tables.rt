@@ -50,6 +50,7 @@ pub(crate) struct MoveTable {
     ready: VecDeque<u32>,
     touching: Vec<Numbers>,
     unsettled: Vec<usize>,
+    parked: Vec<bool>,
 }
 
 impl Model for MoveTable {
@@ -76,6 +77,7 @@ impl MoveTable {
             states: MoveStates::new(alloc, moves.len())?,
             ready: VecDeque::from(numbers(alloc, moves.len() as u32)?),
             unsettled: count_ends(alloc, moves, nodes)?,
+            parked: vec![in alloc; false; nodes as usize]?,
             touching: list_ends(alloc, moves, nodes)?,
         })
     }
@@ -130,11 +132,10 @@ impl MoveTable {
     }
 
     /// Leaves a move that failed its test until something near it changes.
-    pub(crate) fn park(&mut self, index: u32)
-        requires { index < length self.old.moves }
-        ensures { self.new ≡ parked index self.old }
-    {
+    pub(crate) fn park(&mut self, index: u32, to: u32, from: u32) {
         self.states.set(index, MoveState::Waiting);
+        self.parked[to as usize] = true;
+        self.parked[from as usize] = true;
     }
 
     /// Gives an unsettled move between two classes its last state.
@@ -165,8 +166,9 @@ impl MoveTable {
         ensures ok { OnOk result (self.new ≡ woken class self.old) }
         ensures sized { length self.new.touching ≡ length self.old.touching }
     {
-        if self.some_waits() {
+        if self.parked[class as usize] {
             self.wake_touching(class)?;
+            self.parked[class as usize] = false;
         }
         Ok(())
     }
@@ -206,6 +208,7 @@ impl MoveTable {
     {
         pour(&mut self.touching, kept, gone)?;
         move_count(&mut self.unsettled, kept, gone);
+        self.parked[kept as usize] |= self.parked[gone as usize];
         Ok(())
     }
 

@@ -27,8 +27,8 @@ ghost use Rattle.tg_graph.specs.Interference.{
   with_edge,
 };
 
-use crate::lists::{COLOURS, count_up, empty_lists, push_neighbours, push_registers};
-use crate::matrices::{has_pair, pair_place, put_registers, reach_pair, registers_at, set_pair, tiles_for};
+use crate::lists::{COLOURS, empty_lists, push_neighbours, push_registers};
+use crate::matrices::{has_pair, has_reached, pair_place, put_registers, reach_pair, registers_at, set_pair, tiles_for};
 use std::alloc::Global;
 use std::marker::Model;
 use tg_base::Memory;
@@ -40,7 +40,6 @@ use tg_base::Memory;
 pub struct Graph {
     nodes: u32,
     pairs: Vec<Vec<u32>>,
-    degrees: Vec<u32>,
     adjacent: Vec<Vec<u32>>,
 }
 
@@ -69,7 +68,6 @@ impl Graph {
         Ok(Graph {
             nodes,
             pairs: empty_lists(alloc, tiles_for(nodes))?,
-            degrees: vec![in alloc; 0u32; temporaries as usize]?,
             adjacent: empty_lists(alloc, temporaries as usize)?,
         })
     }
@@ -95,14 +93,17 @@ impl Graph {
             graph.interferes self.new x y ≡ (are_ends a b x y || graph.interferes self.old x y)) }
         ensures err { OnErr result (self.new ≡ self.old) }
     {
-        if self.interferes(a, b) {
+        let low = a.min(b);
+        let high = a.max(b);
+        if high < COLOURS {
             return Ok(());
         }
-        let at = pair_place(a.min(b), a.max(b));
+        let at = pair_place(low, high);
         reach_pair(&mut self.pairs, at)?;
+        if has_reached(&self.pairs, at) {
+            return Ok(());
+        }
         push_neighbours(&mut self.adjacent, a, b)?;
-        count_up(&mut self.degrees, a);
-        count_up(&mut self.degrees, b);
         set_pair(&mut self.pairs, at);
         Ok(())
     }
@@ -117,7 +118,6 @@ impl Graph {
         reach_pair(&mut self.pairs, at)?;
         let place = (node - COLOURS) as usize;
         push_registers(&mut self.adjacent[place], registers, registers_at(&self.pairs, at))?;
-        self.degrees[place] = self.adjacent[place].len() as u32;
         put_registers(&mut self.pairs, at, registers);
         Ok(())
     }
@@ -139,7 +139,7 @@ impl Graph {
         ensures value { result ≡ graph.degree self.now a }
         ensures bound { result ≤ self.now.nodes }
     {
-        self.degrees[(a - COLOURS) as usize]
+        self.adjacent[(a - COLOURS) as usize].len() as u32
     }
 
     /// The neighbours of a temporary, in the order in which they were joined to it.

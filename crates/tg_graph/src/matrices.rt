@@ -65,6 +65,12 @@ pub(crate) fn has_pair(tiles: &[Vec<u32>], place: usize) -> bool
     has_bit(tiles[place / AREA].as_slice(), place % AREA)
 }
 
+/// The same of a pair whose tile has its words.
+pub(crate) fn has_reached(tiles: &[Vec<u32>], place: usize) -> bool {
+    let words = tiles[place / AREA].as_slice();
+    (words[place % AREA / 32] >> (place % 32)) & 1 == 1
+}
+
 /// Takes the words of a pair's tile, where it has none.
 pub(crate) fn reach_pair(tiles: &mut Vec<Vec<u32>>, place: usize) -> Result<(), Memory>
     requires { place / area < length tiles.old.items }
